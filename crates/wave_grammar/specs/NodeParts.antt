@@ -30,6 +30,10 @@ IsOneToken kind.ResultOk = Unit {0}
 IsOneToken kind.ResultErr = Unit {0}
 IsOneToken _ = ⊥
 
+-- these parts were made of some children of a node of this type, in some text
+abbrev pub ArePartsOfSome : {Parts : Type 0} → (List ℕ → NodeType → List NodeTree → Parts → Type 0) → NodeType → Parts → Type 0
+ArePartsOfSome are ty parts = (source : List ℕ) × (children : List NodeTree) × are source ty children parts
+
 -- after these children of such a node a key stands next: in entries after an even number of them, and the label of a case first
 abbrev pub TakesKey : NodeType → List NodeTree → Type 0
 TakesKey kind.TupleSet children = (k : ℕ) × (length children ≡ k + k)

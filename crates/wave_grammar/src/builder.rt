@@ -14,7 +14,7 @@ pub trait Builder: Sized + Copy {
 
     ghost use Rattle.std.specs.Prelude.{ℕ, ◌≡◌, ◌++◌, List, [], ◌∷◌, IfOk, IfErr};
     ghost use Rattle.wave_grammar.specs.FlagParts.{AreFlagsOf, flag_nodes};
-    ghost use Rattle.wave_grammar.specs.NodeParts.{IsOfParts, IsOneToken, TakesKey, TakesPart};
+    ghost use Rattle.wave_grammar.specs.NodeParts.{ArePartsOfSome, IsOfParts, IsOneToken, TakesKey, TakesPart};
     ghost use Rattle.wave_grammar.specs.SpannedTree.{slice};
     ghost use Rattle.wave_grammar.specs.NodeTree.{NodeTree, node, no_nodes, node_trees};
     ghost use Rattle.wave_grammar.specs.declared.form.NodeType.{NodeType};
@@ -32,8 +32,11 @@ pub trait Builder: Sized + Copy {
     /// Memory is taken for the parts of a value.
     ghost takes_memory: { Self → Type 0 };
 
-    /// What is made of a node of one token, of this text.
+    /// What is made of a node of one token, of this text. It asks for a text that stands there in some
+    /// source.
     fn leaf(self, alloc: Global, ty: NodeType, span: Span, text: &str) -> Self::Made
+        requires one { IsOneToken ty }
+        requires text { (source : List ℕ) × (text.now ≡ slice source span) }
         ensures { (source : List ℕ) → IsOneToken ty → text.now ≡ slice source span → is_made self source (node ty span no_nodes) result };
 
     /// No parts, of a node of the type, which is one that has parts.
@@ -72,8 +75,10 @@ pub trait Builder: Sized + Copy {
         ensures memory { IfErr result (λ _. (source : List ℕ) (whole : NodeType) (children : List NodeTree)
             → are_parts self source whole children parts.old → takes_memory self) };
 
-    /// What is made of a node of the type with these parts.
+    /// What is made of a node of the type with these parts. It asks for parts that were made of such a
+    /// node's children.
     fn whole(self, alloc: Global, ty: NodeType, span: Span, parts: Self::Parts) -> Self::Made
+        requires { ArePartsOfSome (are_parts self) ty parts }
         ensures { (source : List ℕ) (children : List NodeTree) → are_parts self source ty children parts
             → is_made self source (node ty span (node_trees children)) result };
 

@@ -33,7 +33,7 @@ use Rattle.wave_grammar.proofs.ByKind.Variants.{VariantType, HasCase, CaseNode, 
 use Rattle.wave_grammar.proofs.ErrorSpans.Nodes.{BelongsTo, children_belong, at_in, form_at, caused_at, made_in}
 use Rattle.wave_read.specs.Reading.{IsReadAs}
 use Rattle.wave_read.specs.Errors.{IsMadeOrMemory}
-use Rattle.wave_read.proofs.Errors.{made_anew}
+use Rattle.wave_read.proofs.Errors.{made_anew, made_of}
 
 -- the type of a variant, by its kind
 pub variant_type : (T : TypeTree) → kind_of T ≡ kinds.Variant → VariantType T (variant_parts T)
@@ -159,6 +159,7 @@ module _ {V : Type 0} (tree : V → Value) (of : V → TypeTree → Type 0) (Ful
       record {
         answer = λ t node distinct. inr (inl (subst (λ (U : TypeTree). FirstFault o w U t (refusal_of e) e.span) (sym variant.is) (variant_fault o w variant.cases source n t e node.0 (apart, other, refused))));
         within = λ v. at_in source n e (inl v) (form_at n e refused);
+        typed = tt;
       }
 
   -- a label that is no case
@@ -168,6 +169,7 @@ module _ {V : Type 0} (tree : V → Value) (of : V → TypeTree → Type 0) (Ful
       record {
         answer = λ t node distinct. no_case_blame tree of Full o w T variant.cases source n t name None (label_case source n t name node ty named) e variant.is node.0 (case_missing T (variant_parts T) variant name missing) caused;
         within = λ v. at_in source n e (inl v) (caused_at (unknown_case name) n e caused place);
+        typed = tt;
       }
 
   -- the label of a case that has a payload
@@ -180,6 +182,7 @@ module _ {V : Type 0} (tree : V → Value) (of : V → TypeTree → Type 0) (Ful
             let k = label_case source n t name node ty named in
             case_blame tree of Full o w T variant.cases source n t name None k (type.a_type U) e variant.is node.0 found parts (missing_blame U source n name k.payload e k.node caused);
         within = λ v. at_in source n e (inl v) (caused_at (missing_payload name) n e caused place);
+        typed = tt;
       }
 
   -- the label of a case without one
@@ -193,4 +196,5 @@ module _ {V : Type 0} (tree : V → Value) (of : V → TypeTree → Type 0) (Ful
             let k = label_case source n t name node ty named in
             variant_made tree of Full o w T variant.cases source t n name None k type.no_type None m r variant.is distinct found (none_read source k.payload k.node) ok full done;
         within = λ v. made_in source n m r (inl v) done;
+        typed = made_of of T (MakesVariant tree of T name None) n m r (λ v makes distinct. (makes distinct).is_of) ok done;
       })

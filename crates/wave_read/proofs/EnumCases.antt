@@ -22,7 +22,7 @@ use Rattle.wave_grammar.proofs.ByKind.Enums.{enum_is, enum_fault, unknown_blame,
 use Rattle.wave_grammar.proofs.ErrorSpans.Nodes.{at_in, form_at, caused_at, made_in}
 use Rattle.wave_read.specs.Reading.{IsReadAs}
 use Rattle.wave_read.specs.Errors.{IsMadeOrMemory}
-use Rattle.wave_read.proofs.Errors.{made_anew}
+use Rattle.wave_read.proofs.Errors.{made_anew, made_of}
 
 module _ {V : Type 0} (tree : V → Value) (of : V → TypeTree → Type 0) (Full : TypeTree → Type 0) (o w : Order) where
   -- a node of another form than an enum's
@@ -32,6 +32,7 @@ module _ {V : Type 0} (tree : V → Value) (of : V → TypeTree → Type 0) (Ful
       record {
         answer = λ t node distinct. inr (inl (subst (λ (U : TypeTree). FirstFault o w U t (refusal_of e) e.span) (sym names.1) (enum_fault o w names.0 source n t (refusal_of e) e.span node.0 apart (said refused))));
         within = λ v. at_in source n e (inl v) (form_at n e refused);
+        typed = tt;
       }
 
   -- a label that is no case
@@ -40,6 +41,7 @@ module _ {V : Type 0} (tree : V → Value) (of : V → TypeTree → Type 0) (Ful
       record {
         answer = λ t node distinct. unknown_blame tree of Full o w T (enum_names T) source n t name e (enum_is T (sym is) (enum_names T) refl) node.0 ty named (none_of (enum_names T) name (sym tested ∙ absent)) caused;
         within = λ v. at_in source n e (inl v) (caused_at (unknown_case name) n e caused place);
+        typed = tt;
       }
 
   -- the case was made, or its constructor refused
@@ -49,4 +51,5 @@ module _ {V : Type 0} (tree : V → Value) (of : V → TypeTree → Type 0) (Ful
       record {
         answer = λ t node distinct. enum_made tree of Full o w T (enum_names T) source n t name m r (enum_is T (sym is) (enum_names T) refl) distinct node.0 ty named (is_one (enum_names T) name (sym tested ∙ there)) ok full done;
         within = λ v. made_in source n m r (inl v) done;
+        typed = made_of of T (MakesEnum tree of T name) n m r (λ v makes distinct. (makes distinct).is_of) ok done;
       })

@@ -1,9 +1,10 @@
 -- What holds of errors on their way to the caller.
 use Rattle.std.proofs.Common.{ℕ, ◌≡◌, ◌≢◌, inl, inr, List, None, Result, Ok, Err, sym, ap, subst, refl, ◌∙◌}
 use Rattle.std.specs.Prelude.{IfOk, IfErr}
+use Rattle.std.specs.Result.{IsErrAnd}
 use Rattle.std.specs.declared.alloc.AllocError.{AllocError}
 use Rattle.std.specs.declared.ops.Range.{Range}
-use Rattle.wave_wasm.specs.Types.{TypeTree}
+use Rattle.wave_wasm.specs.Types.{TypeTree, HasDistinctNames}
 use Rattle.wave_wasm.specs.Values.{Value}
 use Rattle.wave_wasm.specs.ValueErrors.{cause_of}
 use Rattle.wave_wasm.specs.declared.wasm.WasmValueError.{WasmValueError}
@@ -20,7 +21,7 @@ use Rattle.wave_grammar.specs.Shared.ErrorSpans.{RefusesAt}
 use Rattle.wave_grammar.specs.TypedReading.{IsMade}
 use Rattle.wave_grammar.proofs.ErrorSpans.Nodes as nodes
 use Rattle.wave_read.specs.Errors.{IsErrorOf, IsRefusedBy, IsSameOrMemory, IsMadeOrMemory, detailed}
-use Rattle.wave_read.specs.Reading.{IsReadAs}
+use Rattle.wave_read.specs.Reading.{IsReadAs, IsOfType}
 use Rattle.std.specs.Prelude.{ℤ, MatchResult}
 use Rattle.wave_wasm.specs.Types as type
 use Rattle.wave_wasm.specs.Types.{Simple, Whole, whole_kind}
@@ -35,7 +36,7 @@ use Rattle.wave_grammar.specs.Elaborates.{SimpleTree}
 use Rattle.wave_grammar.specs.Nodes.{IsParsedFrom}
 use Rattle.wave_grammar.specs.NodeAccessors.{GivesNumber}
 use Rattle.wave_grammar.specs.Shared.ErrorSpans.{RefusesAt, RefusesIn}
-use Rattle.wave_grammar.specs.TypedReading.{IsLeafMade, IsTypedValue, IsBlamed, IsKeyRead, IsKeyBlamed}
+use Rattle.wave_grammar.specs.TypedReading.{IsValueOf, Answers, IsLeafMade, IsTypedValue, IsBlamed, IsKeyRead, IsKeyBlamed}
 use Rattle.wave_grammar.specs.Shared.TypedReading.{AnswersWhole}
 use Rattle.wave_grammar.proofs.MakerAnswers as makers
 use Rattle.wave_grammar.proofs.ByKind.Wholes as wholes
@@ -62,13 +63,14 @@ same_or_memory tree of Full o w T source n e f h (inl same) = subst (λ (d : Dia
 same_or_memory tree of Full o w T source n e f h (inr memory) = record {
   answer = λ t node distinct. inl (ap (λ (d : Diagnostic). d.kind) memory.1);
   within = λ value. kept_within n e f (inr memory) (h.within value);
+  typed = tt;
 }
 
 -- at any type out of memory may be told at the node
 pub no_memory : {V : Type 0} (tree : V → Value) (of : V → TypeTree → Type 0) (Full : TypeTree → Type 0) (o w : Order) (T : TypeTree) (source : List ℕ) (n : NodeTree) (e : Diagnostic) → Says e OutOfMemory (place_of n) None → IsReadAs tree of Full o w T source n (Err e)
 no_memory tree of Full o w T source n e says =
     let memory : e.kind ≡ OutOfMemory = ap (λ (r : Refusal). r.kind) says.is in
-    record { answer = λ t node distinct. inl memory; within = λ value. nodes.at_in source n e (inl value) (nodes.memory_here n e memory says.stands) }
+    record { answer = λ t node distinct. inl memory; within = λ value. nodes.at_in source n e (inl value) (nodes.memory_here n e memory says.stands); typed = tt }
 
 -- ---- what a constructor answered
 
@@ -116,7 +118,36 @@ made_at {V} n m r done = made_anew (λ (v : V). Unit {0}) (λ (cause : WasmValue
 pub made_in : {V : Type 0} (source : List ℕ) (n : NodeTree) (m : Result V WasmValueError) (r : Result V Diagnostic) → IsParsedFrom source n → IsMadeOrMemory n m r → IfErr r (RefusesIn n)
 made_in source n m r h done = nodes.all_in source n r h (made_at n m r done)
 
+-- ---- values are of their types
+
+-- what was made is of the type, where its making says so
+pub made_of : {V : Type 0} (of : V → TypeTree → Type 0) (T : TypeTree) (P : V → Type 0) (n : NodeTree) (m : Result V WasmValueError) (r : Result V Diagnostic) → ((v : V) → P v → HasDistinctNames T → of v T) → IfOk m P → IsMade n m r → IsOfType of T r
+made_of {V} of T P n (Ok v) (Ok w) says ok same = subst (λ (x : V). HasDistinctNames T → of x T) (sym same) (says v ok)
+made_of of T P n (Err cause) (Err e) says ok done = tt
+made_of of T P n (Ok v) (Err e) says ok done = absurd done
+made_of of T P n (Err cause) (Ok w) says ok done = absurd done
+
+pub anew_of : {V : Type 0} (of : V → TypeTree → Type 0) (T : TypeTree) (P : V → Type 0) (n : NodeTree) (m : Result V WasmValueError) (r : Result V Diagnostic) → ((v : V) → P v → HasDistinctNames T → of v T) → IfOk m P → IsMadeOrMemory n m r → IsOfType of T r
+anew_of {V} of T P n (Ok v) (Ok w) says ok same = subst (λ (x : V). HasDistinctNames T → of x T) (sym same) (says v ok)
+anew_of of T P n (Err cause) (Err e) says ok done = tt
+anew_of of T P n (Ok v) (Err e) says ok done = absurd done
+anew_of of T P n (Err cause) (Ok w) says ok done = absurd done
+
+-- what the node of a value answers is of the type
+pub typed_of : {V : Type 0} (tree : V → Value) (of : V → TypeTree → Type 0) (Full : TypeTree → Type 0) (o w : Order) (T : TypeTree) (source : List ℕ) (n : NodeTree) (r : Result V Diagnostic) → IsValueOf source n → Answers tree of Full o w T source n r → IsOfType of T r
+typed_of tree of Full o w T source n (Ok v) value answer = λ distinct. (answer value.0 value.1 distinct).is_of
+typed_of tree of Full o w T source n (Err e) value answer = tt
+
+-- a refusal is no value
+pub none_of : {V : Type 0} (of : V → TypeTree → Type 0) (T : TypeTree) (P : Diagnostic → Type 0) (r : Result V Diagnostic) → IsErrAnd r P → IsOfType of T r
+none_of of T P (Ok v) refused = absurd refused
+none_of of T P (Err e) refused = tt
+
 module _ {V : Type 0} (tree : V → Value) (of : V → TypeTree → Type 0) (Full : TypeTree → Type 0) where
+  -- what is made of one token is of its type
+  pub leaf_of : (one : Leaf) (n : NodeTree) (r : Result V Diagnostic) → IsLeafMade tree of Full one n r → IsOfType of (type.simple (leaf_type one)) r
+  leaf_of one n r made = made_of of (type.simple (leaf_type one)) (MakesLeaf tree of one) n made.0 r (λ v makes distinct. makes.is_of) made.1 made.3
+
   -- the value of one token
   pub leaf_anew : (one : Leaf) (n : NodeTree) (m : Result V WasmValueError) (r : Result V Diagnostic) → IfOk m (MakesLeaf tree of one) → IfErr m (FullLeaf Full one) → IsMadeOrMemory n m r → IsLeafMade tree of Full one n r
   leaf_anew one n m r ok full done = made_anew (MakesLeaf tree of one) (FullLeaf Full one) n m r (λ a f. tt) ok full done (λ x ok full made. (x, ok, full, made))

@@ -23,15 +23,14 @@ use Rattle.wave_grammar.specs.NodeAccessors.{RefusedAs}
 use Rattle.wave_grammar.specs.NodeFlags.{AreFlags, names_at}
 use Rattle.wave_grammar.specs.Shared.NodeFlags.{IsFirstUnknown, RefusesUnknown, RefusesFlags}
 use Rattle.wave_grammar.specs.TypedReading.{IsMade}
-use Rattle.wave_grammar.proofs.ByKind.Flags.{flags_is, flags_blame, flags_made}
+use Rattle.wave_grammar.proofs.ByKind.Flags.{flags_is, flags_blame, flags_made, flags_of}
 use Rattle.wave_grammar.proofs.ErrorSpans.Nodes.{at_in, form_at, made_in}
 use Rattle.wave_grammar.specs.FlagParts.{AreFlagsOf, label_at, flag_nodes}
-use Rattle.wave_read.specs.Reading.{IsReadAs}
+use Rattle.wave_read.specs.Reading.{IsReadAs, IsOfType}
 use Rattle.wave_read.specs.declared.fault.Fault.{Fault}
-use Rattle.wave_read.specs.declared.fault.Fault.TheVariants as fault
 use Rattle.wave_read.specs.Faults.{Tells, IsFaultOf}
 use Rattle.wave_read.specs.NamedFlags.{flag_names, IsTold, TellsUnknown}
-use Rattle.wave_read.proofs.Errors.{no_memory}
+use Rattle.wave_read.proofs.Errors.{no_memory, made_of}
 use Rattle.wave_read.specs.Errors.{IsRefusedBy}
 
 names_from : (source : List ℕ) (es : List (Bor (List ℕ) × Range ℕ)) → AllOf (λ e. e.0.now ≡ name_of (slice source e.1)) es → names_at source (node_list (node_trees (map label_at (values_of es)))) ≡ texts (keys_of es)
@@ -46,6 +45,17 @@ refuses : (names flags : List (List ℕ)) (source : List ℕ) (n : NodeTree) (e 
 refuses names flags source n e ok named (inl memory) = inl memory
 refuses names flags source n e ok named (inr first) = inr (inr (ok, subst (λ (fs : List (List ℕ)). IsFirstUnknown names fs n e) (sym named) first))
 
+-- what was told is of the type where it was read so; a fault is no value
+pub told_typed : {V : Type 0} (of : V → TypeTree → Type 0) (T : TypeTree) (read : Result V Fault) (p : Range ℕ) (r : Result V Diagnostic) → IsTold read p r → IfOk read (λ v. HasDistinctNames T → of v T) → IsOfType of T r
+told_typed {V} of T (Ok v) p (Ok w) same typed = subst (λ (x : V). HasDistinctNames T → of x T) (sym same) typed
+told_typed of T (Err f) p (Err e) told typed = tt
+told_typed of T (Ok v) p (Err e) told typed = absurd told
+told_typed of T (Err f) p (Ok w) told typed = absurd told
+
+pub no_value : {V : Type 0} (of : V → TypeTree → Type 0) (T : TypeTree) (P : Fault → Type 0) (read : Result V Fault) → IsErrAnd read P → IfOk read (λ v. HasDistinctNames T → of v T)
+no_value of T P (Ok v) refused = absurd refused
+no_value of T P (Err f) refused = tt
+
 module _ {V : Type 0} (tree : V → Value) (of : V → TypeTree → Type 0) (Full : TypeTree → Type 0) (o w : Order) where
   -- a flag that is none of the names
   pub unknown_read : (T : TypeTree) (flags : List (List ℕ)) (source : List ℕ) (n : NodeTree) (read : Result V Fault) (f : Fault) (r : Result V Diagnostic) → kinds.Flags ≡ kind_of T → IsErrAnd read (λ g. g ≡ f) → TellsUnknown (flags_names T) flags f →
@@ -57,7 +67,14 @@ module _ {V : Type 0} (tree : V → Value) (of : V → TypeTree → Type 0) (Ful
       record {
         answer = λ t node distinct. flags_blame tree of Full o w T (flags_names T) source n t e (flags_is T kind (flags_names T) refl) node (refuses (flags_names T) flags source n e ok named h.0);
         within = λ value. at_in source n e (inl value) h.1;
+        typed = tt;
       }
+
+  -- flags that were made are of the type
+  pub flags_typed : (T : TypeTree) (flags : List (List ℕ)) (picked : List (Bor (List ℕ))) (v : V) → kinds.Flags ≡ kind_of T → (AreDistinct (flags_names T) → texts picked ≡ found_in flags (flags_names T)) → MakesFlags tree of T picked v → HasDistinctNames T → of v T
+  flags_typed T flags picked v kind found makes distinct =
+      let typed = flags_is T kind (flags_names T) refl in
+      flags_of tree of Full o w T (flags_names T) flags picked v typed distinct (found (subst HasDistinctNames typed distinct)) makes
 
   made_read : (T : TypeTree) (flags : List (List ℕ)) (source : List ℕ) (n : NodeTree) (picked : List (Bor (List ℕ))) (m : Result V WasmValueError) (r : Result V Diagnostic) → kinds.Flags ≡ kind_of T → AreAllOf (flags_names T) flags → (AreDistinct (flags_names T) → texts picked ≡ found_in flags (flags_names T)) →
       IfOk m (MakesFlags tree of T picked) → IfErr m (FullFlags of Full T picked) → AreFlags n → names_at source (children_of n) ≡ flags → IsMade n m r → IsReadAs tree of Full o w T source n r
@@ -66,6 +83,7 @@ module _ {V : Type 0} (tree : V → Value) (of : V → TypeTree → Type 0) (Ful
       record {
         answer = λ t node distinct. flags_made tree of Full o w T (flags_names T) source n t picked m r typed distinct node ok (subst (AreAllOf (flags_names T)) (sym named) known) (found (subst HasDistinctNames typed distinct) ∙ ap (λ (l : List (List ℕ)). found_in l (flags_names T)) (sym named)) makes full made;
         within = λ value. made_in source n m r (inl value) made;
+        typed = made_of of T (MakesFlags tree of T picked) n m r (λ v makes. flags_typed T flags picked v kind found makes) makes made;
       }
 
   -- the flags were made
@@ -89,4 +107,5 @@ module _ {V : Type 0} (tree : V → Value) (of : V → TypeTree → Type 0) (Ful
   other_form T source n e kind flags empty refused = record {
     answer = λ t node distinct. flags_blame tree of Full o w T (flags_names T) source n t e (flags_is T kind (flags_names T) refl) node (inr (inl (flags, empty, refused)));
     within = λ value. at_in source n e (inl value) (form_at n e refused);
+    typed = tt;
   }

@@ -2,9 +2,9 @@
 use Rattle.std.proofs.Common.{ℕ, ◌≡◌, ◌≢◌, ◌++◌, inl, List, [], Option, Some, None, Bor, Result, Ok, Err, IfOk, IfErr, refl, sym, subst}
 use Rattle.wave_grammar.specs.FaultOrder.{Order}
 use Rattle.wave_wasm.specs.Types as type
-use Rattle.wave_wasm.specs.Types.{TypeTree, kind_of}
+use Rattle.wave_wasm.specs.Types.{TypeTree, HasDistinctNames, kind_of}
 use Rattle.wave_wasm.specs.Values.{Value}
-use Rattle.wave_wasm.specs.ConstructorContracts.{MakesOption, FullOption, MakesResult, FullResult, HasFullParts}
+use Rattle.wave_wasm.specs.ConstructorContracts.{MakesOption, FullOption, MakesResult, FullResult, HasFullParts, TypedOption, TypedResult}
 use Rattle.wave_wasm.specs.declared.wasm.WasmTypeKind.TheVariants as kinds
 use Rattle.wave_wasm.specs.declared.wasm.WasmValueError.{WasmValueError}
 use Rattle.wave_lex.specs.Errors.{Diagnostic}
@@ -24,7 +24,7 @@ use Rattle.wave_read.specs.PartsOfKinds.{AreDoomedAtOnce, AreParts, IsSimpleAt}
 use Rattle.wave_read.specs.declared.parts.Partial.{Partial}
 use Rattle.wave_read.specs.declared.values.Frame.{Frame}
 use Rattle.wave_read.specs.Errors.{IsMadeOrMemory}
-use Rattle.wave_read.proofs.Errors.{made_anew}
+use Rattle.wave_read.proofs.Errors.{made_anew, made_of}
 
 -- what a node of another form would be refused for
 abbrev other_form : NodeTree → Diagnostic
@@ -38,10 +38,10 @@ module _ {V : Type 0} (tree : V → Value) (of : V → TypeTree → Type 0) (Ful
   pub flat_refused : (T U : TypeTree) (source : List ℕ) (n : NodeTree) (e : Diagnostic) → HasFullParts Full → IsFlatAt T (type_of n) U → IsReadAs tree of Full o w U source n (Err e) → IsReadAs tree of Full o w T source n (Err e)
   flat_refused (type.option P) U source n e parts h read =
       let inner : IsReadAs tree of Full o w P source n (Err e) = subst (λ (W : TypeTree). IsReadAs tree of Full o w W source n (Err e)) h.0 read in
-      record { answer = λ t is distinct. flat_blame tree of Full o w (type.option P) P source n t (other_form n) e refl is.0 (h.2, h.3, is_other n) h.1 parts (inner.answer t is distinct); within = inner.within }
+      record { answer = λ t is distinct. flat_blame tree of Full o w (type.option P) P source n t (other_form n) e refl is.0 (h.2, h.3, is_other n) h.1 parts (inner.answer t is distinct); within = inner.within; typed = tt }
   flat_refused (type.result (type.a_type A) B) U source n e parts h read =
       let inner : IsReadAs tree of Full o w A source n (Err e) = subst (λ (W : TypeTree). IsReadAs tree of Full o w W source n (Err e)) h.0 read in
-      record { answer = λ t is distinct. result_flat_blame tree of Full o w (type.result (type.a_type A) B) A B source n t (other_form n) e refl is.0 (h.2, h.3, is_other n) h.1 parts (inner.answer t is distinct.0); within = inner.within }
+      record { answer = λ t is distinct. result_flat_blame tree of Full o w (type.result (type.a_type A) B) A B source n t (other_form n) e refl is.0 (h.2, h.3, is_other n) h.1 parts (inner.answer t is distinct.0); within = inner.within; typed = tt }
   flat_refused _ U source n e parts h read = absurd h
 
   -- an option around a value of the payload's type
@@ -49,7 +49,7 @@ module _ {V : Type 0} (tree : V → Value) (of : V → TypeTree → Type 0) (Ful
   option_around (type.option P) U source n v m r kind h read makes full done =
       made_anew (MakesOption tree of (type.option P) (Some v)) (FullOption of Full (type.option P) (Some v)) (n) m r (λ a f P is of. tt) makes full done (λ m makes full done.
       let inner : IsReadAs tree of Full o w P source n (Ok v) = subst (λ (W : TypeTree). IsReadAs tree of Full o w W source n (Ok v)) h.0 read in
-      record { answer = λ t is distinct. flat_made tree of Full o w (type.option P) P t n v m r refl distinct h.1 (inner.answer t is distinct) makes full done; within = λ value. made_in source n m r (inl value) done })
+      record { answer = λ t is distinct. flat_made tree of Full o w (type.option P) P t n v m r refl distinct h.1 (inner.answer t is distinct) makes full done; within = λ value. made_in source n m r (inl value) done; typed = made_of of (type.option P) (MakesOption tree of (type.option P) (Some v)) n m r (λ x makes distinct. (makes distinct).is_of) makes done })
   option_around (type.result A B) U source n v m r kind h read makes full done = absurd (cc kind)
   option_around _ U source n v m r kind h read makes full done = absurd h
 
@@ -58,9 +58,21 @@ module _ {V : Type 0} (tree : V → Value) (of : V → TypeTree → Type 0) (Ful
   result_around (type.result (type.a_type A) B) U source n v m r kind h read makes full done =
       made_anew (MakesResult tree of (type.result (type.a_type A) B) (Ok (Some v))) (FullResult of Full (type.result (type.a_type A) B) (Ok (Some v))) (n) m r (λ a f A B is of. tt) makes full done (λ m makes full done.
       let inner : IsReadAs tree of Full o w A source n (Ok v) = subst (λ (W : TypeTree). IsReadAs tree of Full o w W source n (Ok v)) h.0 read in
-      record { answer = λ t is distinct. result_flat_made tree of Full o w (type.result (type.a_type A) B) A B t n v m r refl distinct h.1 (inner.answer t is distinct.0) makes full done; within = λ value. made_in source n m r (inl value) done })
+      record { answer = λ t is distinct. result_flat_made tree of Full o w (type.result (type.a_type A) B) A B t n v m r refl distinct h.1 (inner.answer t is distinct.0) makes full done; within = λ value. made_in source n m r (inl value) done; typed = made_of of (type.result (type.a_type A) B) (MakesResult tree of (type.result (type.a_type A) B) (Ok (Some v))) n m r (λ x makes distinct. (makes distinct).is_of) makes done })
   result_around (type.option P) U source n v m r kind h read makes full done = absurd (kind refl)
   result_around _ U source n v m r kind h read makes full done = absurd h
+
+-- an option whose flat payload is of its type has it
+pub option_typed : {V : Type 0} (of : V → TypeTree → Type 0) (T U : TypeTree) (ty : NodeType) (v : V) → kind_of T ≡ kinds.Option → IsFlatAt T ty U → (HasDistinctNames U → of v U) → HasDistinctNames T → TypedOption of T (Some v)
+option_typed of (type.option P) U ty v kind flat typed distinct = (P, refl, subst (of v) flat.0 (typed (subst HasDistinctNames (sym flat.0) distinct)))
+option_typed of (type.result A B) U ty v kind flat typed distinct = absurd (cc kind)
+option_typed of _ U ty v kind flat typed distinct = absurd flat
+
+-- so has a result
+pub result_typed : {V : Type 0} (of : V → TypeTree → Type 0) (T U : TypeTree) (ty : NodeType) (v : V) → kind_of T ≢ kinds.Option → IsFlatAt T ty U → (HasDistinctNames U → of v U) → HasDistinctNames T → TypedResult of T (Ok (Some v))
+result_typed of (type.result (type.a_type A) B) U ty v kind flat typed distinct = (type.a_type A, B, refl, subst (of v) flat.0 (typed (subst HasDistinctNames (sym flat.0) distinct.0)))
+result_typed of (type.option P) U ty v kind flat typed distinct = absurd (kind refl)
+result_typed of _ U ty v kind flat typed distinct = absurd flat
 
 -- a flat payload is flat itself, so none stands for it
 payload_flat : (T P : TypeTree) (ty : NodeType) → IsFlatAt T ty P → IsFlat P

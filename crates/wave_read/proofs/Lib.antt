@@ -20,6 +20,7 @@ pub mod TupleCounts
 pub mod TupleItems
 mod PartsBegun
 mod PartsKept
+mod PartsRead
 mod KeptSteps
 mod LeafForms
 mod OtherKinds

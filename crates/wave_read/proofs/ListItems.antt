@@ -1,12 +1,13 @@
 -- Lists, whose items were read one after the other.
-use Rattle.std.proofs.Common.{ℕ, zero, suc, ◌≡◌, ◌≢◌, inl, inr, ◌<◌, ◌+◌, true, false, List, [], ◌∷◌, ◌++◌, length, get_or, Option, Some, None, Bor, Result, Ok, Err, IfOk, IfErr, refl, sym, ◌∙◌, subst, is_some, length-append, arith}
+use Rattle.std.proofs.Common.{ℕ, zero, suc, ◌≡◌, ◌≢◌, inl, inr, ◌<◌, ◌+◌, true, false, List, [], ◌∷◌, ◌++◌, length, get_or, Option, Some, None, Bor, Result, Ok, Err, IfOk, IfErr, refl, sym, ap, ◌∙◌, subst, is_some, length-append, arith}
 use Rattle.std.specs.Result.{IsErrAnd}
 use Rattle.std.specs.declared.ops.Range.{Range}
 use Rattle.wave_grammar.specs.FaultOrder.{Order}
+use Rattle.wave_wasm.specs.Lists.{AllOf}
 use Rattle.wave_wasm.specs.Types.{TypeTree, HasDistinctNames, list_part, kind_of}
 use Rattle.wave_wasm.specs.Values.{Value}
 use Rattle.wave_wasm.specs.Borrowed.{shown}
-use Rattle.wave_wasm.specs.ConstructorContracts.{IsOfListKind, MakesList, FullList, HasFullParts}
+use Rattle.wave_wasm.specs.ConstructorContracts.{IsOfListKind, MakesList, FullList, TypedList, HasFullParts}
 use Rattle.wave_wasm.specs.declared.wasm.WasmValueError.{WasmValueError}
 use Rattle.wave_lex.specs.Errors.{Diagnostic, refusal_of}
 use Rattle.wave_lex.specs.declared.error.ParserErrorKind.TheVariants.{InvalidType}
@@ -24,7 +25,7 @@ use Rattle.wave_read.specs.Reading.{IsReadAs, IsReadWhereDue}
 use Rattle.wave_read.specs.ListParts.{unless_held, AllReadAs, IsFirstRefused, ReadOrHeld}
 use Rattle.wave_grammar.proofs.Faultless.{value_fine}
 use Rattle.wave_read.specs.Errors.{IsMadeOrMemory}
-use Rattle.wave_read.proofs.Errors.{made_anew}
+use Rattle.wave_read.proofs.Errors.{made_anew, made_of}
 
 -- there is one node more
 pub one_more : (ns : List NodeTree) (n : NodeTree) (count next : ℕ) → count ≡ length ns → next ≡ count + 1 → next ≡ length (ns ++ n ∷ [])
@@ -43,6 +44,7 @@ module _ {V : Type 0} (tree : V → Value) (of : V → TypeTree → Type 0) (Ful
       record {
         answer = λ t is distinct. inr (inl (list_fault o w T element.0 source n t (refusal_of e) e.span element.1 is.0 apart (said refused)));
         within = λ value. at_in source n e (inl value) (form_at n e refused);
+        typed = tt;
       }
 
   -- ---- item by item
@@ -94,6 +96,7 @@ module _ {V : Type 0} (tree : V → Value) (of : V → TypeTree → Type 0) (Ful
   length_refused T source p ns count e many other = record {
     answer = λ t is distinct. length_blame tree of Full o w T source (node kind.List p (node_trees ns)) t ns e is refl (sym (list_of_trees ns)) (subst (λ (c : ℕ). IsOtherLength T c (node kind.List p (node_trees ns)) e) many other);
     within = λ value. at_in source (node kind.List p (node_trees ns)) e (inl value) (caused_at _ (node kind.List p (node_trees ns)) e (inr other.3) other.3.1);
+    typed = tt;
   }
 
   -- the first refusal among the items of their trees
@@ -127,7 +130,27 @@ module _ {V : Type 0} (tree : V → Value) (of : V → TypeTree → Type 0) (Ful
       record {
         answer = λ t is distinct. list_blame tree of Full o w source T E (node kind.List p (node_trees ns)) t ns e (list_is T E (length ns) part (subst (IsOfLength T) many long)) is refl children full (λ items nodes. first_blamed E source e ns items (element_distinct T E part distinct) nodes first);
         within = λ value. deeper_at source (node kind.List p (node_trees ns)) ns i n e value children lt is_at (read.within (list_item source (node kind.List p (node_trees ns)) ns i n value refl children lt is_at));
+        typed = tt;
       }
+
+  -- each item is of the element type
+  all_of : (E : TypeTree) (source : List ℕ) (ns : List NodeTree) (vs : List V) → HasDistinctNames E → AllReadAs tree of Full w E source ns vs → AllOf (λ v. of v E) vs
+  all_of E source [] [] distinct h = tt
+  all_of E source [] (v ∷ vs) distinct h = absurd h
+  all_of E source (n ∷ ns) [] distinct h = absurd h
+  all_of E source (n ∷ ns) (v ∷ vs) distinct h = (h.0.typed distinct, all_of E source ns vs distinct h.1)
+
+  -- there are as many as nodes
+  as_nodes : (E : TypeTree) (source : List ℕ) (ns : List NodeTree) (vs : List V) → AllReadAs tree of Full w E source ns vs → length ns ≡ length vs
+  as_nodes E source [] [] h = refl
+  as_nodes E source [] (v ∷ vs) h = absurd h
+  as_nodes E source (n ∷ ns) [] h = absurd h
+  as_nodes E source (n ∷ ns) (v ∷ vs) h = ap suc (as_nodes E source ns vs h.1)
+
+  -- a list of the type has the items
+  pub items_typed : (T E : TypeTree) (source : List ℕ) (ns : List NodeTree) (vs : List V) (count : ℕ) → list_part T ≡ Some E → count ≡ length ns → IsOfLength T count → AllReadAs tree of Full w E source ns vs → HasDistinctNames T → TypedList of T vs
+  items_typed T E source ns vs count part many long all distinct =
+      (E, list_is T E (length vs) part (subst (IsOfLength T) (many ∙ as_nodes E source ns vs all) long), all_of E source ns vs (element_distinct T E part distinct) all)
 
   -- the list was made, or its constructor refused
   pub list_read : (T E : TypeTree) (source : List ℕ) (p : Range ℕ) (ns : List NodeTree) (vs : List V) (count : ℕ) (m : Result V WasmValueError) (r : Result V Diagnostic) → list_part T ≡ Some E → count ≡ length ns → IsOfLength T count → AllReadAs tree of Full w E source ns vs → IfOk m (MakesList tree of T vs) → IfErr m (FullList of Full T vs) → IsMadeOrMemory (node kind.List p (node_trees ns)) m r → IsReadAs tree of Full o w T source (node kind.List p (node_trees ns)) r
@@ -140,4 +163,5 @@ module _ {V : Type 0} (tree : V → Value) (of : V → TypeTree → Type 0) (Ful
             let nodes : AreNodesOf source ns inner.items = given_nodes source (node kind.List p (node_trees ns)) t ns is refl children in
             list_made tree of Full o w T E t inner.items vs (node kind.List p (node_trees ns)) m r (list_is T E (length inner.items) part (subst (IsOfLength T) (many ∙ as_many source ns inner.items nodes) long)) distinct inner.shape (all_placed E source ns inner.items vs (element_distinct T E part distinct) nodes all) ok full done;
         within = λ value. made_in source (node kind.List p (node_trees ns)) m r (inl value) done;
+        typed = made_of of T (MakesList tree of T vs) (node kind.List p (node_trees ns)) m r (λ v makes distinct. (makes distinct).is_of) ok done;
       })

@@ -35,7 +35,7 @@ use Rattle.wave_read.specs.Reading.{IsReadAs}
 use Rattle.wave_read.proofs.KeyedChildren.{ArePaired, paired_from}
 use Rattle.wave_read.specs.MapParts.{AreReadInTurn}
 use Rattle.wave_read.specs.Errors.{IsMadeOrMemory}
-use Rattle.wave_read.proofs.Errors.{made_anew}
+use Rattle.wave_read.proofs.Errors.{made_anew, made_of, anew_of}
 
 -- ---- the type
 
@@ -271,6 +271,7 @@ module _ {V : Type 0} (tree : V → Value) (of : V → TypeTree → Type 0) (Ful
             let x = key_placed m.key S U source ns more k xs (entry_list c.given) m.key_is h c.nodes in
             let next = x.here.next in
             child_in source ns more k p e value (told (next.here.place, next.here.key, next.key));
+        typed = tt;
       }
 
   -- the entry of a value after its key, which was read
@@ -311,6 +312,7 @@ module _ {V : Type 0} (tree : V → Value) (of : V → TypeTree → Type 0) (Ful
             let c = map_children source ((ns ++ n ∷ []) ++ more) p value.0 value.1 in
             let v = value_placed m.key S U source ns more n xs x (entry_list c.given) m.key_is h c.nodes in
             child_in source ns more n p e value (read.within (v.next.here.value, v.next.node));
+        typed = tt;
       }
 
   -- ---- the whole
@@ -342,6 +344,7 @@ module _ {V : Type 0} (tree : V → Value) (of : V → TypeTree → Type 0) (Ful
       record {
         answer = λ t is distinct. absurd (key_alone m.key S U source ns xs x p t m.key_is h is);
         within = λ value. absurd (key_alone m.key S U source ns xs x p value.0 m.key_is h value.1);
+        typed = anew_of of T (MakesMap tree of T handed) (node kind.TupleSet p (node_trees ns)) made_map r (λ v makes distinct. (makes distinct).2.is_of) ok done;
       }
   entries_made T S U source ns xs handed None p made_map r m h fits merged ok full done =
       made_anew (MakesMap tree of T handed) (FullMap of Full T handed) (node kind.TupleSet p (node_trees ns)) made_map r (λ a f K V is all. tt) ok full done (λ made_map ok full done.
@@ -351,6 +354,7 @@ module _ {V : Type 0} (tree : V → Value) (of : V → TypeTree → Type 0) (Ful
             let all = all_read m.key S U source ns xs (entry_list c.given) m.key_is h c.nodes (map_distinct T S U m distinct) in
             map_made tree of Full o w T S U t c.given xs handed (node kind.TupleSet p (node_trees ns)) made_map r m distinct c.shape fits all merged ok full done;
         within = λ value. made_in source (node kind.TupleSet p (node_trees ns)) made_map r (inl value) done;
+        typed = made_of of T (MakesMap tree of T handed) (node kind.TupleSet p (node_trees ns)) made_map r (λ v makes distinct. (makes distinct).2.is_of) ok done;
       })
 
   -- the map of `{}` was made, or its constructor refused
@@ -363,6 +367,7 @@ module _ {V : Type 0} (tree : V → Value) (of : V → TypeTree → Type 0) (Ful
             let c = map_nodes source (node kind.EmptySet p no_nodes) t is (inr refl) in
             map_made tree of Full o w T (type.simple K) U t c.given [] handed (node kind.EmptySet p no_nodes) made_map r (record { key = K; key_is = refl; is = same }) distinct c.shape fits (nothing K U (entry_list c.given) c.nodes) none ok full done;
         within = λ value. made_in source (node kind.EmptySet p no_nodes) made_map r (inl value) done;
+        typed = made_of of T (MakesMap tree of T handed) (node kind.EmptySet p no_nodes) made_map r (λ v makes distinct. (makes distinct).2.is_of) ok done;
       })
     where
       nothing : (K : Simple) (U : TypeTree) (es : List PlacedEntry) → AreEntriesOf source [] es → EntriesRead tree of Full K U es []
@@ -376,4 +381,5 @@ module _ {V : Type 0} (tree : V → Value) (of : V → TypeTree → Type 0) (Ful
       record {
         answer = λ t node distinct. inr (inl (subst (λ (W : TypeTree). FirstFault o w W t (refusal_of e) e.span) (sym same) (map_fault o w K U source n t e node.0 (set, empty, refused))));
         within = λ value. at_in source n e (inl value) (form_at n e refused);
+        typed = tt;
       }

@@ -48,6 +48,7 @@ module _ {V : Type 0} (tree : V → Value) (of : V → TypeTree → Type 0) (Ful
       record {
         answer = λ t node distinct. inr (inl (subst (λ (U : TypeTree). FirstFault o w U t (refusal_of e) e.span) (sym is.is) (other_fault o w is.fields source n t (refusal_of e) e.span node.0 apart (said refused))));
         within = λ value. at_in source n e (inl value) (form_at n e refused);
+        typed = tt;
       }
 
 module _ {V : Type 0} (tree : V → Value) (of : V → TypeTree → Type 0) (Full : TypeTree → Type 0) (w : Order) (T : TypeTree) (parts : List (List ℕ × TypeTree)) (is : RecordType T parts) (source : List ℕ) where
@@ -65,6 +66,7 @@ module _ {V : Type 0} (tree : V → Value) (of : V → TypeTree → Type 0) (Ful
               let (v, here) = key_stands source children k more half p value.0 even value.1 in
               let entry = entry_stands source n value.0 children k v value.1 refl here in
               deeper n k e (pair_belongs source n children k v value here).0 (at_in source k e (inr (entry.0.place, entry.0.key, entry.2)) told);
+          typed = tt;
         }
 
     -- a label that is none of the type's names
@@ -81,6 +83,7 @@ module _ {V : Type 0} (tree : V → Value) (of : V → TypeTree → Type 0) (Ful
               let unknown : UnknownField (field_names is.fields) (entry.0 ∷ []) (span_of t) (refusal_of e) e.span = (inl (subst (SomeOf (IsNoneOf (field_names is.fields))) (sym named) (inl own)), (says.is, says.stands ∙ sym (inside source n t node.0).place)) in
               inr (inl (unknown_label w T parts source n t e is node refl (node_pairs children) (k, v) here.0 entry.0 here.1 (fine distinct) entry.1 name named own unknown));
           within = λ value. at_in source n e (inl value) (refused_at why.InvalidValue n e (λ k. cc) tt says);
+          typed = tt;
         }
 
     -- a value that is refused, of a field that was not read
@@ -101,4 +104,5 @@ module _ {V : Type 0} (tree : V → Value) (of : V → TypeTree → Type 0) (Ful
           within = λ value.
               let entry = entry_stands source n value.0 children k v value.1 refl here in
               deeper n v e (pair_belongs source n children k v value here).1 (read.within (entry.0.value, entry.3));
+          typed = tt;
         }

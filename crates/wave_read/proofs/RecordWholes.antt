@@ -1,5 +1,6 @@
 -- What is known of a record at its end.
 use Rattle.std.proofs.Common.{ℕ, ◌≡◌, ◌⊎◌, inl, inr, List, [], ◌∷◌, map, Option, Some, None, Result, Ok, Err, IfOk, IfErr, Bor, refl, sym, ap, ◌∙◌, subst}
+use Rattle.std.proofs.lemmas.List.Sorted.{IsPermutation-refl}
 use Rattle.std.specs.Result.{IsErrAnd}
 use Rattle.std.specs.declared.ops.Range.{Range}
 use Rattle.wave_grammar.specs.FaultOrder.{Order, in_text, BlamesNothing, FirstOf, LeftOut}
@@ -12,7 +13,7 @@ use Rattle.wave_wasm.specs.Names.{IsOneOf, AreDistinct}
 use Rattle.wave_wasm.specs.Types as type
 use Rattle.wave_wasm.specs.Types.{TypeTree, HasDistinctNames}
 use Rattle.wave_wasm.specs.Values.{Value}
-use Rattle.wave_wasm.specs.ConstructorContracts.{MakesRecord, FullRecord, HasFullParts}
+use Rattle.wave_wasm.specs.ConstructorContracts.{MakesRecord, FullRecord, FieldsAreOf, TypedRecord, HasFullParts}
 use Rattle.wave_wasm.specs.declared.wasm.WasmValueError as cause
 use Rattle.wave_lex.specs.Errors.{Diagnostic, refusal_of}
 use Rattle.wave_grammar.specs.TypedGrammar.{IsOption, look_up, names_of}
@@ -37,7 +38,7 @@ use Rattle.wave_read.specs.declared.records.Fields.{Fields}
 use Rattle.wave_read.proofs.RecordFields.{of_one, part_names}
 use Rattle.wave_read.proofs.RecordSteps.{is_record, entries_read}
 use Rattle.wave_read.specs.Errors.{IsMadeOrMemory}
-use Rattle.wave_read.proofs.Errors.{made_anew}
+use Rattle.wave_read.proofs.Errors.{made_anew, made_of}
 
 module _ {V : Type 0} (tree : V → Value) (of : V → TypeTree → Type 0) (Full : TypeTree → Type 0) (w : Order) {S : Type 0} (type_tree : S → TypeTree) (T : TypeTree) (source : List ℕ) where
   -- a refusal is handed on
@@ -93,6 +94,43 @@ module _ {V : Type 0} (tree : V → Value) (of : V → TypeTree → Type 0) (Ful
       distinct = h.begun.distinct distinct;
     }
 
+    -- the values have the fields' names
+    full_names : (fields : List (Field S V)) (vals : List (Bor (List ℕ) × V)) → AreFull tree of type_tree fields vals → map (λ v. v.0.now) vals ≡ names_of (map (part_of type_tree) fields)
+    full_names [] [] full = refl
+    full_names [] (v ∷ vals) full = absurd full
+    full_names (f ∷ fields) [] full = absurd full
+    full_names (f ∷ fields) (v ∷ vals) full = let more = full_names fields vals full.2 in rw (full.0, more) refl
+
+    -- so a record that was made of them is of the type
+    record_of : (vals : List (Bor (List ℕ) × V)) (v : V) → AreFull tree of type_tree x.fields.items vals → HasDistinctNames T → MakesRecord tree of (type_tree x.ty.now) vals v → of v T
+    record_of vals v full distinct makes =
+        let apart : AreDistinct (map (λ (f : Bor (List ℕ) × V). f.0.now) vals) = subst AreDistinct (sym (full_names x.fields.items vals full)) (fields_distinct T (map (part_of type_tree) x.fields.items) own distinct).names in
+        subst (of v) h.type_is (makes (subst HasDistinctNames (sym h.type_is) distinct) apart).2.is_of
+
+    -- each of them is of its field's type
+    kept_of : (E : TypeTree) (entry : Option NodeTree) (kept : Option V) (v : V) → HasDistinctNames E → IsKeptAs tree of Full w E source entry kept → IsFull tree of E kept v → of v E
+    kept_of E entry None v distinct none full = (full distinct).is_of
+    kept_of E entry (Some u) v distinct (m, found, read) same = subst (λ (x : V). of x E) same (read.typed distinct)
+
+    values_of : (given : List (List ℕ × NodeTree)) (fields : List (Field S V)) (vals : List (Bor (List ℕ) × V)) → AllOf (λ p. HasDistinctNames p.1) (map (part_of type_tree) fields) → AreKeptAs type_tree tree of Full w source given fields → AreFull tree of type_tree fields vals → FieldsAreOf of (map (part_of type_tree) fields) vals
+    values_of given [] [] distinct kept full = tt
+    values_of given [] (v ∷ vals) distinct kept full = absurd full
+    values_of given (f ∷ fields) [] distinct kept full = absurd full
+    values_of given (f ∷ fields) (v ∷ vals) distinct kept full =
+        (full.0, kept_of (type_tree f.ty.now) (look_up given f.name.now) f.value v.1 distinct.0 kept.0 full.1, values_of given fields vals distinct.1 kept.1 full.2)
+
+    -- a record of the type has them
+    pub record_typed : (vals : List (Bor (List ℕ) × V)) → AreFull tree of type_tree x.fields.items vals → HasDistinctNames T → TypedRecord of T vals
+    record_typed vals full distinct =
+        let apart = fields_distinct T (map (part_of type_tree) x.fields.items) own distinct in (
+          own.fields,
+          own.is,
+          subst AreDistinct (sym (full_names x.fields.items vals full)) apart.names,
+          vals,
+          IsPermutation-refl vals,
+          subst (λ (ps : List (List ℕ × TypeTree)). FieldsAreOf of ps vals) own.parts_are (values_of (fields_at source children) x.fields.items vals apart.within (h.begun.kept distinct) full),
+        )
+
     -- the record was made of all its values, or its constructor refused
     pub whole_made : (p : Range ℕ) (vals : List (Bor (List ℕ) × V)) (made_record : Result V cause.WasmValueError) (r : Result V Diagnostic) → AreFull tree of type_tree x.fields.items vals → IfOk made_record (MakesRecord tree of (type_tree x.ty.now) vals) → IfErr made_record (FullRecord of Full (type_tree x.ty.now) vals) → IsMadeOrMemory (node kind.TupleSet p (node_trees children)) made_record r → IsReadAs tree of Full in_text w T source (node kind.TupleSet p (node_trees children)) r
     whole_made p vals made_record r filled ok full done =
@@ -112,6 +150,7 @@ module _ {V : Type 0} (tree : V → Value) (of : V → TypeTree → Type 0) (Ful
               (record_reads tree of Full T own.fields source n t given vals inner made_record own.is distinct all fields.distinct known names read (subst (λ (U : TypeTree). IfOk made_record (MakesRecord tree of U vals)) h.type_is ok))
               (record_full tree of Full T own.fields (entry_list inner.given) vals made_record own.is names read (subst (λ (U : TypeTree). IfErr made_record (FullRecord of Full U vals)) h.type_is full));
           within = λ value. made_in source n made_record r (inl value) done;
+          typed = made_of of T (MakesRecord tree of (type_tree x.ty.now) vals) n made_record r (λ v makes distinct. record_of vals v filled distinct makes) ok done;
         })
 
     -- a field was left out, or there was no memory
@@ -121,6 +160,7 @@ module _ {V : Type 0} (tree : V → Value) (of : V → TypeTree → Type 0) (Ful
         handed_on n e r same (record {
           answer = λ t is distinct. blamed t is distinct left;
           within = λ value. at_in source n e (inl value) told;
+          typed = tt;
         })
       where
         whole : NodeTree

@@ -1,11 +1,11 @@
 -- Results, of a payload that was read.
-use Rattle.std.proofs.Common.{ℕ, ◌≡◌, ◌≢◌, inl, inr, Bool, true, false, List, Option, Some, Result, Ok, Err, IfOk, IfErr, refl, sym, ap, ◌∙◌, subst}
+use Rattle.std.proofs.Common.{ℕ, ◌≡◌, ◌≢◌, inl, inr, Bool, true, false, List, Option, Some, None, Result, Ok, Err, IfOk, IfErr, refl, sym, ap, ◌∙◌, subst}
 use Rattle.std.specs.declared.ops.Range.{Range}
 use Rattle.wave_grammar.specs.FaultOrder.{Order}
 use Rattle.wave_wasm.specs.Types as type
 use Rattle.wave_wasm.specs.Types.{TypeTree, MaybeType, HasDistinctNames, kind_of, maybe_type, type_option, result_parts}
 use Rattle.wave_wasm.specs.Values.{Value}
-use Rattle.wave_wasm.specs.ConstructorContracts.{MakesResult, FullResult, HasFullParts}
+use Rattle.wave_wasm.specs.ConstructorContracts.{MakesResult, FullResult, HasFullParts, TypedResult, PayloadIsOf}
 use Rattle.wave_wasm.specs.declared.wasm.WasmTypeKind.TheVariants as kinds
 use Rattle.wave_wasm.specs.declared.wasm.WasmValueError.{WasmValueError}
 use Rattle.wave_lex.specs.Errors.{Diagnostic}
@@ -25,8 +25,8 @@ use Rattle.wave_grammar.proofs.ErrorSpans.Nodes.{made_in, part_in, first_belongs
 use Rattle.wave_read.specs.Reading.{IsReadAs}
 use Rattle.wave_read.specs.Flat.{IsFlatAt}
 use Rattle.wave_read.specs.Faults.{IsMadeAt}
-use Rattle.wave_read.specs.Payloads.{result_node, result_name, result_with, payload_of}
-use Rattle.wave_read.proofs.Errors.{made_anew}
+use Rattle.wave_read.specs.Payloads.{result_node, result_name, result_with, payload_of, IsOfPayloadType}
+use Rattle.wave_read.proofs.Errors.{made_anew, made_of}
 
 -- the type of a result with these payloads
 result_is : (T : TypeTree) (parts : Option TypeTree × Option TypeTree) → result_parts T ≡ Some parts → T ≡ type.result (maybe_type parts.0) (maybe_type parts.1)
@@ -76,11 +76,11 @@ module _ {V : Type 0} (tree : V → Value) (of : V → TypeTree → Type 0) (Ful
   case_made true T A B source p children v m r is answers makes full done =
       let n = result_of true p children in
       made_anew (MakesResult tree of T (Ok v)) (FullResult of Full T (Ok v)) n m r (λ a f A B is of. tt) makes full (done n refl) (λ m makes full done.
-      record { answer = λ t here distinct. let k = ok_node source n t here refl in ok_made tree of Full o w T (maybe_type A) (maybe_type B) t n k.0 v m r is distinct k.1 (answers_first true A source p children (Ok v) answers k.0 k.2 (subst HasDistinctNames is distinct).0) makes full done; within = λ value. made_in source n m r (inl value) done })
+      record { answer = λ t here distinct. let k = ok_node source n t here refl in ok_made tree of Full o w T (maybe_type A) (maybe_type B) t n k.0 v m r is distinct k.1 (answers_first true A source p children (Ok v) answers k.0 k.2 (subst HasDistinctNames is distinct).0) makes full done; within = λ value. made_in source n m r (inl value) done; typed = made_of of T (MakesResult tree of T (Ok v)) n m r (λ x makes distinct. (makes distinct).is_of) makes done })
   case_made false T A B source p children v m r is answers makes full done =
       let n = result_of false p children in
       made_anew (MakesResult tree of T (Err v)) (FullResult of Full T (Err v)) n m r (λ a f A B is of. tt) makes full (done n refl) (λ m makes full done.
-      record { answer = λ t here distinct. let k = err_node source n t here refl in err_made tree of Full o w T (maybe_type A) (maybe_type B) t n k.0 v m r is distinct k.1 (answers_first false B source p children (Ok v) answers k.0 k.2 (subst HasDistinctNames is distinct).1) makes full done; within = λ value. made_in source n m r (inl value) done })
+      record { answer = λ t here distinct. let k = err_node source n t here refl in err_made tree of Full o w T (maybe_type A) (maybe_type B) t n k.0 v m r is distinct k.1 (answers_first false B source p children (Ok v) answers k.0 k.2 (subst HasDistinctNames is distinct).1) makes full done; within = λ value. made_in source n m r (inl value) done; typed = made_of of T (MakesResult tree of T (Err v)) n m r (λ x makes distinct. (makes distinct).is_of) makes done })
 
   -- a refusal of the payload stands in the node
   case_within : (is_ok : Bool) (source : List ℕ) (p : Range ℕ) (children : List NodeTree) (e : Diagnostic) → (IsPayloadOf source (first_of children) → RefusesInPart (result_of is_ok p children) (first_of children) e) → IsValueOf source (result_of is_ok p children) → RefusesIn (result_of is_ok p children) e
@@ -92,15 +92,28 @@ module _ {V : Type 0} (tree : V → Value) (of : V → TypeTree → Type 0) (Ful
   case_refused : (is_ok : Bool) (T : TypeTree) (A B : Option TypeTree) (source : List ℕ) (p : Range ℕ) (children : List NodeTree) (e : Diagnostic) → T ≡ type.result (maybe_type A) (maybe_type B) → HasFullParts Full → AnswersPayload tree of Full w (result_name is_ok) (payload_of is_ok (A, B)) source (result_of is_ok p children) (first_of children) (Err e) → (IsPayloadOf source (first_of children) → RefusesInPart (result_of is_ok p children) (first_of children) e) → IsReadAs tree of Full o w T source (result_of is_ok p children) (Err e)
   case_refused true T A B source p children e is parts answers within =
       let n = result_of true p children in
-      record { answer = λ t here distinct. let k = ok_node source n t here refl in ok_blame tree of Full o w T (maybe_type A) (maybe_type B) source n t k.0 e is here.0 k.1 parts (answers_first true A source p children (Err e) answers k.0 k.2 (subst HasDistinctNames is distinct).0); within = case_within true source p children e within }
+      record { answer = λ t here distinct. let k = ok_node source n t here refl in ok_blame tree of Full o w T (maybe_type A) (maybe_type B) source n t k.0 e is here.0 k.1 parts (answers_first true A source p children (Err e) answers k.0 k.2 (subst HasDistinctNames is distinct).0); within = case_within true source p children e within; typed = tt }
   case_refused false T A B source p children e is parts answers within =
       let n = result_of false p children in
-      record { answer = λ t here distinct. let k = err_node source n t here refl in err_blame tree of Full o w T (maybe_type A) (maybe_type B) source n t k.0 e is here.0 k.1 parts (answers_first false B source p children (Err e) answers k.0 k.2 (subst HasDistinctNames is distinct).1); within = case_within false source p children e within }
+      record { answer = λ t here distinct. let k = err_node source n t here refl in err_blame tree of Full o w T (maybe_type A) (maybe_type B) source n t k.0 e is here.0 k.1 parts (answers_first false B source p children (Err e) answers k.0 k.2 (subst HasDistinctNames is distinct).1); within = case_within false source p children e within; typed = tt }
 
   -- the value was made of the payload
   pub result_read : (is_ok : Bool) (T : TypeTree) (D : Option TypeTree) (source : List ℕ) (p : Range ℕ) (children : List NodeTree) (v : Option V) (m : Result V WasmValueError) (r : Result V Diagnostic) → (parts : Option TypeTree × Option TypeTree) × (result_parts T ≡ Some parts) × (D ≡ payload_of is_ok parts) → AnswersPayload tree of Full w (result_name is_ok) D source (result_of is_ok p children) (first_of children) (Ok v) → IfOk m (MakesResult tree of T (result_with is_ok v)) → IfErr m (FullResult of Full T (result_with is_ok v)) → IsMadeAt p m r → IsReadAs tree of Full o w T source (result_of is_ok p children) r
   result_read is_ok T D source p children v m r (parts, is, due) answers makes full done =
       case_made is_ok T parts.0 parts.1 source p children v m r (result_is T parts is) (subst (λ (E : Option TypeTree). AnswersPayload tree of Full w (result_name is_ok) E source (result_of is_ok p children) (first_of children) (Ok v)) due answers) makes full done
+
+  -- a result of the type has the payload
+  option_back : (o : Option TypeTree) → type_option (maybe_type o) ≡ o
+  option_back None = refl
+  option_back (Some T) = refl
+
+  pub result_typed : (is_ok : Bool) (T : TypeTree) (D : Option TypeTree) (v : Option V) → (parts : Option TypeTree × Option TypeTree) × (result_parts T ≡ Some parts) × (D ≡ payload_of is_ok parts) → IsOfPayloadType of D v → HasDistinctNames T → TypedResult of T (result_with is_ok v)
+  result_typed true T D v (parts, is, due) typed distinct =
+      let names = subst HasDistinctNames (result_is T parts is) distinct in
+      (maybe_type parts.0, maybe_type parts.1, result_is T parts is, subst (λ (E : Option TypeTree). PayloadIsOf of E v) (sym (option_back parts.0)) (subst (λ (E : Option TypeTree). IsOfPayloadType of E v) due typed names.0))
+  result_typed false T D v (parts, is, due) typed distinct =
+      let names = subst HasDistinctNames (result_is T parts is) distinct in
+      (maybe_type parts.0, maybe_type parts.1, result_is T parts is, subst (λ (E : Option TypeTree). PayloadIsOf of E v) (sym (option_back parts.1)) (subst (λ (E : Option TypeTree). IsOfPayloadType of E v) due typed names.1))
 
   -- the payload was refused
   pub result_refused : (is_ok : Bool) (T : TypeTree) (D : Option TypeTree) (source : List ℕ) (p : Range ℕ) (children : List NodeTree) (e : Diagnostic) → HasFullParts Full → (parts : Option TypeTree × Option TypeTree) × (result_parts T ≡ Some parts) × (D ≡ payload_of is_ok parts) → AnswersPayload tree of Full w (result_name is_ok) D source (result_of is_ok p children) (first_of children) (Err e) → (IsPayloadOf source (first_of children) → RefusesInPart (result_of is_ok p children) (first_of children) e) → IsReadAs tree of Full o w T source (result_of is_ok p children) (Err e)
@@ -114,4 +127,4 @@ module _ {V : Type 0} (tree : V → Value) (of : V → TypeTree → Type 0) (Ful
       let parts = given.0 in
       let is = given.1 in
       let result = result_is T parts is in
-      record { answer = λ t here distinct. inr (inl (result_fault o w T parts.0 (maybe_type parts.1) source n t e result here.0 (not_ok, not_err, refused) (flat_apart T parts.0 (maybe_type parts.1) n result not_ok not_err apart))); within = λ value. at_in source n e (inl value) (form_at n e refused) }
+      record { answer = λ t here distinct. inr (inl (result_fault o w T parts.0 (maybe_type parts.1) source n t e result here.0 (not_ok, not_err, refused) (flat_apart T parts.0 (maybe_type parts.1) n result not_ok not_err apart))); within = λ value. at_in source n e (inl value) (form_at n e refused); typed = tt }

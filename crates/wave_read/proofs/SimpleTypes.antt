@@ -1,10 +1,10 @@
 -- What is read where a simple type is due, or one that has no values.
 use Rattle.std.proofs.Common.{ℕ, ◌≡◌, ◌≢◌, ◌⊎◌, inl, inr, Bool, true, false, List, Result, Err, refl, sym, ◌∙◌, subst}
-use Rattle.std.specs.Prelude.{IfErr}
 use Rattle.std.specs.declared.ops.Range.{Range}
 use Rattle.wave_wasm.specs.Types as type
 use Rattle.wave_wasm.specs.Types.{TypeTree, Simple, Unreadable, Whole, whole_kind, simple_kind, unreadable_kind, kind_of}
 use Rattle.wave_wasm.specs.TypeText.{kind_word}
+use Rattle.wave_wasm.specs.Values as value
 use Rattle.wave_wasm.specs.Values.{Value}
 use Rattle.wave_wasm.specs.ValueErrors.{Cause, unsupported_type}
 use Rattle.wave_wasm.specs.declared.wasm.WasmTypeKind.{WasmTypeKind}
@@ -17,8 +17,7 @@ use Rattle.wave_grammar.specs.FaultOrder.{Order}
 use Rattle.wave_grammar.specs.NodeTree.{NodeTree, type_of, place_of}
 use Rattle.wave_grammar.specs.NodeAccessors.{RefusedAs, bool_type}
 use Rattle.wave_grammar.specs.TypedReading.{Answers}
-use Rattle.wave_grammar.specs.Shared.TypedReading.{IsCaused, AnswersWhole}
-use Rattle.wave_grammar.specs.Shared.ErrorSpans.{RefusesAt}
+use Rattle.wave_grammar.specs.Shared.TypedReading.{IsCaused, IsWholeRead, AnswersWhole}
 use Rattle.wave_grammar.specs.declared.form.NodeType.{NodeType}
 use Rattle.wave_grammar.specs.declared.form.NodeType.TheVariants as kind
 use Rattle.wave_grammar.proofs.ByKind.Leaves.{said, bool_fault, number_fault}
@@ -29,7 +28,8 @@ use Rattle.wave_grammar.proofs.ErrorSpans.Nodes.{at_in, all_in, form_at, caused_
 use Rattle.wave_read.specs.Leaves.{IsSimpleOrUnreadable}
 use Rattle.wave_grammar.specs.NodeParts.{IsOfParts}
 use Rattle.wave_read.specs.PlainReading.{IsPlain}
-use Rattle.wave_read.specs.Reading.{IsReadAs}
+use Rattle.wave_read.specs.Reading.{IsReadAs, IsOfType}
+use Rattle.wave_read.proofs.Errors.{leaf_of, none_of}
 use Rattle.wave_read.proofs.PlainTypes.{unread}
 
 -- ---- kinds without values
@@ -99,6 +99,7 @@ module _ {V : Type 0} (tree : V → Value) (of : V → TypeTree → Type 0) (Ful
   other_form S source n e other refused = record {
     answer = form_answers S source n e other refused;
     within = λ value. at_in source n e (inl value) (form_at n e refused);
+    typed = tt;
   }
 
   -- any node is refused at a type that has no values
@@ -106,6 +107,7 @@ module _ {V : Type 0} (tree : V → Value) (of : V → TypeTree → Type 0) (Ful
   unreadable_form u k source n e is caused place = record {
     answer = λ t node distinct. unread_blame Full o w (type.unreadable u) source n t k e node.0 is (subst IsUnread (sym is) (no_values u)) (λ which same. no_whole u which (sym is ∙ same)) caused;
     within = λ value. at_in source n e (inl value) (caused_at (unsupported_type (kind_word k)) n e caused place);
+    typed = tt;
   }
 
   -- so where it is known of the type that it is a simple one or has no values
@@ -125,15 +127,39 @@ module _ {V : Type 0} (tree : V → Value) (of : V → TypeTree → Type 0) (Ful
   pub read_at_kind : (S : Simple) (T : TypeTree) (source : List ℕ) (n : NodeTree) (r : Result V Diagnostic) → simple_kind S ≡ kind_of T → IsReadAs tree of Full o w (type.simple S) source n r → IsReadAs tree of Full o w T source n r
   read_at_kind S T source n r is h = subst (λ (U : TypeTree). IsReadAs tree of Full o w U source n r) (sym (simple_is S T is)) h
 
-  -- a bool
-  pub bool_at_kind : (T : TypeTree) (source : List ℕ) (n : NodeTree) (r : Result V Diagnostic) → kinds.Bool ≡ kind_of T → Answers tree of Full o w (type.simple type.bool) source n r → IfErr r (RefusesAt n) → IsReadAs tree of Full o w T source n r
-  bool_at_kind T source n r is answer told = read_at_kind type.bool T source n r is (record { answer = answer; within = λ value. all_in source n r (inl value) told })
+  -- at a type that is no whole one nothing is read as a whole number
+  none_whole : (T : TypeTree) (k : WasmTypeKind) (source : List ℕ) (n : NodeTree) (r : Result V Diagnostic) → k ≡ kind_of T → ((which : Whole) → T ≢ type.simple (type.whole which)) → AnswersWhole tree of Full k source n r → IsOfType of T r
+  none_whole T k source n r is apart h =
+      none_of of T (λ e. IsCaused (unsupported_type (kind_word k)) n e × (e.span ≡ place_of n)) r (h.1 (λ which same. apart which (simple_is (type.whole which) T (sym same ∙ is))))
+
+  -- what is read as a whole number is of the type
+  pub whole_of : (T : TypeTree) (k : WasmTypeKind) (source : List ℕ) (n : NodeTree) (r : Result V Diagnostic) → k ≡ kind_of T → AnswersWhole tree of Full k source n r → IsOfType of T r
+  whole_of (type.simple (type.whole which)) k source n r is h = by (h.0 which is)
+    where
+      by : IsWholeRead tree of Full which source n r → IsOfType of (type.simple (type.whole which)) r
+      by (inl read) = leaf_of tree of Full (value.whole which read.0) n r read.2
+      by (inr refused) = none_of of (type.simple (type.whole which)) (λ f. f ≡ refused.0) r refused.2
+  whole_of (type.simple type.bool) k source n r is h = none_whole (type.simple type.bool) k source n r is (λ which e. cc) h
+  whole_of (type.simple type.char) k source n r is h = none_whole (type.simple type.char) k source n r is (λ which e. cc) h
+  whole_of (type.simple type.string) k source n r is h = none_whole (type.simple type.string) k source n r is (λ which e. cc) h
+  whole_of (type.unreadable u) k source n r is h = none_whole (type.unreadable u) k source n r is (λ which e. cc) h
+  whole_of (type.list E) k source n r is h = none_whole (type.list E) k source n r is (λ which e. cc) h
+  whole_of (type.fixed E n') k source n r is h = none_whole (type.fixed E n') k source n r is (λ which e. cc) h
+  whole_of (type.record_type fs) k source n r is h = none_whole (type.record_type fs) k source n r is (λ which e. cc) h
+  whole_of (type.tuple Ts) k source n r is h = none_whole (type.tuple Ts) k source n r is (λ which e. cc) h
+  whole_of (type.variant cs) k source n r is h = none_whole (type.variant cs) k source n r is (λ which e. cc) h
+  whole_of (type.enum names) k source n r is h = none_whole (type.enum names) k source n r is (λ which e. cc) h
+  whole_of (type.option P) k source n r is h = none_whole (type.option P) k source n r is (λ which e. cc) h
+  whole_of (type.result A B) k source n r is h = none_whole (type.result A B) k source n r is (λ which e. cc) h
+  whole_of (type.flags names) k source n r is h = none_whole (type.flags names) k source n r is (λ which e. cc) h
+  whole_of (type.map K W) k source n r is h = none_whole (type.map K W) k source n r is (λ which e. cc) h
 
   -- what is read at another kind, which is that of a whole type or has no values
   pub whole_at_kind : (T : TypeTree) (k : WasmTypeKind) (source : List ℕ) (n : NodeTree) (r : Result V Diagnostic) → k ≡ kind_of T → k ≢ kinds.Bool → k ≢ kinds.Char → k ≢ kinds.String → IsSimpleOrUnreadable T → AnswersWhole tree of Full k source n r → IsReadAs tree of Full o w T source n r
   whole_at_kind T k source n r is bool char string due h = record {
     answer = λ t node distinct. whole_answers tree of Full o w T k source n t r is node.0 (by T is due) h;
     within = λ value. all_in source n r (inl value) (whole_at tree of Full k source n r h);
+    typed = whole_of T k source n r is h;
   }
     where
       by : (U : TypeTree) → k ≡ kind_of U → IsSimpleOrUnreadable U → IsUnread k

@@ -61,6 +61,7 @@ module _ {V : Type 0} (tree : V → Value) (of : V → TypeTree → Type 0) (Ful
   soon T one source n m (Some v) is read made full done = read_at_kind tree of Full o w (leaf_type one) T source n (Ok v) is (record {
     answer = λ t placed distinct. leaf_made tree of Full o w (type.simple (leaf_type one)) t n one m (Ok v) refl (read t placed.0) made full (subst (λ (x : Result V WasmValueError). IsMade n x (Ok v)) (sym done) refl);
     within = λ parsed. tt;
+    typed = λ distinct. (subst (λ (x : Result V WasmValueError). IfOk x (MakesLeaf tree of one)) done made).is_of;
   })
 
   -- a whole number

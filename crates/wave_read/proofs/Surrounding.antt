@@ -5,8 +5,9 @@ use Rattle.wave_wasm.specs.Types.{TypeTree}
 use Rattle.wave_wasm.specs.Values.{Value}
 use Rattle.wave_lex.specs.Errors.{Diagnostic}
 use Rattle.wave_grammar.specs.NodeTree.{NodeTree, type_of}
-use Rattle.wave_read.specs.Reading.{IsReadAs}
-use Rattle.wave_read.specs.Flat.{IsFlatAt, IsAround}
+use Rattle.wave_grammar.specs.declared.form.NodeType.{NodeType}
+use Rattle.wave_read.specs.Reading.{IsReadAs, IsOfType}
+use Rattle.wave_read.specs.Flat.{IsFlatAt, IsAround, IsAroundWhereDue, IsOfPartWithin}
 
 module _ {S V : Type 0} (type_tree : S → TypeTree) (tree : V → Value) (of : V → TypeTree → Type 0) (Full : TypeTree → Type 0) (i w : Order) (T : TypeTree) (source : List ℕ) (n : NodeTree) (o : Option (Bor S)) (x : Bor S) (made : Result V Diagnostic) (is : IsAround type_tree T (type_of n) o x) (read : IsReadAs tree of Full i w (type_tree x.now) source n made) where
   -- an option or a result is around it
@@ -20,3 +21,13 @@ module _ {S V : Type 0} (type_tree : S → TypeTree) (tree : V → Value) (of : 
   alone_read none =
       let here : (type_tree x.now ≡ T) × ((U : TypeTree) → IsFlatAt T (type_of n) U → ⊥) = subst (λ (p : Option (Bor S)). IsAround type_tree T (type_of n) p x) none is in
       subst (λ (W : TypeTree). IsReadAs tree of Full i w W source n made) here.0 read
+
+module _ {S V : Type 0} (type_tree : S → TypeTree) (of : V → TypeTree → Type 0) (ty : NodeType) (made : Result V Diagnostic) where
+  -- what was read of the payload is of its type
+  pub part_within : (T : TypeTree) (o : Option (Bor S)) (x : Bor S) → IsAround type_tree T ty o x → IsOfType of (type_tree x.now) made → IsOfPartWithin type_tree of o made
+  part_within T None x is typed = tt
+  part_within T (Some whole) x is typed = (ty, type_tree x.now, subst (λ (W : TypeTree). IsFlatAt W ty (type_tree x.now)) (sym is.0) is.1, typed)
+
+  pub due_within : (due : Option TypeTree) (o : Option (Bor S)) (x : Bor S) → IsAroundWhereDue type_tree due ty o x → IsOfType of (type_tree x.now) made → IsOfPartWithin type_tree of o made
+  due_within None o x is typed = absurd is
+  due_within (Some T) o x is typed = part_within T o x is typed

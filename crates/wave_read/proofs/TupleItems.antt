@@ -10,7 +10,7 @@ use Rattle.wave_wasm.specs.Types.{TypeTree, Types, HasDistinctNames, tuple_parts
 use Rattle.wave_wasm.specs.Values.{Value}
 use Rattle.wave_wasm.specs.ValueErrors.{wrong_number}
 use Rattle.wave_wasm.specs.Borrowed.{shown, shown_all}
-use Rattle.wave_wasm.specs.ConstructorContracts.{MakesTuple, FullTuple, HasFullParts}
+use Rattle.wave_wasm.specs.ConstructorContracts.{MakesTuple, FullTuple, HasFullParts, TypedTuple, AreOf}
 use Rattle.wave_wasm.specs.declared.wasm.WasmTypeKind.TheVariants as kinds
 use Rattle.wave_wasm.specs.declared.wasm.WasmValueError.{WasmValueError}
 use Rattle.wave_lex.specs.Errors.{Diagnostic, refusal_of, caused}
@@ -33,7 +33,7 @@ use Rattle.wave_read.specs.declared.fault.Fault.TheVariants as fault
 use Rattle.wave_read.proofs.Doomed.{told_dooms}
 use Rattle.wave_read.specs.declared.error.Reason.TheVariants as reason
 use Rattle.wave_read.specs.Errors.{IsMadeOrMemory}
-use Rattle.wave_read.proofs.Errors.{made_anew}
+use Rattle.wave_read.proofs.Errors.{made_anew, made_of}
 use Rattle.wave_read.proofs.Errors.{plain_says}
 use Rattle.wave_read.proofs.Errors.{no_memory}
 
@@ -53,6 +53,7 @@ module _ {V : Type 0} (tree : V → Value) (of : V → TypeTree → Type 0) (Ful
       record {
         answer = λ t node distinct. subst (λ (U : TypeTree). IsBlamed Full o w U t e) (sym is.is) (inr (inl (tuple_fault o w is.types source n t (refusal_of e) e.span node.0 apart (said refused))));
         within = λ value. at_in source n e (inl value) (form_at n e refused);
+        typed = tt;
       }
 
   -- where there was no memory for the parts, whatever they are
@@ -139,6 +140,7 @@ module _ {V : Type 0} (tree : V → Value) (of : V → TypeTree → Type 0) (Ful
               next_blamed is.types source ns vs n more items E e (subst (AllOf HasDistinctNames) is.parts_are (parts_distinct T parts is distinct))
               (subst (λ (l : List TypeTree). AreReadEach tree of Full w l source ns vs) is.parts_are h) (subst (λ (l : List TypeTree). HasAt l (length ns) E) is.parts_are here) refused nodes);
           within = λ value. deeper_at source m all (length ns) n e value children (last_before ns more n) (at_last ns more n) (refused.within (tuple_item source m all (length ns) n value refl children (last_before ns more n) (at_last ns more n)));
+          typed = tt;
         })
 
     -- an item that was refused
@@ -168,7 +170,25 @@ module _ {V : Type 0} (tree : V → Value) (of : V → TypeTree → Type 0) (Ful
       record {
         answer = λ t node distinct. count_blame tree of Full o w T parts source m t ns e is node refl (sym (list_of_trees ns)) (fine is.types is.parts_are (subst (AllOf HasDistinctNames) is.parts_are (parts_distinct T parts is distinct))) (λ same. apart (many ∙ (same ∙ sym wanted))) (cause, place);
         within = λ value. at_in source m e (inl value) (caused_at _ m e (inr (cause, place)) place);
+        typed = tt;
       }
+
+  -- each item is of its type
+  each_of : (Ts : List TypeTree) (source : List ℕ) (ns : List NodeTree) (vs : List V) → AllOf HasDistinctNames Ts → length ns ≡ length Ts → AreReadEach tree of Full w Ts source ns vs → AreOf of Ts vs
+  each_of [] source [] [] distinct counts h = tt
+  each_of (T ∷ Ts) source [] [] distinct counts h = absurd (omega (arith, counts))
+  each_of [] source (n ∷ ns) [] distinct counts h = absurd (omega (arith, counts))
+  each_of [] source (n ∷ ns) (v ∷ vs) distinct counts h = absurd h
+  each_of [] source [] (v ∷ vs) distinct counts h = absurd h
+  each_of (T ∷ Ts) source [] (v ∷ vs) distinct counts h = absurd h
+  each_of (T ∷ Ts) source (n ∷ ns) [] distinct counts h = absurd h
+  each_of (T ∷ Ts) source (n ∷ ns) (v ∷ vs) distinct counts h = (h.0.typed distinct.0, each_of Ts source ns vs distinct.1 (omega (arith, counts)) h.1)
+
+  -- a tuple of the type has the items
+  pub row_typed : (T : TypeTree) (parts : List TypeTree) (source : List ℕ) (ns : List NodeTree) (vs : List V) (want count : ℕ) → kind_of T ≡ kinds.Tuple → parts ≡ tuple_parts T → want ≡ length parts → count ≡ length ns → count ≡ want → AreReadEach tree of Full w parts source ns vs → HasDistinctNames T → TypedTuple of T vs
+  row_typed T parts source ns vs want count tuples parts_are wanted many same all distinct =
+      let is : TupleType T parts = tuple_is T parts (sym tuples) parts_are in
+      (is.types, is.is, subst (λ (Ts : List TypeTree). AreOf of Ts vs) is.parts_are (each_of parts source ns vs (parts_distinct T parts is distinct) (sym many ∙ (same ∙ wanted)) all))
 
   -- the tuple was made, or its constructor refused
   pub tuple_read : (T : TypeTree) (parts : List TypeTree) (source : List ℕ) (p : Range ℕ) (ns : List NodeTree) (vs : List V) (want count : ℕ) (m : Result V WasmValueError) (r : Result V Diagnostic) → kind_of T ≡ kinds.Tuple → parts ≡ tuple_parts T → want ≡ length parts → count ≡ length ns → count ≡ want → AreReadEach tree of Full w parts source ns vs → IfOk m (MakesTuple tree of T vs) → IfErr m (FullTuple of Full T vs) → IsMadeOrMemory (node kind.Tuple p (node_trees ns)) m r → IsReadAs tree of Full o w T source (node kind.Tuple p (node_trees ns)) r
@@ -181,4 +201,5 @@ module _ {V : Type 0} (tree : V → Value) (of : V → TypeTree → Type 0) (Ful
       record {
         answer = λ t node distinct. tuple_made tree of Full o w source T parts n t ns vs (length ns) m r is distinct node refl children counts (omega arith) (each_placed parts source ns (tuple_nodes source n t node refl).items vs (parts_distinct T parts is distinct) counts (given_items source n t ns node refl children) all) ok full done;
         within = λ value. made_in source n m r (inl value) done;
+        typed = made_of of T (MakesTuple tree of T vs) n m r (λ v makes distinct. (makes distinct).is_of) ok done;
       })

@@ -1,5 +1,5 @@
 -- What has been read of a case and its payload.
-use Rattle.std.specs.Prelude.{ℕ, ◌≡◌, List, [], ◌∷◌, Option, Some, Ok, option_map}
+use Rattle.std.specs.Prelude.{ℕ, ◌≡◌, List, [], ◌∷◌, Option, Some, None, Ok, option_map}
 use Rattle.std.specs.Borrow.{Bor}
 use Rattle.wave_wasm.specs.Types.{TypeTree, kind_of, variant_parts}
 use Rattle.wave_wasm.specs.Values.{Value}
@@ -24,8 +24,8 @@ module _ {S V : Type 0} (type_tree : S → TypeTree) (tree : V → Value) (of : 
 
   -- of no children nothing was read; of a label its case; of a label and a payload that too, at its type
   abbrev pub IsCaseRead : TypeTree → List ℕ → List NodeTree → Option (Bor (List ℕ) × Bor S) → Option V → Type 0
-  IsCaseRead T source [] case payload = Unit {0}
-  IsCaseRead T source (label ∷ []) (Some case) payload = IsLabelOf T source label case
+  IsCaseRead T source [] case None = Unit {0}
+  IsCaseRead T source (label ∷ []) (Some case) None = IsLabelOf T source label case
   IsCaseRead T source (label ∷ inner ∷ []) (Some case) (Some v) =
       IsLabelOf T source label case × IsReadAs tree of Full w w (type_tree case.1.now) source inner (Ok v)
   IsCaseRead T source _ case payload = ⊥

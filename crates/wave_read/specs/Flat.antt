@@ -1,12 +1,14 @@
 -- Values that stand for an option or a result of themselves.
-use Rattle.std.specs.Prelude.{ℕ, ◌≡◌, ◌≢◌, ◌⊎◌, Option, Some, None}
+use Rattle.std.specs.Prelude.{ℕ, ◌≡◌, ◌≢◌, ◌⊎◌, Option, Some, None, Result}
 use Rattle.std.specs.Borrow.{Bor}
 use Rattle.wave_wasm.specs.Types as type
 use Rattle.wave_wasm.specs.Types.{TypeTree, kind_of, count_of}
 use Rattle.wave_wasm.specs.declared.wasm.WasmTypeKind.TheVariants as kinds
+use Rattle.wave_lex.specs.Errors.{Diagnostic}
 use Rattle.wave_grammar.specs.TypedGrammar.{IsFlat}
 use Rattle.wave_grammar.specs.declared.form.NodeType.{NodeType}
 use Rattle.wave_grammar.specs.declared.form.NodeType.TheVariants as node_type
+use Rattle.wave_read.specs.Reading.{IsOfType}
 
 -- at a node of this type, a value of the option or the result is written as its flat payload alone
 abbrev pub IsFlatAt : TypeTree → NodeType → TypeTree → Type 0
@@ -29,6 +31,15 @@ IsAround type_tree T ty (Some whole) x = (type_tree whole.now ≡ T) × IsFlatAt
 abbrev pub IsAroundWhereDue : {S : Type 0} → (S → TypeTree) → Option TypeTree → NodeType → Option (Bor S) → Bor S → Type 0
 IsAroundWhereDue type_tree None ty around x = ⊥
 IsAroundWhereDue type_tree (Some T) ty around x = IsAround type_tree T ty around x
+
+-- a value that was read is of the type of a flat payload of the option or result
+abbrev pub IsOfFlatPart : {V : Type 0} → (V → TypeTree → Type 0) → TypeTree → Result V Diagnostic → Type 0
+IsOfFlatPart of T r = (ty : NodeType) × (U : TypeTree) × IsFlatAt T ty U × IsOfType of U r
+
+-- so where this option or result is around it
+abbrev pub IsOfPartWithin : {S V : Type 0} → (S → TypeTree) → (V → TypeTree → Type 0) → Option (Bor S) → Result V Diagnostic → Type 0
+IsOfPartWithin type_tree of None r = Unit {0}
+IsOfPartWithin type_tree of (Some whole) r = IsOfFlatPart of (type_tree whole.now) r
 
 -- a node of this type is read at the type U: at T itself, or at that of the flat payload that it stands for
 abbrev pub IsReadAt : TypeTree → NodeType → TypeTree → Type 0

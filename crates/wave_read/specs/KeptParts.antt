@@ -24,9 +24,9 @@ module _ {S V : Type 0} (type_tree : S → TypeTree) (tree : V → Value) (of : 
   abbrev pub AreKept : TypeTree → List ℕ → NodeType → List NodeTree → Frame S V → Type 0
   AreKept T source ty children kept = AreOfType T source ty children kept.around kept
 
-  -- so of the type that is due; where it is a plain one or none is due, nothing is kept
+  -- so of the type that is due; where it is a plain one or none is due, nothing is kept, and where none is due nothing stands around them
   abbrev pub AreKeptWhereDue : Option TypeTree → List ℕ → NodeType → List NodeTree → Frame S V → Type 0
-  AreKeptWhereDue None source ty children kept = IsBare kept.parts
+  AreKeptWhereDue None source ty children kept = IsBare kept.parts × (kept.around ≡ None)
   AreKeptWhereDue (Some T) source ty children kept = AreKept T source ty children kept × (IsPlain T → IsSimpleAt type_tree T kept.parts)
 
   -- where nothing is kept, nothing is due
@@ -42,5 +42,11 @@ module _ {S V : Type 0} (type_tree : S → TypeTree) (tree : V → Value) (of : 
   -- where memory is taken for the parts of the next part, it is taken for parts
   pub next_takes : (due : Option TypeTree) (source : List ℕ) (ty : NodeType) (children : List NodeTree) (kept : Frame S V)
       → AreKeptWhereDue due source ty children kept → TakesMemory (shown type_tree (next_due kept.parts)) → TakesMemory due
-  next_takes None source ty children kept bare takes = none_next kept.parts bare takes
+  next_takes None source ty children kept are takes = none_next kept.parts are.0 takes
   next_takes (Some T) source ty children kept are takes = λ plain. simple_next T kept.parts (are.1 plain) takes
+
+module _ {S V : Type 0} (type_tree : S → TypeTree) (tree : V → Value) (of : V → TypeTree → Type 0) (Full : TypeTree → Type 0) where
+  -- they are those of some children of a node, at whatever is due
+  abbrev pub AreKeptOfSome : Frame S V → Type 0
+  AreKeptOfSome kept =
+      (w : Order) × (due : Option TypeTree) × (source : List ℕ) × (ty : NodeType) × (children : List NodeTree) × AreKeptWhereDue type_tree tree of Full w due source ty children kept

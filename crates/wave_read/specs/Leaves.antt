@@ -4,6 +4,7 @@ use Rattle.wave_wasm.specs.Types as type
 use Rattle.wave_wasm.specs.Types.{TypeTree}
 use Rattle.wave_grammar.specs.SpannedTree.{slice}
 use Rattle.wave_grammar.specs.NodeTree.{NodeTree, node, no_nodes}
+use Rattle.wave_grammar.specs.NodeParts.{IsOneToken}
 use Rattle.wave_read.specs.declared.leaf.Leaf.{Leaf}
 
 -- the node that it would be
@@ -13,6 +14,10 @@ leaf_node l = node l.ty l.span no_nodes
 -- its text stands at its place
 abbrev pub IsLeafIn : List ℕ → Leaf → Type 0
 IsLeafIn source l = l.text.now ≡ slice source l.span
+
+-- it is one token of some text
+abbrev pub IsTokenOfSome : Leaf → Type 0
+IsTokenOfSome l = IsOneToken l.ty × ((source : List ℕ) × IsLeafIn source l)
 
 -- a simple type, or a type that has no values
 abbrev pub IsSimpleOrUnreadable : TypeTree → Type 0

@@ -21,6 +21,10 @@ PartsFact S V X =
     (S → TypeTree) → (V → Value) → (V → TypeTree → Type 0) → (TypeTree → Type 0) → Order → TypeTree → List ℕ → List NodeTree → X → Type 0
 
 module _ {S V X : Type 0} (Are : PartsFact S V X) (type_tree : S → TypeTree) (tree : V → Value) (of : V → TypeTree → Type 0) (Full : TypeTree → Type 0) where
+  -- these parts were read of some children of a node
+  abbrev pub WereRead : X → Type 0
+  WereRead x = (w : Order) × (T : TypeTree) × (source : List ℕ) × (children : List NodeTree) × Are type_tree tree of Full w T source children x
+
   -- the parts have this child too; or the value, a node of this type, is refused for the fault
   abbrev pub HasOneMore : Order → NodeType → TypeTree → List ℕ → List NodeTree → NodeTree → X → Option Fault → Type 0
   HasOneMore w ty T source children n x found =

@@ -1,5 +1,5 @@
 -- The parts of values of all kinds of types.
-use Rattle.std.specs.Prelude.{ℕ, ◌≡◌, List, [], Option, None}
+use Rattle.std.specs.Prelude.{ℕ, ◌≡◌, ◌⊎◌, List, [], Option, None}
 use Rattle.std.specs.Borrow.{Bor}
 use Rattle.wave_wasm.specs.Types as type
 use Rattle.wave_wasm.specs.Types.{TypeTree}
@@ -69,6 +69,12 @@ module _ {S V : Type 0} (type_tree : S → TypeTree) (tree : V → Value) (of : 
   AreParts T source ty children (parts.Entries x) = (ty ≡ kind.TupleSet) × AreEntries type_tree tree of Full w T source children x
 
 module _ {S V : Type 0} (type_tree : S → TypeTree) (tree : V → Value) (of : V → TypeTree → Type 0) (Full : TypeTree → Type 0) where
+  -- nothing is kept of these parts, or they were read of some children of a node
+  abbrev pub AreBareOrRead : Partial S V → Type 0
+  AreBareOrRead x =
+      IsBare x
+      ⊎ ((w : Order) × (T : TypeTree) × (source : List ℕ) × (ty : NodeType) × (children : List NodeTree) × AreParts type_tree tree of Full w T source ty children x)
+
   -- where they have a fault already, it is a refusal of this kind of the whole value, in whatever order
   abbrev pub AreDoomedAtOnce : TypeTree → NodeType → Partial S V → Type 0
   AreDoomedAtOnce T ty x =

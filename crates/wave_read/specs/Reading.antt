@@ -1,7 +1,7 @@
 -- What is read of a node at a type.
-use Rattle.std.specs.Prelude.{ℕ, ◌≡◌, ◌⊎◌, List, Option, Some, None, Result, IfErr}
+use Rattle.std.specs.Prelude.{ℕ, ◌≡◌, ◌⊎◌, List, Option, Some, None, Result, IfOk, IfErr}
 use Rattle.std.specs.declared.ops.Range.{Range}
-use Rattle.wave_wasm.specs.Types.{TypeTree}
+use Rattle.wave_wasm.specs.Types.{TypeTree, HasDistinctNames}
 use Rattle.wave_wasm.specs.Values.{Value}
 use Rattle.wave_lex.specs.Errors.{Diagnostic}
 use Rattle.wave_grammar.specs.FaultOrder.{Order}
@@ -13,11 +13,16 @@ use Rattle.wave_grammar.specs.Shared.ErrorSpans.{RefusesIn}
 use Rattle.wave_read.specs.Leaves.{leaf_node, IsLeafIn, IsSimpleOrUnreadable}
 use Rattle.wave_read.specs.declared.leaf.Leaf.{Leaf}
 
+-- a value that was read is of the type, where its names are distinct
+abbrev pub IsOfType : {V : Type 0} → (V → TypeTree → Type 0) → TypeTree → Result V Diagnostic → Type 0
+IsOfType of T r = IfOk r (λ v. HasDistinctNames T → of v T)
+
 module _ {V : Type 0} (tree : V → Value) (of : V → TypeTree → Type 0) (Full : TypeTree → Type 0) (o w : Order) where
-  -- the value of the node's tree at the type, or its refusal in these orders, which stands in the node
+  -- the value of the node's tree at the type, or its refusal in these orders, which stands in the node; a value is of the type, whatever the node is
   pub record IsReadAs (T : TypeTree) (source : List ℕ) (n : NodeTree) (r : Result V Diagnostic) : Type 0 where
     pub answer : Answers tree of Full o w T source n r
     pub within : IsValueOf source n → IfErr r (RefusesIn n)
+    pub typed : IsOfType of T r
 
   -- so at the type that is due; where none is, whatever was answered
   abbrev pub IsReadWhereDue : Option TypeTree → List ℕ → NodeTree → Result V Diagnostic → Type 0

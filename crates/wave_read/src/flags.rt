@@ -1,6 +1,6 @@
 //! Flags, read at their types.
 ghost use Rattle.std.specs.Prelude.{ℕ, List, ◌≡◌, IfOk, IfErr};
-ghost use Rattle.wave_wasm.specs.Types.{kind_of, flags_names};
+ghost use Rattle.wave_wasm.specs.Types.{HasDistinctNames, kind_of, flags_names};
 ghost use Rattle.wave_wasm.specs.Names.{AreAllOf, AreDistinct, found_in};
 ghost use Rattle.wave_wasm.specs.Borrowed.{texts};
 ghost use Rattle.wave_wasm.specs.ValueErrors.{unknown_case};
@@ -8,7 +8,7 @@ ghost use Rattle.wave_grammar.specs.FaultOrder.{Order};
 ghost use Rattle.wave_grammar.specs.NodeTree.{NodeTree, node, no_nodes, children_of};
 ghost use Rattle.wave_grammar.specs.declared.form.NodeType.TheVariants as node_type;
 ghost use Rattle.wave_grammar.specs.NodeFlags.{AreFlags, names_at};
-ghost use Rattle.wave_read.specs.Reading.{IsReadAs};
+ghost use Rattle.wave_read.specs.Reading.{IsReadAs, IsOfType};
 ghost use Rattle.wave_read.specs.NamedFlags.{flag_names, IsReadOrTold, IsTold, TellsCause, TellsUnknown, IsReadOfFlags};
 
 use crate::error::{ReadError, Reason};
@@ -27,7 +27,8 @@ pub(crate) fn read_flags<V: WasmValue>(
     flags: BTreeMap<&str, Span>,
 ) -> Result<V, ReadError>
     requires { kind_of (V.Type.tree ty.now) ≡ WasmTypeKind.Flags }
-    ensures { IsReadOfFlags V.tree V.is_of V.is_full (V.Type.tree ty.now) span flags.entry result }
+    ensures read { IsReadOfFlags V.tree V.is_of V.is_full (V.Type.tree ty.now) span flags.entry result }
+    ensures typed { IsOfType V.is_of (V.Type.tree ty.now) result }
 {
     told(read_names(alloc, ty, flags), span)
 }
@@ -51,8 +52,9 @@ fn read_names<V: WasmValue>(
     flags: BTreeMap<&str, Span>,
 ) -> Result<V, Fault>
     requires { kind_of (V.Type.tree ty.now) ≡ WasmTypeKind.Flags }
-    ensures { (source : List ℕ) (n : NodeTree) → AreFlags n → names_at source (children_of n) ≡ flag_names flags.entry
+    ensures read { (source : List ℕ) (n : NodeTree) → AreFlags n → names_at source (children_of n) ≡ flag_names flags.entry
         → IsReadOrTold V.tree V.is_of V.is_full (V.Type.tree ty.now) source n result }
+    ensures typed { IfOk result (λ val. HasDistinctNames (V.Type.tree ty.now) → V.is_of val (V.Type.tree ty.now)) }
 {
     let picked = picked(alloc, ty, &flags)?;
     match V::make_flags(alloc, ty, picked.as_slice()) {

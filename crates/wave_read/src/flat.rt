@@ -5,7 +5,7 @@ ghost use Rattle.wave_wasm.specs.Borrowed.{shown};
 ghost use Rattle.wave_grammar.specs.FaultOrder.{Order};
 ghost use Rattle.wave_grammar.specs.NodeTree.{NodeTree, type_of, place_of};
 ghost use Rattle.wave_read.specs.Reading.{IsReadAs};
-ghost use Rattle.wave_read.specs.Flat.{IsFlatAt, GivesFlatAt, IsAround};
+ghost use Rattle.wave_read.specs.Flat.{IsFlatAt, GivesFlatAt, IsAround, IsOfFlatPart};
 
 use crate::error::ReadError;
 use crate::fault::or_error_at;
@@ -72,7 +72,7 @@ pub(crate) fn type_of_parts<'ty, T: WasmType>(
     }
 }
 
-/// The option or the result around a flat payload that stands there.
+/// The option or the result around a flat payload that stands there, and was read at its type.
 #[inline(never)]
 pub(crate) fn around<V: WasmValue>(
     alloc: Global,
@@ -80,6 +80,7 @@ pub(crate) fn around<V: WasmValue>(
     span: Span,
     made: Result<V, ReadError>,
 ) -> Result<V, ReadError>
+    requires { IsOfFlatPart V.is_of (V.Type.tree ty.now) made }
     ensures { (o w : Order) (source : List ℕ) (n : NodeTree) (U : TypeTree) → IsFlatAt (V.Type.tree ty.now) (type_of n) U → place_of n ≡ span
         → IsReadAs V.tree V.is_of V.is_full o w U source n made → IsReadAs V.tree V.is_of V.is_full o w (V.Type.tree ty.now) source n result }
 {
@@ -88,8 +89,22 @@ pub(crate) fn around<V: WasmValue>(
         Err(error) => return Err(error),
     };
     match ty.kind() {
-        WasmTypeKind::Option => or_error_at(alloc, span, V::make_option(alloc, ty, Some(val))),
-        WasmTypeKind::Result => or_error_at(alloc, span, V::make_result(alloc, ty, Ok(Some(val)))),
+        WasmTypeKind::Option => {
+            let mut payload = Some(val);
+            or_error_at(
+                alloc,
+                span,
+                V::make_option_unchecked(alloc, ty, &mut payload),
+            )
+        }
+        WasmTypeKind::Result => {
+            let mut payload = Ok(Some(val));
+            or_error_at(
+                alloc,
+                span,
+                V::make_result_unchecked(alloc, ty, &mut payload),
+            )
+        }
         WasmTypeKind::Bool
         | WasmTypeKind::S8
         | WasmTypeKind::S16

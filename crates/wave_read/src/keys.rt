@@ -6,6 +6,7 @@ ghost use Rattle.wave_grammar.specs.Shared.NodeAccessors.{GivesBoolKey};
 ghost use Rattle.wave_grammar.specs.TypeErrors.{key_due};
 ghost use Rattle.wave_read.specs.Keys.{IsDetailed, IsKeyReadOf, IsMapKeyReadOf, RefusesInKey};
 ghost use Rattle.wave_read.specs.Leaves.{leaf_node, IsLeafIn};
+ghost use Rattle.wave_read.specs.Reading.{IsOfType};
 
 use crate::error::ReadError;
 use crate::leaf::Leaf;
@@ -20,6 +21,7 @@ impl<'src> Leaf<'src> {
     pub fn read_key<V: WasmValue>(&self, alloc: Global, ty: &V::Type) -> Result<V, ReadError>
         ensures answer { IsMapKeyReadOf V.tree V.is_of V.is_full (V.Type.tree ty.now) self.now result }
         ensures within { RefusesInKey self.now result }
+        ensures typed { (source : List ℕ) → IsLeafIn source self.now → IsOfType V.is_of (V.Type.tree ty.now) result }
     {
         match self.read_plain_key(alloc, ty) {
             Ok(key) => Ok(key),
@@ -45,6 +47,7 @@ impl<'src> Leaf<'src> {
     pub fn read_plain_key<V: WasmValue>(&self, alloc: Global, ty: &V::Type) -> Result<V, ReadError>
         ensures answer { IsKeyReadOf V.tree V.is_of V.is_full (V.Type.tree ty.now) self.now result }
         ensures within { RefusesInKey self.now result }
+        ensures typed { (source : List ℕ) → IsLeafIn source self.now → IsOfType V.is_of (V.Type.tree ty.now) result }
     {
         let kind = ty.kind();
         match kind {
@@ -82,6 +85,7 @@ impl<'src> Leaf<'src> {
     fn read_string_key<V: WasmValue>(&self, alloc: Global) -> Result<V, ReadError>
         ensures answer { IsKeyReadOf V.tree V.is_of V.is_full (type.simple type.string) self.now result }
         ensures within { RefusesInKey self.now result }
+        ensures typed { IsOfType V.is_of (type.simple type.string) result }
     {
         match self.as_str(alloc) {
             Ok(text) => self.made_string(alloc, text),

@@ -1,14 +1,11 @@
 //! Values of one token, read at types.
-ghost use Rattle.std.specs.Prelude.{ℕ, List, ◌≡◌, ◌≢◌, ◌++◌, IfOk, IfErr, MatchOption};
+ghost use Rattle.std.specs.Prelude.{ℕ, List, ◌≡◌, ◌≢◌, ◌++◌, IfOk, MatchOption};
 ghost use Rattle.wave_wasm.specs.Types as type;
 ghost use Rattle.wave_wasm.specs.TypeText.{kind_word};
 ghost use Rattle.wave_wasm.specs.ValueErrors.{unsupported_type};
-ghost use Rattle.wave_grammar.specs.FaultOrder.{Order};
 ghost use Rattle.wave_grammar.specs.NodeTree.{place_of};
 ghost use Rattle.wave_grammar.specs.NodeAccessors.{RefusedAs, GivesBool, GivesNumber, GivesChar};
-ghost use Rattle.wave_grammar.specs.TypedReading.{Answers};
 ghost use Rattle.wave_grammar.specs.Shared.TypedReading.{IsCaused, AnswersWhole};
-ghost use Rattle.wave_grammar.specs.Shared.ErrorSpans.{RefusesAt};
 ghost use Rattle.wave_read.specs.Errors.{IsMadeOrMemory, IsRefusedBy};
 ghost use Rattle.wave_read.specs.Leaves.{leaf_node, IsLeafIn};
 ghost use Rattle.wave_read.specs.Reading.{IsReadOfLeaf};
@@ -71,8 +68,7 @@ impl<'src> Leaf<'src> {
 
     /// A bool.
     pub(crate) fn read_bool<V: WasmValue>(&self, alloc: Global) -> Result<V, ReadError>
-        ensures answer { (o w : Order) (source : List ℕ) → Answers V.tree V.is_of V.is_full o w (type.simple type.bool) source (leaf_node self.now) result }
-        ensures within { IfErr result (RefusesAt (leaf_node self.now)) }
+        ensures { IsReadOfLeaf V.tree V.is_of V.is_full (type.simple type.bool) self.now result }
     {
         let val = self.as_bool()?;
         self.or_error_here(alloc, V::make_bool(alloc, val))

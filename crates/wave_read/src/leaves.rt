@@ -6,7 +6,8 @@ ghost use Rattle.wave_grammar.specs.NodeTree.{NodeTree, type_of, place_of};
 ghost use Rattle.wave_grammar.specs.declared.form.NodeType.TheVariants as node_type;
 ghost use Rattle.wave_read.specs.Flat.{IsFlatAt};
 ghost use Rattle.wave_read.specs.NamedFlags.{IsReadOfFlags};
-ghost use Rattle.wave_read.specs.Reading.{IsReadAs, IsReadOfLeaf};
+ghost use Rattle.wave_read.specs.Leaves.{IsTokenOfSome};
+ghost use Rattle.wave_read.specs.Reading.{IsOfType, IsReadAs, IsReadOfLeaf};
 
 use crate::enums::read_enum;
 use crate::error::ReadError;
@@ -24,13 +25,14 @@ use wave_lex::error::ParserErrorKind;
 use wave_lex::lex::Span;
 use wave_wasm::wasm::{WasmType, WasmTypeKind, WasmValue};
 
-/// The value of one token at the type.
+/// The value of one token, which stands in some text, at the type.
 #[inline(never)]
 pub(crate) fn read_leaf<V: WasmValue>(
     leaf: &Leaf<'_>,
     alloc: Global,
     ty: &V::Type,
 ) -> Result<V, ReadError>
+    requires { IsTokenOfSome leaf.now }
     ensures { IsReadOfLeaf V.tree V.is_of V.is_full (V.Type.tree ty.now) leaf.now result }
 {
     match flat_payload(ty, leaf.ty) {
@@ -109,7 +111,8 @@ fn flags_directly<V: WasmValue>(
     flags: BTreeMap<&str, Span>,
 ) -> Result<V, ReadError>
     requires { (U : TypeTree) → IsFlatAt (V.Type.tree ty.now) node_type.Flags U → ⊥ }
-    ensures { IsReadOfFlags V.tree V.is_of V.is_full (V.Type.tree ty.now) span flags.entry result }
+    ensures read { IsReadOfFlags V.tree V.is_of V.is_full (V.Type.tree ty.now) span flags.entry result }
+    ensures typed { IsOfType V.is_of (V.Type.tree ty.now) result }
 {
     if ty.kind() == WasmTypeKind::Flags {
         return read_flags(alloc, ty, span, flags);

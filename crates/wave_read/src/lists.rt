@@ -6,7 +6,7 @@ ghost use Rattle.wave_grammar.specs.FaultOrder.{Order};
 ghost use Rattle.wave_grammar.specs.NodeTree.{NodeTrees, node};
 ghost use Rattle.wave_grammar.specs.Shared.TypedReading.{IsOfLength, IsOtherLength};
 ghost use Rattle.wave_read.specs.ListParts.{AreItems, element_due};
-ghost use Rattle.wave_read.specs.PartSteps.{AddsPart, IsWholeOf};
+ghost use Rattle.wave_read.specs.PartSteps.{AddsPart, IsWholeOf, WereRead};
 
 use crate::error::{ReadError, Reason};
 use crate::fault::or_error_at;
@@ -88,8 +88,10 @@ impl<'ty, V: WasmValue> Items<'ty, V::Type, V> {
         }
     }
 
-    /// The list of these items, which stands here.
+    /// The list of these items, which stands here. They are of the element type, since they were read at
+    /// it, and as many as the type says, so their types aren't compared again.
     pub(crate) fn whole(self, alloc: Global, span: Span) -> Result<V, ReadError>
+        requires { WereRead AreItems V.Type.tree V.tree V.is_of V.is_full self }
         ensures { IsWholeOf AreItems V.Type.tree V.tree V.is_of V.is_full NodeType.List self.entry span result }
     {
         let Items {
@@ -103,7 +105,8 @@ impl<'ty, V: WasmValue> Items<'ty, V::Type, V> {
         if let Some(error) = held {
             return Err(error);
         }
-        or_error_at(alloc, span, V::make_list(alloc, ty, items))
+        let mut items = items;
+        or_error_at(alloc, span, V::make_list_unchecked(alloc, ty, &mut items))
     }
 }
 

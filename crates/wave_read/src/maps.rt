@@ -5,7 +5,7 @@ ghost use Rattle.wave_grammar.specs.FaultOrder.{Order};
 ghost use Rattle.wave_grammar.specs.NodeTree.{node, no_nodes};
 ghost use Rattle.wave_read.specs.Reading.{IsReadAs};
 ghost use Rattle.wave_read.specs.MapParts.{AreEntries, value_type_due};
-ghost use Rattle.wave_read.specs.PartSteps.{AddsKey, AddsPart, IsWholeOf};
+ghost use Rattle.wave_read.specs.PartSteps.{AddsKey, AddsPart, IsWholeOf, WereRead};
 
 use crate::error::ReadError;
 use crate::fault::{Fault, or_error_at};
@@ -84,16 +84,17 @@ impl<'ty, V: WasmValue> Entries<'ty, V::Type, V> {
         Ok(())
     }
 
-    /// The map of the entries, which stands here, each key once.
+    /// The map of the entries, each key once; it stands here. Keys and values were read at their types.
     pub(crate) fn whole(self, alloc: Global, span: Span) -> Result<V, ReadError>
+        requires { WereRead AreEntries V.Type.tree V.tree V.is_of V.is_full self }
         ensures { IsWholeOf AreEntries V.Type.tree V.tree V.is_of V.is_full NodeType.TupleSet self.entry span result }
     {
         let Entries { ty, entries, .. } = self;
-        let entries = match merged(alloc, entries) {
+        let mut entries = match merged(alloc, entries) {
             Ok(entries) => entries,
             Err(_) => return Err(ReadError::new(ParserErrorKind::OutOfMemory, span)),
         };
-        or_error_at(alloc, span, V::make_map(alloc, ty, entries))
+        or_error_at(alloc, span, V::make_map_unchecked(alloc, ty, &mut entries))
     }
 }
 

@@ -6,7 +6,7 @@ ghost use Rattle.wave_grammar.specs.declared.form.NodeType.TheVariants as node_t
 ghost use Rattle.wave_read.specs.Leaves.{leaf_node};
 ghost use Rattle.wave_read.specs.Reading.{IsReadAs};
 ghost use Rattle.wave_read.specs.Payloads.{AreOfSome, some_due};
-ghost use Rattle.wave_read.specs.PartSteps.{AddsPart, IsWholeOf};
+ghost use Rattle.wave_read.specs.PartSteps.{AddsPart, IsWholeOf, WereRead};
 
 use crate::error::ReadError;
 use crate::fault::or_error_at;
@@ -60,13 +60,21 @@ impl<'ty, V: WasmValue> SomePayload<'ty, V::Type, V> {
         Ok(())
     }
 
-    /// `some` of the payload that was read, at this place.
+    /// `some` of the payload that was read at its type, at this place.
     pub(crate) fn whole(self, alloc: Global, span: Span) -> Result<V, ReadError>
+        requires { WereRead AreOfSome V.Type.tree V.tree V.is_of V.is_full self }
         ensures { IsWholeOf AreOfSome V.Type.tree V.tree V.is_of V.is_full node_type.OptionSome self.entry span result }
     {
         let SomePayload { ty, due: _, made } = self;
         match made {
-            Some(Ok(val)) => or_error_at(alloc, span, V::make_option(alloc, ty, Some(val))),
+            Some(Ok(val)) => {
+                let mut payload = Some(val);
+                or_error_at(
+                    alloc,
+                    span,
+                    V::make_option_unchecked(alloc, ty, &mut payload),
+                )
+            }
             Some(Err(error)) => Err(error),
             None => Err(ReadError::new(ParserErrorKind::InvalidType, span)),
         }

@@ -11,7 +11,7 @@ ghost use Rattle.wave_read.specs.PlainReading.{IsPlain};
 ghost use Rattle.wave_read.specs.Reading.{IsReadAs, IsReadWhereDue, IsReadOfForm};
 ghost use Rattle.wave_lex.specs.Errors.{Says};
 ghost use Rattle.wave_read.specs.Flat.{IsFlatAt};
-ghost use Rattle.wave_read.specs.PartsOfKinds.{AreParts, AreNoItems, IsBare, IsSimpleAt, TakesEmptySet, next_due, AreNoPartsYet};
+ghost use Rattle.wave_read.specs.PartsOfKinds.{AreParts, AreBareOrRead, AreNoItems, IsBare, IsSimpleAt, TakesEmptySet, next_due, AreNoPartsYet};
 ghost use Rattle.wave_read.specs.declared.parts.Partial.TheVariants as parts;
 ghost use Rattle.wave_read.specs.declared.error.Reason.TheVariants as reason;
 ghost use Rattle.wave_read.specs.declared.fault.Fault.TheVariants as fault;
@@ -337,6 +337,7 @@ impl<'ty, V: WasmValue> Partial<'ty, V::Type, V> {
 
     /// The value of these parts, which stands here.
     pub(crate) fn whole(self, alloc: Global, span: Span) -> Result<V, ReadError>
+        requires { AreBareOrRead V.Type.tree V.tree V.is_of V.is_full self }
         ensures read { (w : Order) (T : TypeTree) (source : List ℕ) (of : NodeType) (children : List NodeTree)
             → AreParts V.Type.tree V.tree V.is_of V.is_full w T source of children self.entry
             → IsReadAs V.tree V.is_of V.is_full in_text w T source (node of span (node_trees children)) result }

@@ -11,7 +11,7 @@ ghost use Rattle.wave_lex.specs.declared.error.ParserErrorKind.TheVariants.{Inva
 ghost use Rattle.wave_read.specs.RecordParts.{AreFields, IsFieldKey, IsKeyFault, IsNamedAt, AreFull, IsLeftUnfilled};
 ghost use Rattle.wave_read.specs.RecordParts.{IsMissingOrMemory, IsToldAs, type_due, field_name, with_value};
 ghost use Rattle.wave_read.specs.declared.records.Field.{Field};
-ghost use Rattle.wave_read.specs.PartSteps.{AddsKey, AddsPart, IsWholeOf};
+ghost use Rattle.wave_read.specs.PartSteps.{AddsKey, AddsPart, IsWholeOf, WereRead};
 
 use crate::error::{ReadError, Reason, StaticDetail, repeated_words};
 use crate::fault::{Fault, or_error_at};
@@ -198,13 +198,18 @@ impl<'ty, V: WasmValue> Fields<'ty, V::Type, V> {
         }
     }
 
-    /// The record of the fields, which stands here.
+    /// The record of the fields, each of which was read at its type; it stands here.
     pub(crate) fn whole(self, alloc: Global, span: Span) -> Result<V, ReadError>
+        requires { WereRead AreFields V.Type.tree V.tree V.is_of V.is_full self }
         ensures { IsWholeOf AreFields V.Type.tree V.tree V.is_of V.is_full NodeType.TupleSet self.entry span result }
     {
         let Fields { ty, fields, .. } = self;
-        let fields = filled(alloc, fields, &span)?;
-        or_error_at(alloc, span, V::make_record(alloc, ty, fields))
+        let mut fields = filled(alloc, fields, &span)?;
+        or_error_at(
+            alloc,
+            span,
+            V::make_record_unchecked(alloc, ty, &mut fields),
+        )
     }
 }
 

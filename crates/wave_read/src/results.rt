@@ -9,8 +9,8 @@ ghost use Rattle.wave_grammar.specs.Shared.TypedReading.{IsCaused, IsPayloadOf, 
 ghost use Rattle.wave_grammar.specs.Shared.ErrorSpans.{RefusesInPart};
 ghost use Rattle.wave_read.specs.Leaves.{leaf_node};
 ghost use Rattle.wave_read.specs.Reading.{IsReadAs};
-ghost use Rattle.wave_read.specs.Payloads.{AreOfResult, IsReadPayload, payload_cause, result_node, result_name, result_with, result_due};
-ghost use Rattle.wave_read.specs.PartSteps.{AddsPart};
+ghost use Rattle.wave_read.specs.Payloads.{AreOfResult, IsOfPayloadType, IsReadPayload, payload_cause, result_node, result_name, result_with, result_due};
+ghost use Rattle.wave_read.specs.PartSteps.{AddsPart, WereRead};
 
 use crate::error::ReadError;
 use crate::fault::or_error_at;
@@ -70,8 +70,9 @@ impl<'ty, V: WasmValue> ResultPayload<'ty, V::Type, V> {
         Ok(())
     }
 
-    /// `ok` or `err` with the payload that was read, or without one, at this place.
+    /// `ok` or `err` with the payload that was read at its type, or without one, at this place.
     pub(crate) fn whole(self, alloc: Global, span: Span) -> Result<V, ReadError>
+        requires { WereRead AreOfResult V.Type.tree V.tree V.is_of V.is_full self }
         ensures { (o w : Order) (T : TypeTree) (source : List ℕ) (children : List NodeTree) → AreOfResult V.Type.tree V.tree V.is_of V.is_full w T source children self.entry
             → IsReadAs V.tree V.is_of V.is_full o w T source (node (result_node self.entry.is_ok) span (node_trees children)) result }
     {
@@ -82,11 +83,14 @@ impl<'ty, V: WasmValue> ResultPayload<'ty, V::Type, V> {
             made,
         } = self;
         match read_payload(alloc, case_name(is_ok), due, made, span.start..span.end) {
-            Ok(payload) => or_error_at(
-                alloc,
-                span,
-                V::make_result(alloc, ty, case_with(is_ok, payload)),
-            ),
+            Ok(payload) => {
+                let mut payload = case_with(is_ok, payload);
+                or_error_at(
+                    alloc,
+                    span,
+                    V::make_result_unchecked(alloc, ty, &mut payload),
+                )
+            }
             Err(error) => Err(error),
         }
     }
@@ -135,6 +139,9 @@ fn read_payload<V: WasmValue>(
     ensures within { (w : Order) (source : List ℕ) (children : List NodeTree) (n : NodeTree) → place_of n ≡ span
         → IsReadPayload V.tree V.is_of V.is_full w (shown V.Type.tree due.entry) source children made
         → IsPayloadOf source (first_of children) → IfErr result (RefusesInPart n (first_of children)) }
+    ensures typed { (w : Order) (source : List ℕ) (children : List NodeTree)
+        → IsReadPayload V.tree V.is_of V.is_full w (shown V.Type.tree due.entry) source children made
+        → IfOk result (IsOfPayloadType V.is_of (shown V.Type.tree due.entry)) }
 {
     match due {
         Some(_) => match made {

@@ -5,7 +5,7 @@ ghost use Rattle.wave_wasm.specs.ValueErrors as causes;
 ghost use Rattle.wave_lex.specs.Errors.{caused, refusal_of};
 ghost use Rattle.wave_grammar.specs.FaultOrder.{Order};
 ghost use Rattle.wave_read.specs.TupleParts.{IsRow, item_due};
-ghost use Rattle.wave_read.specs.PartSteps.{AddsPart, IsWholeOf};
+ghost use Rattle.wave_read.specs.PartSteps.{AddsPart, IsWholeOf, WereRead};
 
 use crate::error::{ReadError, Reason};
 use crate::fault::{Fault, or_error_at};
@@ -100,8 +100,9 @@ impl<'ty, V: WasmValue> TupleItems<'ty, V::Type, V> {
         Some(wrong_number(span, want, count))
     }
 
-    /// The tuple of these items, which stands here.
+    /// The tuple of these items, each of which was read at its type; it stands here.
     pub(crate) fn whole(self, alloc: Global, span: Span) -> Result<V, ReadError>
+        requires { WereRead IsRow V.Type.tree V.tree V.is_of V.is_full self }
         ensures { IsWholeOf IsRow V.Type.tree V.tree V.is_of V.is_full NodeType.Tuple self.entry span result }
     {
         let TupleItems {
@@ -114,7 +115,8 @@ impl<'ty, V: WasmValue> TupleItems<'ty, V::Type, V> {
         if count != want {
             return Err(wrong_number(span, want, count));
         }
-        or_error_at(alloc, span, V::make_tuple(alloc, ty, items))
+        let mut items = items;
+        or_error_at(alloc, span, V::make_tuple_unchecked(alloc, ty, &mut items))
     }
 }
 

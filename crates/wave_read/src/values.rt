@@ -11,8 +11,8 @@ ghost use Rattle.wave_grammar.specs.declared.form.NodeType.{NodeType};
 ghost use Rattle.wave_grammar.specs.declared.form.NodeType.TheVariants as node_type;
 ghost use Rattle.wave_read.specs.PlainReading.{IsReadSparing, TakesMemory};
 ghost use Rattle.wave_read.specs.Reading.{IsReadAs};
-ghost use Rattle.wave_read.specs.Flat.{IsAround, IsAroundWhereDue, IsCounted, ReadsFlags, ReadsNoRecord};
-ghost use Rattle.wave_read.specs.KeptParts.{AreKeptWhereDue};
+ghost use Rattle.wave_read.specs.Flat.{IsAround, IsAroundWhereDue, IsCounted, IsOfPartWithin, ReadsFlags, ReadsNoRecord};
+ghost use Rattle.wave_read.specs.KeptParts.{AreKeptOfSome, AreKeptWhereDue};
 ghost use Rattle.wave_read.specs.PartsOfKinds.{AreDoomedAtOnce, next_due};
 
 use crate::error::{ReadError, Reason};
@@ -62,9 +62,11 @@ impl<'ty, V: WasmValue> ValueBuilder<'ty, V> {
         }
     }
 
-    /// What is read of a node of one token, of this text.
+    /// What is read of a node of one token, of this text, which stands there in some source.
     #[inline(always)]
     pub fn token(self, alloc: Global, ty: NodeType, span: Span, text: &str) -> Result<V, ReadError>
+        requires one { IsOneToken ty }
+        requires text { (source : List ℕ) × (text.now ≡ slice source span) }
         ensures { (o w : Order) (source : List ℕ) → IsOneToken ty → text.now ≡ slice source span
             → IsReadSparing V.tree V.is_of V.is_full o w (shown V.Type.tree self.entry.due) source (node ty span no_nodes) result }
     {
@@ -129,7 +131,8 @@ impl<'ty, V: WasmValue> ValueBuilder<'ty, V> {
     }
 }
 
-/// What was read of a node that stands there, with the option or the result that is around it.
+/// What was read of a node that stands there, with the option or the result that is around it: at the type
+/// of the flat payload, where one is.
 pub fn surrounded<V: WasmValue>(
     alloc: Global,
     whole: Option<&V::Type>,
@@ -137,6 +140,7 @@ pub fn surrounded<V: WasmValue>(
     span: Span,
     made: Result<V, ReadError>,
 ) -> Result<V, ReadError>
+    requires { IsOfPartWithin V.Type.tree V.is_of whole made }
     ensures { (o w : Order) (T : TypeTree) (source : List ℕ) (n : NodeTree) → IsAround V.Type.tree T (type_of n) whole.entry ty.entry → place_of n ≡ span
         → IsReadAs V.tree V.is_of V.is_full o w (V.Type.tree ty.now) source n made → IsReadAs V.tree V.is_of V.is_full o w T source n result }
 {
@@ -226,8 +230,9 @@ impl<'ty, V: WasmValue> Frame<'ty, V::Type, V> {
         self.parts.push_part(alloc, made)
     }
 
-    /// What is read of a node that stands here and has these parts.
+    /// What is read of a node that stands here and has these parts, which were read of a node's children.
     pub fn whole(self, alloc: Global, span: Span) -> Result<V, ReadError>
+        requires { AreKeptOfSome V.Type.tree V.tree V.is_of V.is_full self }
         ensures { (w : Order) (due : Option TypeTree) (source : List ℕ) (ty : NodeType) (children : List NodeTree)
             → AreKeptWhereDue V.Type.tree V.tree V.is_of V.is_full w due source ty children self.entry
             → IsReadSparing V.tree V.is_of V.is_full in_text w due source (node ty span (node_trees children)) result }

@@ -8,7 +8,7 @@ ghost use Rattle.wave_grammar.specs.declared.form.NodeType.TheVariants as node_t
 ghost use Rattle.wave_grammar.specs.Shared.TypedReading.{IsCaused};
 ghost use Rattle.wave_read.specs.Leaves.{leaf_node};
 ghost use Rattle.wave_read.specs.CaseParts.{AreCaseParts, payload_due};
-ghost use Rattle.wave_read.specs.PartSteps.{AddsKey, AddsPart, IsWholeOf};
+ghost use Rattle.wave_read.specs.PartSteps.{AddsKey, AddsPart, IsWholeOf, WereRead};
 ghost use Rattle.wave_read.specs.Reading.{IsReadOfLeaf};
 
 use crate::enums::no_case;
@@ -93,8 +93,9 @@ impl<'ty, V: WasmValue> CasePayload<'ty, V::Type, V> {
         drop(self.payload.replace(val));
     }
 
-    /// The variant of the case and the payload that were read, at this place.
+    /// The variant of the case and the payload that were read, the payload at its type, at this place.
     pub(crate) fn whole(self, alloc: Global, span: Span) -> Result<V, ReadError>
+        requires { WereRead AreCaseParts V.Type.tree V.tree V.is_of V.is_full self }
         ensures { IsWholeOf AreCaseParts V.Type.tree V.tree V.is_of V.is_full node_type.VariantWithPayload self.entry span result }
     {
         let CasePayload { ty, case, payload } = self;
@@ -102,7 +103,12 @@ impl<'ty, V: WasmValue> CasePayload<'ty, V::Type, V> {
             (Some((name, _)), Some(val)) => (name, val),
             _ => return Err(ReadError::new(ParserErrorKind::InvalidType, span)),
         };
-        or_error_at(alloc, span, V::make_variant(alloc, ty, name, Some(val)))
+        let mut payload = Some(val);
+        or_error_at(
+            alloc,
+            span,
+            V::make_variant_unchecked(alloc, ty, name, &mut payload),
+        )
     }
 }
 

@@ -10,7 +10,7 @@ use Rattle.wave_wasm.specs.declared.wasm.WasmTypeKind.{WasmTypeKind}
 use Rattle.wave_wasm.specs.declared.wasm.WasmTypeKind.TheVariants as kinds
 use Rattle.wave_lex.specs.Errors.{Diagnostic}
 use Rattle.wave_lex.specs.declared.error.ParserErrorKind.TheVariants.{InvalidType}
-use Rattle.std.specs.Prelude.{IfErr}
+use Rattle.std.specs.Prelude.{IfErr, IfSome, IfNone}
 use Rattle.wave_grammar.specs.FaultOrder.{Order}
 use Rattle.wave_grammar.specs.Shared.ErrorSpans.{RefusesIn, RefusesAt, RefusesInPart}
 use Rattle.wave_grammar.specs.NodeTree.{NodeTree, type_of, place_of}
@@ -32,6 +32,15 @@ module _ {V S : Type 0} (tree : V → Value) (of : V → TypeTree → Type 0) (F
   pub record_read : (source : List ℕ) (n : NodeTree) (due : Option TypeTree) (around : Option (Bor S)) (x : Bor S) (r : Result V Diagnostic) → type_of n ≡ kind.TupleSet → IsAroundWhereDue type_tree due kind.TupleSet around x → ((T : TypeTree) → IsAround type_tree T (type_of n) around x → IsReadAs tree of Full o w T source n r) → IsReadWhereDue tree of Full o w due source n r
   record_read source n None around x r set is read = tt
   record_read source n (Some T) around x r set is read = read T (subst (λ (ty : NodeType). IsAround type_tree T ty around x) (sym set) is)
+
+-- what follows from what holds of a value that is there, and from what holds where none is
+pub where_some : {A : Type 0} (P Q : A → Type 0) (o : Option A) → ((x : A) → P x → Q x) → IfSome o P → IfSome o Q
+where_some P Q None step h = tt
+where_some P Q (Some x) step h = step x h
+
+pub where_none : {A P Q : Type 0} (o : Option A) → (P → Q) → IfNone o P → IfNone o Q
+where_none None step h = step h
+where_none (Some x) step h = tt
 
 -- a refusal of a field's node stands in it
 pub field_told : {V : Type 0} (n : NodeTree) (o : Option NodeTree) (m : NodeTree) (r : Result V Diagnostic) → o ≡ Some m → IfErr r (RefusesIn m) → IfErr r (RefusesInPart n o)

@@ -14,7 +14,7 @@ use Rattle.wave_wasm.specs.Types as type
 use Rattle.wave_wasm.specs.Types.{TypeTree, Fields, HasDistinctNames, field_names}
 use Rattle.wave_wasm.specs.Values.{Value}
 use Rattle.wave_wasm.specs.Borrowed.{shown_fields}
-use Rattle.wave_wasm.specs.ConstructorContracts.{MakesRecord, FullRecord}
+use Rattle.wave_wasm.specs.ConstructorContracts.{MakesRecord, FullRecord, TypedRecord}
 use Rattle.wave_wasm.specs.declared.wasm.WasmValueError.{WasmValueError}
 use Rattle.wave_lex.specs.Errors.{Diagnostic, refusal_of}
 use Rattle.wave_lex.specs.declared.error.ParserErrorKind.TheVariants as error
@@ -38,7 +38,8 @@ use Rattle.wave_grammar.proofs.ByKind.Tuples.{place_has, map_has}
 use Rattle.wave_grammar.proofs.Fields.Lookup.{take_next, take_whole, map_last}
 use Rattle.wave_grammar.proofs.Fields.Entries.{AreFieldsOf, record_nodes, fields_of_entries, entry_found, not_both, some_map}
 use Rattle.wave_grammar.proofs.Fields.FieldOrder.{unknown_blamed}
-use Rattle.wave_grammar.proofs.Fields.Reading.{RecordType, names_are, fields_distinct, given_fields, look_all, FieldIsRead, FieldsRead, record_reads, record_full}
+use Rattle.wave_grammar.proofs.Fields.Reading as reading
+use Rattle.wave_grammar.proofs.Fields.Reading.{RecordType, PartsDistinct, names_are, fields_distinct, given_fields, look_all, FieldIsRead, FieldsRead, record_reads, record_full}
 use Rattle.wave_grammar.proofs.ErrorSpans.Nodes.{BelongsTo, PairBelongs, entries_belong}
 use Rattle.wave_read.specs.Errors.{IsMadeOrMemory}
 use Rattle.wave_read.proofs.Errors.{made_anew}
@@ -209,6 +210,11 @@ module _ {V : Type 0} (tree : V → Value) (of : V → TypeTree → Type 0) (Ful
   -- the invariant of the loop holds behind the next field
   pub fields_kept : (ps : List (List ℕ × TypeTree)) (es : List PlacedEntry) (old new : List (Bor (List ℕ) × V)) (i : ℕ) (name : List ℕ) (E : TypeTree) (key : Bor (List ℕ)) (v : V) → HasAt ps i (name, E) → FieldsRead tree of Full (take i ps) es old → key.now ≡ name → FieldIsRead tree of Full E name es v → new ≡ old ++ (key, v) ∷ [] → FieldsRead tree of Full (take (i + 1) ps) es new
   fields_kept ps es old new i name E key v typed before same now kept = rw (add-one, kept) (read_next ps es old i name E key v typed before same now)
+
+  -- behind the last of the parts a record of the type has the fields
+  pub record_typed : (T : TypeTree) (parts : List (List ℕ × TypeTree)) (es : List PlacedEntry) (i : ℕ) (hs : List (Bor (List ℕ) × V)) → RecordType T parts → PartsDistinct parts → length parts ≤ i → FieldsRead tree of Full (take i parts) es hs → TypedRecord of T hs
+  record_typed T parts es i hs is apart le read =
+      reading.record_typed tree of Full T is.fields es hs is.is (subst (λ (ps : List (List ℕ × TypeTree)). AreDistinct (names_of ps)) is.parts_are apart.names) (subst (λ (ps : List (List ℕ × TypeTree)). FieldsRead tree of Full ps es hs) (take_whole parts i le ∙ is.parts_are) read)
 
   -- the record was made, or its constructor refused
   record_made : (T : TypeTree) (parts : List (List ℕ × TypeTree)) (source : List ℕ) (n : NodeTree) (t : SpannedTree) (given : List (List ℕ × NodeTree)) (names : List (List ℕ)) (old left : BTreeMap (Bor (List ℕ)) (Bor NodeTree)) (hs : List (Bor (List ℕ) × V)) (m : Result V WasmValueError) (r : Result V Diagnostic) → (is : RecordType T parts) → HasDistinctNames T → (stands : IsNodeOf source n t) → (fields : IsFieldsOf source n given) → HoldsFields old given → names ≡ names_of parts → Removed names old left → btree_map_len left ≡ 0 → FieldsRead tree of Full parts (entry_list (record_nodes source n t stands fields.is_set).given) hs → IfOk m (MakesRecord tree of T hs) → IfErr m (FullRecord of Full T hs) → IsMade n m r → MatchResult r (IsTypedValue tree of T t) (IsBlamed Full by_type w T t)

@@ -116,4 +116,4 @@ module _ {V : Type 0} (tree : V → Value) (of : V → TypeTree → Type 0) (Ful
   pub read_by_type : (due : Option TypeTree) (source : List ℕ) (n : NodeTree) (r : Result V Diagnostic) → ((T : TypeTree) → due ≡ Some T → ReadsNoRecord T (type_of n)) → ((T : TypeTree) → due ≡ Some T → IsCounted T (type_of n) (length (children_of n))) → IsReadSparing tree of Full in_text w due source n r → IsReadSparing tree of Full by_type w due source n r
   read_by_type None source n r no_record counted h = h
   read_by_type (Some T) source n r no_record counted h =
-      (record { answer = λ t is distinct. type_blamed T source n t r is (no_record T refl) (counted T refl) (h.0.answer t is distinct); within = h.0.within }, h.1)
+      (record { answer = λ t is distinct. type_blamed T source n t r is (no_record T refl) (counted T refl) (h.0.answer t is distinct); within = h.0.within; typed = h.0.typed }, h.1)

@@ -205,7 +205,8 @@ impl<'source> Tokens<'source> {
         Ok(parts)
     }
 
-    /// Reads a value and the close parenthesis after it, in a node after these parts.
+    /// Reads a value and the close parenthesis after it, in a node after these parts, where the value
+    /// stands next.
     #[cycle(parser)]
     #[inline(never)]
     fn parse_payload<P: Builder>(
@@ -217,6 +218,7 @@ impl<'source> Tokens<'source> {
         start: usize,
         parts: P::Parts,
     ) -> Result<P::Made, ReadError>
+        requires { (front : List NodeTree) × TakesPart ty front × P.are_parts builder self.old.place.lexer.source ty front parts }
         ensures led { GivesWithin result (levels + 1) due.value (due.payload ∷ []) self.old.place self.new.place }
         ensures tree { IfOk result (λ made. (front : List NodeTree) → TakesPart ty front → P.are_parts builder self.old.place.lexer.source ty front parts
             → IsBuilt (P.is_made builder) self.old.place (IsPayload levels ty start front self.old.place self.new.place) made) }
@@ -346,6 +348,7 @@ impl<'source> Tokens<'source> {
         start: usize,
         key: P::Parts,
     ) -> Result<P::Made, ReadError>
+        requires { (first : NodeTree) × P.are_parts builder self.old.place.lexer.source node_type.TupleSet (first ∷ []) key }
         ensures led { GivesWithin result (levels + 1) due.value (due.entries ∷ []) self.old.place self.new.place }
         ensures tree { IfOk result (λ made. (first : NodeTree) → P.are_parts builder self.old.place.lexer.source node_type.TupleSet (first ∷ []) key
             → IsBuilt (P.is_made builder) self.old.place (IsOfEntries levels start first self.old.place self.new.place) made) }

@@ -1,8 +1,8 @@
 //! What is read of nodes, in the order of their types.
-ghost use Rattle.std.specs.Prelude.{ℕ, List, ◌≡◌, ◌≢◌, ◌<◌, Some, take, length, IfOk, IfErr, MatchBool};
+ghost use Rattle.std.specs.Prelude.{ℕ, List, [], ◌≡◌, ◌≢◌, ◌<◌, Option, Some, Err, take, length, IfOk, IfErr, IfSome, IfNone, MatchBool};
 ghost use Rattle.wave_wasm.specs.Types.{TypeTree, kind_of};
 ghost use Rattle.wave_wasm.specs.Borrowed.{shown};
-ghost use Rattle.wave_grammar.specs.FaultOrder.{by_type};
+ghost use Rattle.wave_grammar.specs.FaultOrder.{Order, by_type};
 ghost use Rattle.wave_grammar.specs.NodeTree.{node, type_of, place_of, children_of};
 ghost use Rattle.wave_grammar.specs.TypedReading.{IsValueOf};
 ghost use Rattle.wave_grammar.specs.NodeAccessors.{RefusedAs, shown_node};
@@ -12,7 +12,9 @@ ghost use Rattle.wave_grammar.specs.FlagParts.{AreFlagsOf, flag_nodes};
 ghost use Rattle.wave_grammar.specs.NodeParts.{IsOfParts, TakesKey, TakesPart};
 ghost use Rattle.wave_read.specs.PlainReading.{IsReadSparing};
 ghost use Rattle.wave_read.specs.Reading.{IsReadAs};
-ghost use Rattle.wave_read.specs.Flat.{IsAround, ReadsNoRecord};
+ghost use Rattle.wave_read.specs.Flat.{IsAround, IsCounted, ReadsNoRecord};
+ghost use Rattle.wave_read.specs.KeptParts.{AreKeptWhereDue};
+ghost use Rattle.wave_read.specs.PartsOfKinds.{AreDoomedAtOnce};
 ghost use Rattle.wave_tree.specs.Private.NodeForms.{IsOfOneToken};
 
 use crate::ast::{Node, NodeType};
@@ -24,7 +26,7 @@ use wave_lex::lex::Span;
 use wave_read::error::ReadError;
 use wave_read::fault::or_error_at;
 use wave_read::records::left_out;
-use wave_read::values::{ValueBuilder, surrounded};
+use wave_read::values::{Frame, ValueBuilder, surrounded};
 use wave_wasm::wasm::{WasmType, WasmTypeKind, WasmValue};
 
 impl Node {
@@ -140,7 +142,7 @@ impl Node {
         let ty = self.ty();
         let mut parts = builder.begin(alloc, ty);
         let nodes = self.nodes();
-        if let Some(error) = parts.refused(self.span(), nodes.len()) {
+        if let Some(error) = self.refused_at_once(&parts) {
             return Ok(Err(error));
         }
         for i in 0..nodes.len() {
@@ -154,6 +156,21 @@ impl Node {
             }
         }
         Ok(parts.whole(alloc, self.span()))
+    }
+
+    /// The refusal of a node that has parts before any of them is read: where the type takes no such form,
+    /// or tuples of another number of items.
+    fn refused_at_once<V: WasmValue>(&self, parts: &Frame<'_, V::Type, V>) -> Option<ReadError>
+        ensures refused { IfSome result (λ error. (w : Order) (due : Option TypeTree) (source : List ℕ) → IsOfParts (type_of self.now)
+            → AreKeptWhereDue V.Type.tree V.tree V.is_of V.is_full w due source (type_of self.now) [] parts.now
+            → ((T : TypeTree) → due ≡ Some T → AreDoomedAtOnce V.Type.tree V.tree V.is_of V.is_full T (type_of self.now) parts.now.parts)
+            → IsReadSparing V.tree V.is_of V.is_full by_type w due source self.now (Err error)) }
+        ensures counted { IfNone result ((w : Order) (T : TypeTree) (source : List ℕ) → IsOfParts (type_of self.now)
+            → AreKeptWhereDue V.Type.tree V.tree V.is_of V.is_full w (Some T) source (type_of self.now) [] parts.now
+            → AreDoomedAtOnce V.Type.tree V.tree V.is_of V.is_full T (type_of self.now) parts.now.parts
+            → IsCounted T (type_of self.now) (length (children_of self.now))) }
+    {
+        parts.refused(self.span(), self.nodes().len())
     }
 
     /// A record: its keys, then each field of the type, in the type's order, read from the entry of its
@@ -190,7 +207,11 @@ impl Node {
         if !nodes.is_empty() {
             return Err(self.read_error(ParserErrorKind::InvalidValue));
         }
-        or_error_at(alloc, self.span(), V::make_record(alloc, ty, fields))
+        or_error_at(
+            alloc,
+            self.span(),
+            V::make_record_unchecked(alloc, ty, &mut fields),
+        )
     }
 
     /// The value of the record's field of this name: that of its node, or `none` where an option is

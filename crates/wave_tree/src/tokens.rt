@@ -11,7 +11,7 @@ ghost use Rattle.wave_lex.specs.Errors.{Says};
 ghost use Rattle.wave_lex.specs.Tokenization.{span};
 ghost use Rattle.wave_tree.specs.UntypedCall.{AreParamsTaken, RefusesTuple};
 ghost use Rattle.wave_read.specs.PlainReading.{IsPlain};
-ghost use Rattle.wave_grammar.specs.NodeParts.{IsOneToken, TakesKey, TakesPart};
+ghost use Rattle.wave_grammar.specs.NodeParts.{ArePartsOfSome, IsOneToken, TakesKey, TakesPart};
 ghost use Rattle.wave_grammar.specs.NodeTree.{NodeTree, node, no_nodes, node_trees};
 ghost use Rattle.wave_tree.specs.ParsedNodes.{IsNodeTaken, IsSound};
 ghost use Rattle.wave_tree.specs.FromStr.{IsValueTaken, RefusesValue, IsCausedBetween};
@@ -312,7 +312,8 @@ impl<'source> Tokens<'source> {
         builder.leaf(alloc, ty, self.span(), self.slice())
     }
 
-    /// What is made of a node from `start` to the last token, of these parts.
+    /// What is made of a node from `start` to the last token, of these parts, which were made of a
+    /// node's children.
     pub(crate) fn whole<P: Builder>(
         &self,
         alloc: Global,
@@ -321,6 +322,7 @@ impl<'source> Tokens<'source> {
         start: usize,
         parts: P::Parts,
     ) -> P::Made
+        requires { ArePartsOfSome (P.are_parts builder) ty parts }
         ensures { (children : List NodeTree) → P.are_parts builder self.now.place.lexer.source ty children parts
             → P.is_made builder self.now.place.lexer.source (node ty (span start self.now.place.lexer.end) (node_trees children)) result }
     {

@@ -29,3 +29,4 @@ pub mod FaultLaws
 pub mod Beginnings
 pub mod FoundPlaces
 pub mod DistinctPlaces
+pub mod DistinctTypes

@@ -7,6 +7,7 @@ ghost use Rattle.wave_wasm.specs.Borrowed.{texts, named};
 ghost use Rattle.wave_type.specs.Private.TypeModel.{IsSimple};
 ghost use Rattle.wave_type.specs.TypeMade.{simple_type, record_type, tuple_type, variant_type, enum_type, flags_type, map_type};
 
+use self::distinct::{cases_are_distinct, fields_are_distinct};
 use self::index::first_places;
 use std::alloc::{AllocError, Global};
 use std::collections::BTreeMap;
@@ -16,6 +17,7 @@ use wave_wasm::wasm::WasmTypeKind;
 
 mod conversion;
 mod display;
+mod distinct;
 mod equality;
 mod index;
 pub(crate) mod labels;
@@ -38,7 +40,8 @@ enum SimpleType {
     String,
 }
 
-// Beside names stands where each of them stands first.
+// Beside names stands where each of them stands first, and beside fields and cases whether no name
+// stands twice within the type, their own types included.
 #[cycle(types)]
 #[derive(Debug, Drop)]
 enum Shape {
@@ -47,9 +50,9 @@ enum Shape {
     F64,
     List(Rc<Type>),
     FixedLengthList(Rc<(Type, u32)>),
-    Record(Rc<(Vec<(String, Type)>, BTreeMap<String, usize>)>),
+    Record(Rc<(Vec<(String, Type)>, BTreeMap<String, usize>, bool)>),
     Tuple(Rc<Vec<Type>>),
-    Variant(Rc<(Vec<(String, Option<Type>)>, BTreeMap<String, usize>)>),
+    Variant(Rc<(Vec<(String, Option<Type>)>, BTreeMap<String, usize>, bool)>),
     Enum(Rc<(Vec<String>, BTreeMap<String, usize>)>),
     Option(Rc<Type>),
     Result(Rc<(Option<Type>, Option<Type>)>),
@@ -272,8 +275,9 @@ impl Type {
             owned.push((name, ty))?;
         }
         let places = first_places(alloc, &owned)?;
+        let distinct = fields_are_distinct(&owned, &places);
         Ok(Some(Type {
-            shape: Shape::Record(Rc::new(alloc, (owned, places))?),
+            shape: Shape::Record(Rc::new(alloc, (owned, places, distinct))?),
         }))
     }
 
@@ -296,8 +300,9 @@ impl Type {
             owned.push((name, payload))?;
         }
         let places = first_places(alloc, &owned)?;
+        let distinct = cases_are_distinct(&owned, &places);
         Ok(Some(Type {
-            shape: Shape::Variant(Rc::new(alloc, (owned, places))?),
+            shape: Shape::Variant(Rc::new(alloc, (owned, places, distinct))?),
         }))
     }
 

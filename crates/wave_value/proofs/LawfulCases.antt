@@ -29,12 +29,13 @@ apart (case_of n Q more) name other P none (inl is) = λ e. none.0 (sym e ∙ sy
 apart (case_of n Q more) name other P none (inr h) = apart more name other P none.1 h
 
 -- where no name stands twice, each case is the first of its name
-first_of : (cs : Cases) (name : List ℕ) (P : Option TypeTree) → AreDistinct (case_names cs) → SomeOf (λ c. c ≡ (name, P)) (case_list cs) → IsFirstCase (case_list cs) name P
+pub first_of : (cs : Cases) (name : List ℕ) (P : Option TypeTree) → AreDistinct (case_names cs) → SomeOf (λ c. c ≡ (name, P)) (case_list cs) → IsFirstCase (case_list cs) name P
 first_of no_cases name P distinct h = absurd h
 first_of (case_of n Q more) name P distinct (inl is) = inl (sym (ap (λ (c : List ℕ × Option TypeTree). c.0) is), sym (ap (λ (c : List ℕ × Option TypeTree). c.1) is))
 first_of (case_of n Q more) name P distinct (inr h) = inr (apart more name n P distinct.0 h, first_of more name P distinct.1 h)
 
-one_first : (cs : List (List ℕ × Option TypeTree)) (name : List ℕ) (P Q : Option TypeTree) → IsFirstCase cs name P → IsFirstCase cs name Q → Q ≡ P
+-- a name has one first case
+pub one_first : (cs : List (List ℕ × Option TypeTree)) (name : List ℕ) (P Q : Option TypeTree) → IsFirstCase cs name P → IsFirstCase cs name Q → Q ≡ P
 one_first [] name P Q h k = absurd h
 one_first (c ∷ cs) name P Q (inl h) (inl k) = k.1 ∙ sym h.1
 one_first (c ∷ cs) name P Q (inl h) (inr k) = absurd (k.0 h.0)
@@ -70,7 +71,8 @@ full_variant words T name p (Err e) h = variant_refused words T name p e h
 
 -- ---- flags
 
-names_distinct : (T : TypeTree) → HasDistinctNames T → AreDistinct (flags_names T)
+-- so of flags
+pub names_distinct : (T : TypeTree) → HasDistinctNames T → AreDistinct (flags_names T)
 names_distinct (type.flags names) distinct = distinct
 names_distinct _ distinct = tt
 

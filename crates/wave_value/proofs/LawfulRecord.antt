@@ -146,7 +146,7 @@ shuffled (f ∷ fs) gs (v ∷ vs) d k h e =
     later m (inl e) other = absurd (other e)
     later m (inr one) other = one
 
-names_of_parts : (T : TypeTree) → HasDistinctNames T → AreDistinct (first_names (record_parts T))
+pub names_of_parts : (T : TypeTree) → HasDistinctNames T → AreDistinct (first_names (record_parts T))
 names_of_parts (type.record_type fs) h = subst AreDistinct (names_are fs) h.0
 names_of_parts _ h = tt
 
@@ -181,7 +181,7 @@ module _ {X : Type 0} where
   all_to P [] h = tt
   all_to P (x ∷ xs) h = (All-head P x xs h, all_to P xs (All-tail P x xs h))
 
-  all_moved : (P : X → Type 0) (xs ys : List X) → IsPermutation xs ys → AllOf P xs → AllOf P ys
+  pub all_moved : (P : X → Type 0) (xs ys : List X) → IsPermutation xs ys → AllOf P xs → AllOf P ys
   all_moved P xs ys moved h = all_to P ys (All-permutation P xs ys moved (all_from P xs h))
 
   all_weaker : (P Q : X → Type 0) (xs : List X) → ((x : X) → P x → Q x) → AllOf P xs → AllOf Q xs
@@ -189,7 +189,7 @@ module _ {X : Type 0} where
   all_weaker P Q (x ∷ xs) f h = (f x h.0, all_weaker P Q xs f h.1)
 
 -- where names are distinct, each value is the last under its name
-each_last : (fields : List (Bor (List ℕ) × TypedValue)) → AreDistinct (first_names (named fields)) → AllOf (λ f. last_under (named fields) f.0.now ≡ Some f.1) fields
+pub each_last : (fields : List (Bor (List ℕ) × TypedValue)) → AreDistinct (first_names (named fields)) → AllOf (λ f. last_under (named fields) f.0.now ≡ Some f.1) fields
 each_last [] d = tt
 each_last (f ∷ fields) d = (
   ap (λ o. option_or o (if bytes_eq f.0.now f.0.now then Some f.1 else None)) (none_last (named fields) f.0.now d.0) ∙ ap (λ b. if b then Some f.1 else None) (same_text f.0.now),

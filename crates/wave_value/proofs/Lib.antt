@@ -18,6 +18,8 @@ pub mod Refusals
 pub mod Views
 pub mod RecordViews
 pub mod FlagsInTurn
+pub mod TypedParts
+pub mod TypedRecords
 mod Taken
 mod Items
 mod TupleParts

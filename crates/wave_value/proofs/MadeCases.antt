@@ -27,7 +27,7 @@ use Rattle.wave_value.proofs.ValueMeans.{variant_value}
 -- ---- the first case of a name
 
 -- a case, and none past the end
-abbrev case_at : List (List ℕ × Option TypeTree) → ℕ → List ℕ × Option TypeTree
+abbrev pub case_at : List (List ℕ × Option TypeTree) → ℕ → List ℕ × Option TypeTree
 case_at cs i = get_or cs i ([], None)
 
 -- the case at this place is the first of this name

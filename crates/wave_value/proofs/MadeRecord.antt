@@ -226,7 +226,7 @@ are_held under [] (v ∷ vs) h = absurd h
 are_held under (f ∷ fs) [] h = absurd h
 are_held under (f ∷ fs) (v ∷ vs) h = λ i. h.0 i ∷ are_held under fs vs h.2 i
 
-parts_of : (T : TypeTree) (parts : List (List ℕ × TypeTree)) → Some (fields_of parts) ≡ record_part T → parts ≡ record_parts T
+pub parts_of : (T : TypeTree) (parts : List (List ℕ × TypeTree)) → Some (fields_of parts) ≡ record_part T → parts ≡ record_parts T
 parts_of T parts is = sym (field_list-fields_of parts) ∙ ap record_parts (record_is T parts is)
 
 -- one record is made of the last values

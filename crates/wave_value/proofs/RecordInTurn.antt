@@ -2,17 +2,16 @@
 use Rattle.std.proofs.Common.{ℕ, zero, suc, ◌≡◌, ◌≢◌, ◌<◌, ◌+◌, Bool, true, false, List, [], ◌∷◌, ◌++◌, map, length, take, get_or, refl, sym, ap, subst, ◌∙◌, arith, Option, Some, None, Bor, String, string_bytes}
 use Rattle.std.specs.Option.{option_or}
 use Rattle.std.specs.Prelude.{if◌then◌else◌}
-use Rattle.std.specs.Bool.{OnFalse}
 use Rattle.std.specs.Str.{bytes_eq}
 use Rattle.std.specs.declared.alloc.Global.{Global}
-use Rattle.std.proofs.lemmas.Bool.{false≢true, false_from_ne_true}
+use Rattle.std.proofs.lemmas.Bool.{false_from_ne_true}
 use Rattle.std.proofs.lemmas.List.{take_more, map-append, length-map}
 use Rattle.std.proofs.lemmas.Slice.Eq.{bytes_eq-Decides}
 use Rattle.wave_wasm.specs.Names.{IsOneOf, IsNoneOf, AreDistinct, is_one_of}
 use Rattle.wave_wasm.specs.Borrowed.{named}
 use Rattle.wave_wasm.specs.Types.{TypeTree}
 use Rattle.wave_wasm.specs.declared.wasm.WasmValueError.{WasmValueError}
-use Rattle.wave_wasm.proofs.NameTests.{is_one, none_of, distinct_more}
+use Rattle.wave_wasm.proofs.NameTests.{is_one, none_of}
 use Rattle.wave_type.specs.TypeModel.{by_bytes}
 use Rattle.wave_value.specs.TypedValue.{TypedValue, IsAt}
 use Rattle.wave_value.specs.ValueModel.{first_names}
@@ -23,32 +22,6 @@ use Rattle.wave_value.specs.Private.ConstructorRules.{SaysType}
 use Rattle.wave_value.specs.Private.RecordConstructor.{FieldsHeld, InOrder, IsInTurn}
 use Rattle.wave_value.proofs.ValueLists.{some_mapped}
 use Rattle.wave_value.proofs.MadeRecord.{other_is}
-
--- ---- the names
-
--- texts that are compared
-pub apart_from : (b : Bool) (m n : List ℕ) → b ≡ bytes_eq m n → b ≡ false → m ≢ n
-apart_from b m n is told e = false≢true (sym told ∙ (is ∙ (bytes_eq-Decides m n).1 e))
-
-names_more : (xs : List (String Global × TypeTree)) (i : ℕ) (x : String Global × TypeTree) → i < length xs → x ≡ get_or xs i x → first_names (map by_bytes (take (i + 1) xs)) ≡ first_names (map by_bytes (take i xs)) ++ string_bytes x.0 ∷ []
-names_more xs i x lt is =
-    ap (λ (ys : List (String Global × TypeTree)). first_names (map by_bytes ys)) (take_more xs i x lt ∙ ap (λ y. take i xs ++ y ∷ []) (sym is))
-    ∙ (ap first_names (map-append by_bytes (take i xs) (x ∷ [])) ∙ map-append (λ p. p.0) (map by_bytes (take i xs)) (by_bytes x ∷ []))
-
-none_push : (names : List (List ℕ)) (name other : List ℕ) → IsNoneOf names name → name ≢ other → IsNoneOf (names ++ other ∷ []) name
-none_push [] name other h apart = (apart, tt)
-none_push (n ∷ names) name other h apart = (h.0, none_push names name other h.1 apart)
-
--- one more name is another one
-pub none_more : (xs : List (String Global × TypeTree)) (i : ℕ) (x : String Global × TypeTree) (n : List ℕ) → i < length xs → x ≡ get_or xs i x → n ≢ string_bytes x.0 → IsNoneOf (first_names (map by_bytes (take i xs))) n → IsNoneOf (first_names (map by_bytes (take (i + 1) xs))) n
-none_more xs i x n lt is apart h = subst (λ ns. IsNoneOf ns n) (sym (names_more xs i x lt is)) (none_push (first_names (map by_bytes (take i xs))) n (string_bytes x.0) h apart)
-
--- one more name is none of those before it
-pub once_more : (xs : List (String Global × TypeTree)) (i : ℕ) (x : String Global × TypeTree) (n : List ℕ) (b : Bool) → i < length xs → x ≡ get_or xs i x → n ≡ string_bytes x.0 → b ≡ false → OnFalse b (IsNoneOf (first_names (map by_bytes (take i xs))) n)
-    → AreDistinct (first_names (map by_bytes (take i xs))) → AreDistinct (first_names (map by_bytes (take (i + 1) xs)))
-once_more xs i x n b lt is called new told h =
-    let none : IsNoneOf (first_names (map by_bytes (take i xs))) (string_bytes x.0) = subst (IsNoneOf (first_names (map by_bytes (take i xs)))) called (subst (λ b. OnFalse b (IsNoneOf (first_names (map by_bytes (take i xs))) n)) new told) in
-    subst AreDistinct (sym (names_more xs i x lt is)) (distinct_more (first_names (map by_bytes (take i xs))) (string_bytes x.0) h none)
 
 module _ {V : Type 0} where
   -- as many fields are handed in as the type has

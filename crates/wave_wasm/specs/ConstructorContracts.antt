@@ -210,3 +210,37 @@ module _ {S : Type 0} (of : S → TypeTree → Type 0) (Full : TypeTree → Type
   abbrev pub FullMap : TypeTree → List (S × S) → WasmValueError → Type 0
   FullMap T handed e =
       Full T → (K : type.Simple) → (V : TypeTree) → T ≡ type.map K V → AllOf (λ en. of en.0 (type.simple K) × of en.1 V) handed → IsMemory e
+
+-- ---- parts that a value of the type has, as whoever read them knows
+
+module _ {S : Type 0} (of : S → TypeTree → Type 0) where
+  -- a list of the type has these items: as many as a fixed length says, each of the element type
+  abbrev pub TypedList : TypeTree → List S → Type 0
+  TypedList T items = (E : TypeTree) × IsListOf E (length items) T × AllOf (λ v. of v E) items
+
+  -- a tuple of the type has these items
+  abbrev pub TypedTuple : TypeTree → List S → Type 0
+  TypedTuple T items = (Ts : type.Types) × (T ≡ type.tuple Ts) × AreOf of (type_list Ts) items
+
+  -- a record of the type has these fields, each under another name, in whatever order
+  abbrev pub TypedRecord : TypeTree → List (Bor (List ℕ) × S) → Type 0
+  TypedRecord T fields =
+      (fs : type.Fields) × (T ≡ type.record_type fs) × AreDistinct (map (λ f. f.0.now) fields)
+      × (ordered : List (Bor (List ℕ) × S)) × IsPermutation fields ordered × FieldsAreOf of (type.field_list fs) ordered
+
+  -- a variant of the type has this case with this payload
+  abbrev pub TypedVariant : TypeTree → List ℕ → Option S → Type 0
+  TypedVariant T name payload =
+      (cs : Cases) × (T ≡ type.variant cs) × (P : Option TypeTree) × SomeOf (λ c. c ≡ (name, P)) (case_list cs) × PayloadIsOf of P payload
+
+  -- an option of the type has this payload
+  abbrev pub TypedOption : TypeTree → Option S → Type 0
+  TypedOption T payload = (P : TypeTree) × (T ≡ type.option P) × OptionIsOf of P payload
+
+  -- a result of the type has this payload
+  abbrev pub TypedResult : TypeTree → Result (Option S) (Option S) → Type 0
+  TypedResult T payload = (A : MaybeType) × (B : MaybeType) × (T ≡ type.result A B) × EitherIsOf of (type_option A) (type_option B) payload
+
+  -- a map of the type has these entries, as they are handed over
+  abbrev pub TypedMap : TypeTree → List (S × S) → Type 0
+  TypedMap T handed = (K : type.Simple) × (V : TypeTree) × (T ≡ type.map K V) × AllOf (λ en. of en.0 (type.simple K) × of en.1 V) handed

@@ -6,6 +6,7 @@ pub use display::{DisplayFunc, DisplayFuncArgs, DisplayFuncResults, DisplayType,
 pub use func::WasmFunc;
 use std::alloc::{AllocError, AllocFailed, Global};
 use std::fmt;
+use std::mem::replace;
 use thiserror::Error;
 
 /// The kind of a type or value. `F32`, `F64` and `Unsupported` are the kinds that have no text.
@@ -295,7 +296,7 @@ pub trait WasmValue: Sized + Drop {
 
     ghost use Rattle.std.specs.Prelude.{◌≡◌, IfOk, IfErr, pos};
     ghost use Rattle.wave_wasm.specs.Types as type;
-    ghost use Rattle.wave_wasm.specs.Types.{TypeTree};
+    ghost use Rattle.wave_wasm.specs.Types.{TypeTree, HasDistinctNames};
     ghost use Rattle.wave_wasm.specs.Values as value;
     ghost use Rattle.wave_wasm.specs.Values.{Value, kind_of, maybe_value, list_items, tuple_items, record_fields, flags_names, map_entries, IsWellFormed};
     ghost use Rattle.wave_wasm.specs.HasType.{HasType};
@@ -305,6 +306,7 @@ pub trait WasmValue: Sized + Drop {
     ghost use Rattle.wave_wasm.specs.ConstructorContracts.{MakesEnum, MakesOption, MakesResult, MakesFlags, MakesMap};
     ghost use Rattle.wave_wasm.specs.ConstructorContracts.{FullLeaf, FullList, FullTuple, FullRecord, FullVariant};
     ghost use Rattle.wave_wasm.specs.ConstructorContracts.{FullEnum, FullOption, FullResult, FullFlags, FullMap};
+    ghost use Rattle.wave_wasm.specs.ConstructorContracts.{TypedList, TypedTuple, TypedRecord, TypedVariant, TypedOption, TypedResult, TypedMap};
 
     /// The tree that the value means.
     ghost tree: { Self → Value };
@@ -440,6 +442,112 @@ pub trait WasmValue: Sized + Drop {
     ) -> Result<Self, WasmValueError>
         ensures made { IfOk result (MakesMap tree is_of (Self.Type.tree ty.now) entries.items) }
         ensures full { IfErr result (FullMap is_of is_full (Self.Type.tree ty.now) entries.items) };
+
+    /// The same as `make_list`, of items that a list of the type has; they are taken out of `vals`.
+    /// An implementation may leave out the comparison of each item's type. The provided body calls
+    /// `make_list`.
+    fn make_list_unchecked(
+        alloc: Global,
+        ty: &Self::Type,
+        vals: &mut Vec<Self>,
+    ) -> Result<Self, WasmValueError>
+        requires { HasDistinctNames (Self.Type.tree ty.now) → TypedList is_of (Self.Type.tree ty.now) vals.now.items }
+        ensures made { IfOk result (MakesList tree is_of (Self.Type.tree ty.now) vals.old.items) }
+        ensures full { IfErr result (FullList is_of is_full (Self.Type.tree ty.now) vals.old.items) }
+    {
+        Self::make_list(alloc, ty, replace(vals, Vec::new(alloc)))
+    }
+
+    /// The same as `make_tuple`, of items that a tuple of the type has; they are taken out of
+    /// `vals`. An implementation may leave out the comparison of each item's type. The provided
+    /// body calls `make_tuple`.
+    fn make_tuple_unchecked(
+        alloc: Global,
+        ty: &Self::Type,
+        vals: &mut Vec<Self>,
+    ) -> Result<Self, WasmValueError>
+        requires { HasDistinctNames (Self.Type.tree ty.now) → TypedTuple is_of (Self.Type.tree ty.now) vals.now.items }
+        ensures made { IfOk result (MakesTuple tree is_of (Self.Type.tree ty.now) vals.old.items) }
+        ensures full { IfErr result (FullTuple is_of is_full (Self.Type.tree ty.now) vals.old.items) }
+    {
+        Self::make_tuple(alloc, ty, replace(vals, Vec::new(alloc)))
+    }
+
+    /// The same as `make_record`, of fields that a record of the type has; they are taken out of
+    /// `fields`. An implementation may leave out the comparison of each field's type. The provided
+    /// body calls `make_record`.
+    fn make_record_unchecked(
+        alloc: Global,
+        ty: &Self::Type,
+        fields: &mut Vec<(&str, Self)>,
+    ) -> Result<Self, WasmValueError>
+        requires { HasDistinctNames (Self.Type.tree ty.now) → TypedRecord is_of (Self.Type.tree ty.now) fields.now.items }
+        ensures made { IfOk result (MakesRecord tree is_of (Self.Type.tree ty.now) fields.old.items) }
+        ensures full { IfErr result (FullRecord is_of is_full (Self.Type.tree ty.now) fields.old.items) }
+    {
+        Self::make_record(alloc, ty, replace(fields, Vec::new(alloc)))
+    }
+
+    /// The same as `make_variant`, of a payload that this case of the type has; it is taken out of
+    /// `val`. An implementation may leave out the comparison of the payload's type. The provided
+    /// body calls `make_variant`.
+    fn make_variant_unchecked(
+        alloc: Global,
+        ty: &Self::Type,
+        case: &str,
+        val: &mut Option<Self>,
+    ) -> Result<Self, WasmValueError>
+        requires { HasDistinctNames (Self.Type.tree ty.now) → TypedVariant is_of (Self.Type.tree ty.now) case.now val.now }
+        ensures made { IfOk result (MakesVariant tree is_of (Self.Type.tree ty.now) case.now val.old) }
+        ensures full { IfErr result (FullVariant is_of is_full (Self.Type.tree ty.now) case.now val.old) }
+    {
+        Self::make_variant(alloc, ty, case, val.take())
+    }
+
+    /// The same as `make_option`, of a payload that an option of the type has; it is taken out of
+    /// `val`. An implementation may leave out the comparison of the payload's type. The provided
+    /// body calls `make_option`.
+    fn make_option_unchecked(
+        alloc: Global,
+        ty: &Self::Type,
+        val: &mut Option<Self>,
+    ) -> Result<Self, WasmValueError>
+        requires { HasDistinctNames (Self.Type.tree ty.now) → TypedOption is_of (Self.Type.tree ty.now) val.now }
+        ensures made { IfOk result (MakesOption tree is_of (Self.Type.tree ty.now) val.old) }
+        ensures full { IfErr result (FullOption is_of is_full (Self.Type.tree ty.now) val.old) }
+    {
+        Self::make_option(alloc, ty, val.take())
+    }
+
+    /// The same as `make_result`, of a payload that a result of the type has; it is taken out of
+    /// `val`, which keeps none. An implementation may leave out the comparison of the payload's
+    /// type. The provided body calls `make_result`.
+    fn make_result_unchecked(
+        alloc: Global,
+        ty: &Self::Type,
+        val: &mut Result<Option<Self>, Option<Self>>,
+    ) -> Result<Self, WasmValueError>
+        requires { HasDistinctNames (Self.Type.tree ty.now) → TypedResult is_of (Self.Type.tree ty.now) val.now }
+        ensures made { IfOk result (MakesResult tree is_of (Self.Type.tree ty.now) val.old) }
+        ensures full { IfErr result (FullResult is_of is_full (Self.Type.tree ty.now) val.old) }
+    {
+        Self::make_result(alloc, ty, replace(val, Ok(None)))
+    }
+
+    /// The same as `make_map`, of entries that a map of the type has; they are taken out of
+    /// `entries`. An implementation may leave out the comparison of each entry's types. The
+    /// provided body calls `make_map`.
+    fn make_map_unchecked(
+        alloc: Global,
+        ty: &Self::Type,
+        entries: &mut Vec<(Self, Self)>,
+    ) -> Result<Self, WasmValueError>
+        requires { HasDistinctNames (Self.Type.tree ty.now) → TypedMap is_of (Self.Type.tree ty.now) entries.now.items }
+        ensures made { IfOk result (MakesMap tree is_of (Self.Type.tree ty.now) entries.old.items) }
+        ensures full { IfErr result (FullMap is_of is_full (Self.Type.tree ty.now) entries.old.items) }
+    {
+        Self::make_map(alloc, ty, replace(entries, Vec::new(alloc)))
+    }
 
     /// The bool that the value is. It asks for a value of this kind.
     fn unwrap_bool(&self) -> bool

@@ -101,6 +101,14 @@ module _ {V : Type 0} (tree : V → Value) (of : V → TypeTree → Type 0) (Ful
   all_pass names [] h = refl
   all_pass names (one ∷ more) h = let here : is_one_of names one ≡ true = passes names one h.0 in rw here (ap (λ (l : List (List ℕ)). one ∷ l) (all_pass names more h.1))
 
+  -- flags that were made of names in the type's order are of the type
+  pub flags_of : (T : TypeTree) (names found : List (List ℕ)) (picked : List (Bor (List ℕ))) (v : V) → T ≡ type.flags names → HasDistinctNames T → texts picked ≡ found_in found names → MakesFlags tree of T picked v → of v T
+  flags_of T names found picked v is distinct same makes =
+      let some : ArePicked names (texts picked) = subst (ArePicked names) (sym same) (found_picked found names) in
+      let apart : AreDistinct (texts picked) = picked_distinct names (texts picked) some (subst HasDistinctNames is distinct) in
+      let all : filter (is_one_of names) (texts picked) ≡ texts picked = all_pass names (texts picked) (picked_of names (texts picked) some) in
+      (makes distinct apart (subst (λ (U : TypeTree). ArePicked (flags_names U) (filter (is_one_of (flags_names U)) (texts picked))) (sym is) (subst (ArePicked names) (sym all) some))).is_of
+
   -- the flags were made, or their constructor refused
   pub flags_made : (T : TypeTree) (names : List (List ℕ)) (source : List ℕ) (n : NodeTree) (t : SpannedTree) (picked : List (Bor (List ℕ))) (m : Result V WasmValueError) (r : Result V Diagnostic) → T ≡ type.flags names → HasDistinctNames T → IsNodeOf source n t → AreFlags n → AreAllOf names (names_at source (children_of n)) → texts picked ≡ found_in (names_at source (children_of n)) names → IfOk m (MakesFlags tree of T picked) → IfErr m (FullFlags of Full T picked) → IsMade n m r → MatchResult r (IsTypedValue tree of T t) (IsBlamed Full o w T t)
   flags_made T names source n t picked m r is distinct node ok known found makes full done =

@@ -161,7 +161,7 @@ module _ {V : Type 0} (tree : V → Value) (of : V → TypeTree → Type 0) (Ful
   both_of K U [] h k = tt
   both_of K U (x ∷ xs) h k = ((h.0, k.0), both_of K U xs h.1 k.1)
 
-  merged_of : (K : Simple) (U : TypeTree) (xs : List (V × V)) → AllOf (λ x. of x.0 (type.simple K)) xs → AllOf (λ x. of x.1 U) xs → AllOf (λ x. of x.0 (type.simple K) × of x.1 U) (merge same_texts xs)
+  pub merged_of : (K : Simple) (U : TypeTree) (xs : List (V × V)) → AllOf (λ x. of x.0 (type.simple K)) xs → AllOf (λ x. of x.1 U) xs → AllOf (λ x. of x.0 (type.simple K) × of x.1 U) (merge same_texts xs)
   merged_of K U xs h k = both_of K U (merge same_texts xs) (keys_keep (λ v. of v (type.simple K)) same_texts xs h) (values_keep (λ v. of v U) same_texts xs k)
 
 one_list : (a b : List (Leaf × Value)) → leaf_entries a ≡ leaf_entries b → a ≡ b

@@ -11,7 +11,7 @@ use Rattle.wave_wasm.specs.Types.{TypeTree, Fields, HasDistinctNames, EachNamesO
 use Rattle.wave_wasm.specs.Values as value
 use Rattle.wave_wasm.specs.Values.{Value, FieldValues}
 use Rattle.wave_wasm.specs.HasType.{HasType, HasFields}
-use Rattle.wave_wasm.specs.ConstructorContracts.{IsMemory, MakesRecord, FullRecord, FieldsAreOf, field_trees}
+use Rattle.wave_wasm.specs.ConstructorContracts.{IsMemory, MakesRecord, FullRecord, FieldsAreOf, TypedRecord, field_trees}
 use Rattle.wave_wasm.specs.declared.wasm.WasmValueError.{WasmValueError}
 use Rattle.wave_wasm.specs.declared.wasm.WasmTypeKind.TheVariants as kinds
 use Rattle.wave_lex.specs.Errors.{Diagnostic, refusal_of}
@@ -343,6 +343,11 @@ module _ {V : Type 0} (tree : V → Value) (of : V → TypeTree → Type 0) (Ful
   fields_are_of [] es (f ∷ hs) h = absurd h
   fields_are_of (p ∷ ps) es [] h = absurd h
   fields_are_of (p ∷ ps) es (f ∷ hs) h = (h.0, is_of_read p.1 p.0 es f.1 h.1, fields_are_of ps es hs h.2)
+
+  -- a record of the type has the fields
+  pub record_typed : (T : TypeTree) (fs : Fields) (es : List PlacedEntry) (hs : List (Bor (List ℕ) × V)) → T ≡ type.record_type fs → AreDistinct (names_of (type.field_list fs)) → FieldsRead (type.field_list fs) es hs → TypedRecord of T hs
+  record_typed T fs es hs is names h =
+      (fs, is, subst AreDistinct (sym (names_same (type.field_list fs) es hs h)) names, hs, IsPermutation-refl hs, fields_are_of (type.field_list fs) es hs h)
 
   -- a constructor at a full type refuses for lack of memory alone
   pub record_full : (T : TypeTree) (fs : Fields) (es : List PlacedEntry) (hs : List (Bor (List ℕ) × V)) (m : Result V WasmValueError) → T ≡ type.record_type fs → AreDistinct (names_of (type.field_list fs)) → FieldsRead (type.field_list fs) es hs → IfErr m (FullRecord of Full T hs) → IfErr m (λ cause. Full T → IsMemory cause)

@@ -1,7 +1,7 @@
 -- The tree that a `Type` stands for, and what holds of its shape.
-use Rattle.std.specs.Prelude.{map, string_bytes}
+use Rattle.std.specs.Prelude.{◌↔◌, IsTrue, map, string_bytes}
 use Rattle.wave_wasm.specs.Types as type
-use Rattle.wave_wasm.specs.Types.{Simple, TypeTree, types_of, fields_of, cases_of, maybe_type, IsRepresentable}
+use Rattle.wave_wasm.specs.Types.{Simple, TypeTree, types_of, fields_of, cases_of, maybe_type, IsRepresentable, HasDistinctNames}
 use Rattle.wave_type.specs.declared.ty.Shape.{Shape}
 use Rattle.wave_type.specs.declared.ty.Shape.TheVariants as shapes
 use Rattle.wave_type.specs.TypeModel.{by_bytes, simple_of}
@@ -46,8 +46,15 @@ HasFirstPlaces (shapes.Enum ns) = AreFirstPlaces ns.value.1 (map string_bytes ns
 HasFirstPlaces (shapes.Flags ns) = AreFirstPlaces ns.value.1 (map string_bytes ns.value.0.items)
 HasFirstPlaces _ = Unit {0}
 
+-- beside fields and cases stands whether no name stands twice within the type
+abbrev pub TellsDistinct : Shape → Type 0
+TellsDistinct (shapes.Record fs) = IsTrue fs.value.2 ↔ HasDistinctNames (type.record_type (fields_of (map by_bytes fs.value.0.items)))
+TellsDistinct (shapes.Variant cs) = IsTrue cs.value.2 ↔ HasDistinctNames (type.variant (cases_of (map by_bytes cs.value.0.items)))
+TellsDistinct _ = Unit {0}
+
 -- the shape is of a tree that a `Type` can have
 pub record IsSoundShape (shape : Shape) : Type 0 where
   pub key : HasSimpleKey shape
   pub places : HasFirstPlaces shape
+  pub distinct : TellsDistinct shape
   pub own : IsRepresentable (shape_tree shape)

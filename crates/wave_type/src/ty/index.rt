@@ -1,6 +1,7 @@
 //! Where each name of a type stands first.
-ghost use Rattle.std.specs.Prelude.{◌≡◌, IfOk, map};
+ghost use Rattle.std.specs.Prelude.{◌≡◌, ◌↔◌, IsTrue, IfOk, map};
 ghost use Rattle.std.specs.BTreeMap.{get_by_text};
+ghost use Rattle.wave_wasm.specs.Names.{AreDistinct};
 ghost use Rattle.wave_type.specs.Private.NameIndex.{AreFirstPlaces};
 
 use std::alloc::{AllocError, Global};
@@ -58,4 +59,13 @@ pub(super) fn first_place(places: &BTreeMap<String, usize>, name: &str) -> Optio
     ensures { result ≡ get_by_text places.now name.now }
 {
     places.get(name).copied()
+}
+
+// Whether no name stands twice, seen without a walk over the names: as many names are found as
+// there are.
+pub(super) fn are_distinct<N: Named>(items: &Vec<N>, places: &BTreeMap<String, usize>) -> bool
+    requires { AreFirstPlaces places.now (map N.name_of items.now.items) }
+    ensures { IsTrue result ↔ AreDistinct (map N.name_of items.now.items) }
+{
+    items.len() == places.len()
 }

@@ -2,11 +2,11 @@
 ghost use Rattle.std.specs.Prelude.{◌≡◌, ◌↔◌, IsTrue, None, [], get_or, map, option_map, string_bytes};
 ghost use Rattle.std.specs.Str.{bytes_eq};
 ghost use Rattle.std.specs.List.{position};
-ghost use Rattle.wave_wasm.specs.Types.{IsRepresentable, types_of, fields_of, record_parts, variant_parts, enum_names, flags_names};
+ghost use Rattle.wave_wasm.specs.Types.{IsRepresentable, HasDistinctNames, types_of, fields_of, record_parts, variant_parts, enum_names, flags_names};
 ghost use Rattle.wave_wasm.specs.Borrowed.{shown_case};
-ghost use Rattle.wave_wasm.specs.Names.{AreDistinct};
 ghost use Rattle.wave_type.specs.TypeModel.{by_bytes, tuple_part, record_part};
 
+use super::distinct::names_are_distinct;
 use super::index::first_place;
 use super::{Shape, Type};
 
@@ -65,16 +65,12 @@ pub fn flag_place(ty: &Type, name: &str) -> Option<usize>
     }
 }
 
-/// Whether no name of flags stands twice, seen without a walk over the names. A type of another
-/// kind has no such names, of which none stands twice.
-#[tactic(auto, using(crate::proofs::TypeLists::families))]
-pub fn has_distinct_flags(ty: &Type) -> bool
-    ensures { IsTrue result ↔ AreDistinct (flags_names ty.now) }
+/// Whether within each record, variant, enum and flags of the type no name stands twice, seen
+/// without a walk over the names.
+pub fn has_distinct_names(ty: &Type) -> bool
+    ensures { IsTrue result ↔ HasDistinctNames ty.now }
 {
-    match &ty.shape {
-        Shape::Flags(names) => names.0.len() == names.1.len(),
-        _ => true,
-    }
+    names_are_distinct(ty)
 }
 
 /// Where the first case of this name stands in a variant, counted from zero; none where the type

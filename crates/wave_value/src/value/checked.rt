@@ -1,6 +1,7 @@
 //! Makers of values that have parts.
-ghost use Rattle.std.specs.Prelude.{◌≡◌, ℕ, List, map, length, IfOk, IfErr, OnOk};
+ghost use Rattle.std.specs.Prelude.{◌≡◌, ℕ, List, map, length, Some, IfOk, IfErr, OnOk};
 ghost use Rattle.std.specs.Bool.{OnTrue};
+ghost use Rattle.wave_wasm.specs.Types.{fields_of, HasDistinctNames};
 ghost use Rattle.wave_wasm.specs.Values as value;
 ghost use Rattle.wave_wasm.specs.Values.{values, maybe_value};
 ghost use Rattle.wave_wasm.specs.ConstructorContracts.{list_value, result_value, either_tree};
@@ -11,21 +12,20 @@ ghost use Rattle.wave_value.specs.ConstructorRules.{RefusesList, RefusesParts, R
 ghost use Rattle.wave_value.specs.CaseRules.{MadeMap, TakesMap, map_stated};
 ghost use Rattle.wave_value.specs.Private.ConstructorRules.{Tells, SaysLength};
 ghost use Rattle.wave_wasm.specs.Borrowed.{shown, named};
-ghost use Rattle.wave_type.specs.TypeModel.{by_bytes};
+ghost use Rattle.wave_type.specs.TypeModel.{by_bytes, record_part};
 ghost use Rattle.wave_value.specs.Private.RecordConstructor.{held, InOrder, IsInTurn};
 ghost use Rattle.wave_value.specs.RecordConstructor.{last_under, TakesRecord, MadeRecord, RefusesRecord, RefusesFields};
 
 use super::refusals::{NameErrorKind, ShowsValue, named, wrong_kind, wrong_type};
 use super::{Content, Type, Value};
-use names::are_distinct;
 use std::alloc::{AllocError, Global};
 use std::boxed::Box;
 use std::collections::BTreeMap;
-use wave_type::ty::places::{enum_place, named_types, tuple_types};
+use wave_type::ty::places::{enum_place, has_distinct_names, named_types, tuple_types};
 use wave_wasm::wasm::{WasmType, WasmTypeKind, WasmValueError};
 
 mod cases;
-mod names;
+mod unchecked;
 
 impl Value {
     // Whether the value's own type is this one.
@@ -104,7 +104,7 @@ impl Value {
         let Some(stated) = named_types(ty) else {
             return Err(wrong_kind(alloc, WasmTypeKind::Record, ty));
         };
-        let vals = ordered::<S>(alloc, stated, fields)?;
+        let vals = ordered::<S>(alloc, ty, stated, fields)?;
         Ok(Value {
             own: ty.clone()?,
             content: Content::Record(vals),
@@ -267,29 +267,34 @@ fn boxed_payload<S: ShowsValue>(
 // The values in the fields' order. Fields that are handed in as the type has them need no look-up.
 fn ordered<S: ShowsValue>(
     alloc: Global,
+    ty: &Type,
     stated: &Vec<(String, Type)>,
     fields: Vec<(&str, Value)>,
 ) -> Result<Vec<Value>, WasmValueError>
+    requires { Some (fields_of (map by_bytes stated.now.items)) ≡ record_part ty.now }
     ensures given { IfOk result
         (λ v. InOrder (map by_bytes stated.now.items) (last_under (named fields.entry.items)) v.items) }
     ensures refused { IfErr result
         (RefusesFields S.words (map by_bytes stated.now.items) (last_under (named fields.entry.items))) }
 {
-    if stand_in_order(alloc, stated, &fields) {
+    if stand_in_order(ty, stated, &fields) {
         return in_turn::<S>(alloc, stated, fields);
     }
     let given = last_values(alloc, fields)?;
     in_order::<S>(alloc, stated, given)
 }
 
-// Whether the fields have the type's names in its order, and no name stands twice.
-fn stand_in_order<V>(alloc: Global, stated: &Vec<(String, Type)>, fields: &Vec<(&str, V)>) -> bool
-    ensures { OnTrue result (IsInTurn (map by_bytes stated.now.items) (named fields.now.items)) }
+// Whether the fields have the names of the record type in its order, and no name stands twice
+// within the type.
+fn stand_in_order<V>(ty: &Type, stated: &Vec<(String, Type)>, fields: &Vec<(&str, V)>) -> bool
+    requires { Some (fields_of (map by_bytes stated.now.items)) ≡ record_part ty.now }
+    ensures turn { OnTrue result (IsInTurn (map by_bytes stated.now.items) (named fields.now.items)) }
+    ensures distinct { OnTrue result (HasDistinctNames ty.now) }
 {
     if !have_names(stated, fields) {
         return false;
     }
-    are_distinct(alloc, stated)
+    has_distinct_names(ty)
 }
 
 // Whether the fields have the type's names in its order.

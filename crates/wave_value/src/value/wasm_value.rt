@@ -4,6 +4,7 @@
 use super::refusals::ByType;
 use super::{Type, Value};
 use std::alloc::{AllocError, Global};
+use std::mem::replace;
 use wave_wasm::wasm::{WasmTypeKind, WasmValue, WasmValueError};
 
 #[tactic(auto, using(crate::proofs::Lawful::made_leaf, crate::proofs::Lawful::made_only, crate::proofs::Lawful::never_refused, crate::proofs::Lawful::full_leaf, crate::proofs::Lawful::well_formed, crate::proofs::Lawful::made_where, crate::proofs::Lawful::full_list, crate::proofs::Lawful::full_tuple, crate::proofs::LawfulRecord::made_record, crate::proofs::LawfulCases::full_variant, crate::proofs::Lawful::full_option, crate::proofs::Lawful::full_enum, crate::proofs::Lawful::full_result, crate::proofs::LawfulCases::made_flags, crate::proofs::LawfulCases::full_flags, crate::proofs::LawfulCases::made_map, crate::proofs::LawfulCases::full_map))]
@@ -11,7 +12,7 @@ impl WasmValue for Value {
     ghost use Rattle.std.specs.Prelude.{◌≡◌, IfOk, IfErr, OnOk, pos};
     ghost use Rattle.wave_wasm.specs.Names.{found_in};
     ghost use Rattle.wave_wasm.specs.Types as type;
-    ghost use Rattle.wave_wasm.specs.Types.{flags_names};
+    ghost use Rattle.wave_wasm.specs.Types.{flags_names, HasDistinctNames};
     ghost use Rattle.wave_wasm.specs.Values as value;
     ghost use Rattle.wave_wasm.specs.Values.{kind_of, values, maybe_value, list_items, tuple_items, record_fields, map_entries, IsSound};
     ghost use Rattle.wave_wasm.specs.Borrowed.{texts, named, shown, shown_all, shown_fields, shown_pairs, shown_either};
@@ -19,6 +20,7 @@ impl WasmValue for Value {
     ghost use Rattle.wave_wasm.specs.ConstructorContracts.{MakesList, MakesTuple, MakesRecord, MakesVariant};
     ghost use Rattle.wave_wasm.specs.ConstructorContracts.{MakesEnum, MakesOption, MakesResult, MakesFlags, MakesMap};
     ghost use Rattle.wave_wasm.specs.ConstructorContracts.{FullList, FullTuple, FullRecord, FullVariant, FullEnum, FullOption, FullResult, FullFlags, FullMap};
+    ghost use Rattle.wave_wasm.specs.ConstructorContracts.{TypedList, TypedTuple, TypedRecord, TypedVariant, TypedOption, TypedResult, TypedMap};
     ghost use Rattle.wave_value.specs.ValueModel.{trees, payload_tree};
     ghost use Rattle.wave_value.specs.TypedValue.{IsAt, MakesOnly, typed_leaf};
     ghost use Rattle.wave_value.specs.ConstructorRules.{Made, TakesList, TakesTuple, TakesOption, TakesResult, TakesEnum, own_text, option_stated};
@@ -216,6 +218,112 @@ impl WasmValue for Value {
         ensures refused { IfErr result (RefusesParts own_text WasmTypeKind.Map ty.now (map_stated ty.now entries.items)) }
     {
         Value::map_of::<ByType>(alloc, ty, entries)
+    }
+
+    fn make_list_unchecked(
+        alloc: Global,
+        ty: &Type,
+        vals: &mut Vec<Value>,
+    ) -> Result<Value, WasmValueError>
+        requires { HasDistinctNames ty.now → TypedList (λ v T. IsAt T v) ty.now vals.now.items }
+        ensures made { IfOk result (MakesList (λ v. v.tree) (λ v T. IsAt T v) ty.now vals.old.items) }
+        ensures full { IfErr result (FullList (λ v T. IsAt T v) IsFull ty.now vals.old.items) }
+        ensures exact { IfOk result (Made (list_value ty.now (trees vals.old.items)) ty.now) }
+        ensures taken { OnOk result (TakesList ty.now vals.old.items) }
+        ensures refused { IfErr result (RefusesList own_text ty.now vals.old.items) }
+    {
+        Value::list_unchecked(alloc, ty, replace(vals, Vec::new(alloc)))
+    }
+
+    fn make_tuple_unchecked(
+        alloc: Global,
+        ty: &Type,
+        vals: &mut Vec<Value>,
+    ) -> Result<Value, WasmValueError>
+        requires { HasDistinctNames ty.now → TypedTuple (λ v T. IsAt T v) ty.now vals.now.items }
+        ensures made { IfOk result (MakesTuple (λ v. v.tree) (λ v T. IsAt T v) ty.now vals.old.items) }
+        ensures full { IfErr result (FullTuple (λ v T. IsAt T v) IsFull ty.now vals.old.items) }
+        ensures exact { IfOk result (Made (value.tuple (values (trees vals.old.items))) ty.now) }
+        ensures taken { OnOk result (TakesTuple ty.now vals.old.items) }
+        ensures refused { IfErr result (RefusesTuple own_text ty.now vals.old.items) }
+    {
+        Value::tuple_unchecked(alloc, ty, replace(vals, Vec::new(alloc)))
+    }
+
+    fn make_record_unchecked(
+        alloc: Global,
+        ty: &Type,
+        fields: &mut Vec<(&str, Value)>,
+    ) -> Result<Value, WasmValueError>
+        requires { HasDistinctNames ty.now → TypedRecord (λ v T. IsAt T v) ty.now fields.now.items }
+        ensures made { IfOk result (MakesRecord (λ v. v.tree) (λ v T. IsAt T v) ty.now fields.old.items) }
+        ensures full { IfErr result (FullRecord (λ v T. IsAt T v) IsFull ty.now fields.old.items) }
+        ensures exact { IfOk result (MadeRecord (named fields.old.items) ty.now) }
+        ensures taken { OnOk result (TakesRecord ty.now (named fields.old.items)) }
+        ensures refused { IfErr result (RefusesRecord own_text ty.now (named fields.old.items)) }
+    {
+        Value::record_unchecked(alloc, ty, replace(fields, Vec::new(alloc)))
+    }
+
+    fn make_variant_unchecked(
+        alloc: Global,
+        ty: &Type,
+        case: &str,
+        val: &mut Option<Value>,
+    ) -> Result<Value, WasmValueError>
+        requires { HasDistinctNames ty.now → TypedVariant (λ v T. IsAt T v) ty.now case.now val.now }
+        ensures made { IfOk result (MakesVariant (λ v. v.tree) (λ v T. IsAt T v) ty.now case.now val.old) }
+        ensures full { IfErr result (FullVariant (λ v T. IsAt T v) IsFull ty.now case.now val.old) }
+        ensures exact { IfOk result (Made (value.variant case.now (maybe_value (payload_tree val.old))) ty.now) }
+        ensures taken { OnOk result (TakesVariant ty.now case.now val.old) }
+        ensures refused { IfErr result (RefusesVariant own_text ty.now case.now val.old) }
+    {
+        Value::variant_unchecked(alloc, ty, case, val.take())
+    }
+
+    fn make_option_unchecked(
+        alloc: Global,
+        ty: &Type,
+        val: &mut Option<Value>,
+    ) -> Result<Value, WasmValueError>
+        requires { HasDistinctNames ty.now → TypedOption (λ v T. IsAt T v) ty.now val.now }
+        ensures made { IfOk result (MakesOption (λ v. v.tree) (λ v T. IsAt T v) ty.now val.old) }
+        ensures full { IfErr result (FullOption (λ v T. IsAt T v) IsFull ty.now val.old) }
+        ensures exact { IfOk result (Made (value.option (maybe_value (payload_tree val.old))) ty.now) }
+        ensures taken { OnOk result (TakesOption ty.now val.old) }
+        ensures refused { IfErr result (RefusesParts own_text WasmTypeKind.Option ty.now (option_stated ty.now val.old)) }
+    {
+        Value::option_unchecked(alloc, ty, val.take())
+    }
+
+    fn make_result_unchecked(
+        alloc: Global,
+        ty: &Type,
+        val: &mut Result<Option<Value>, Option<Value>>,
+    ) -> Result<Value, WasmValueError>
+        requires { HasDistinctNames ty.now → TypedResult (λ v T. IsAt T v) ty.now val.now }
+        ensures made { IfOk result (MakesResult (λ v. v.tree) (λ v T. IsAt T v) ty.now val.old) }
+        ensures full { IfErr result (FullResult (λ v T. IsAt T v) IsFull ty.now val.old) }
+        ensures exact { IfOk result (Made (result_value (either_tree (λ v. v.tree) val.old)) ty.now) }
+        ensures taken { OnOk result (TakesResult ty.now val.old) }
+        ensures refused { IfErr result (RefusesResult own_text ty.now val.old) }
+    {
+        Value::result_unchecked(alloc, ty, replace(val, Ok(None)))
+    }
+
+    fn make_map_unchecked(
+        alloc: Global,
+        ty: &Type,
+        entries: &mut Vec<(Value, Value)>,
+    ) -> Result<Value, WasmValueError>
+        requires { HasDistinctNames ty.now → TypedMap (λ v T. IsAt T v) ty.now entries.now.items }
+        ensures made { IfOk result (MakesMap (λ v. v.tree) (λ v T. IsAt T v) ty.now entries.old.items) }
+        ensures full { IfErr result (FullMap (λ v T. IsAt T v) IsFull ty.now entries.old.items) }
+        ensures exact { IfOk result (MadeMap entries.old.items ty.now) }
+        ensures taken { OnOk result (TakesMap ty.now entries.old.items) }
+        ensures refused { IfErr result (RefusesParts own_text WasmTypeKind.Map ty.now (map_stated ty.now entries.old.items)) }
+    {
+        Value::map_unchecked(alloc, ty, replace(entries, Vec::new(alloc)))
     }
 
     fn unwrap_bool(&self) -> bool {

@@ -1,9 +1,13 @@
 use Rattle.std.proofs.Common.{[], sym, ◌∙◌, ap, subst}
+use Rattle.wave_grammar.specs.FaultOrder.{in_text}
 use Rattle.wave_grammar.specs.NodeTree.{node, no_nodes}
 use Rattle.wave_grammar.specs.declared.form.NodeType.{NodeType}
 use Rattle.wave_read.specs.Reading.{IsReadAs}
 use Rattle.wave_read.specs.Payloads.{result_node}
 use Rattle.wave_read.proofs.results.read_alone.Goals as goal
+
+pub whole-requires : goal.whole-requires
+whole-requires g c = (in_text, g.V.Type.WasmType.tree c.args.ty.now, [], [], c.new-payload.ensures.parts in_text [])
 
 pub returns : goal.returns
 returns g c = λ o w source.

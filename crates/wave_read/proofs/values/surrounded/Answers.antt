@@ -1,5 +1,10 @@
+use Rattle.std.proofs.Common.{Option, Bor, subst}
+use Rattle.wave_read.specs.Flat.{IsOfPartWithin}
 use Rattle.wave_read.proofs.Surrounding.{around_read, alone_read}
 use Rattle.wave_read.proofs.values.surrounded.Goals as goal
+
+pub around-requires : goal.around-requires
+around-requires g c = subst (λ (o : Option (Bor g.row.V-Type.Denot)). IsOfPartWithin g.V.Type.WasmType.tree g.V.WasmValue.is_of o c.args.made) c.in-Some.is c.requires
 
 pub returns-in-Some : goal.returns-in-Some
 returns-in-Some g c = λ o w T source n is place read.

@@ -16,7 +16,7 @@ use super::super::{Content, Type, Value};
 use super::boxed_payload;
 use std::alloc::{AllocError, Global};
 use std::collections::BTreeMap;
-use wave_type::ty::places::{flag_place, has_distinct_flags, variant_case, variant_place};
+use wave_type::ty::places::{flag_place, has_distinct_names, variant_case, variant_place};
 use wave_wasm::wasm::{WasmType, WasmTypeKind, WasmValueError};
 
 impl Value {
@@ -94,7 +94,7 @@ fn places_in_turn(
     ensures grow { IfOk result (λ r. IfSome r (λ is. Grows 0 (length (flags_names ty.now)) is.items)) }
     ensures found { IfOk result (λ r. IfSome r (λ is. map (name_at (flags_names ty.now)) is.items ≡ found_in (texts names.now) (flags_names ty.now))) }
 {
-    if !has_distinct_flags(ty) {
+    if !has_distinct_names(ty) {
         return Ok(None);
     }
     let mut places = Vec::with_capacity(alloc, names.len())?;

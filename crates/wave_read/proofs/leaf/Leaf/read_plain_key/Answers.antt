@@ -1,4 +1,4 @@
-use Rattle.std.proofs.Common.{inr, refl, ap, ◌∙◌, sym, subst}
+use Rattle.std.proofs.Common.{◌≡◌, inr, refl, ap, ◌∙◌, sym, subst}
 use Rattle.wave_wasm.specs.Types as type
 use Rattle.wave_wasm.specs.Types.{TypeTree, kind_of}
 use Rattle.wave_wasm.specs.Values as value
@@ -11,8 +11,11 @@ use Rattle.wave_grammar.proofs.ByKind.Wholes.{whole_answers_key, whole_at}
 use Rattle.wave_grammar.proofs.ByKind.TextKeys.{char_key, no_char_key}
 use Rattle.wave_grammar.proofs.ErrorSpans.Nodes.{all_in, at_in, form_at, char_at}
 use Rattle.wave_read.specs.Leaves.{leaf_node}
+use Rattle.wave_grammar.specs.FaultOrder.{in_text}
+use Rattle.wave_read.specs.Reading.{IsOfType}
+use Rattle.wave_read.proofs.SimpleTypes.{whole_of}
 use Rattle.wave_read.proofs.NamedKinds.{none_word}
-use Rattle.wave_read.proofs.Errors.{key_made, made_in}
+use Rattle.wave_read.proofs.Errors.{key_made, made_in, leaf_anew, leaf_of, none_of}
 use Rattle.wave_read.proofs.leaf.Leaf.read_plain_key.Goals as goal
 
 pub returns-in_err-as_bool_key-in-Bool-clause-answer : goal.returns-in_err-as_bool_key-in-Bool-clause-answer
@@ -59,3 +62,27 @@ returns-in-S8-clause-within g c = λ source here key.
 pub returns-in_ok-as_char-in-Char-clause-within : goal.returns-in_ok-as_char-in-Char-clause-within
 returns-in_ok-as_char-in-Char-clause-within g c = λ source here key.
     made_in source (leaf_node c.args.self.now) c.make_char.result c.or_error_here-in-Char.result (inr key) c.or_error_here-in-Char.ensures
+
+pub returns-in_err-as_bool_key-in-Bool-clause-typed : goal.returns-in_err-as_bool_key-in-Bool-clause-typed
+returns-in_err-as_bool_key-in-Bool-clause-typed g c = λ source here. none_of g.V.WasmValue.is_of (g.V.Type.WasmType.tree c.args.ty.now) (λ e. e ≡ c.in_err-as_bool_key-in-Bool.field-0.0) c.from_residual.result c.from_residual.ensures.1
+
+pub returns-in_ok-as_bool_key-in-Bool-clause-typed : goal.returns-in_ok-as_bool_key-in-Bool-clause-typed
+returns-in_ok-as_bool_key-in-Bool-clause-typed g c = λ source here.
+    subst (λ (T : TypeTree). IsOfType g.V.WasmValue.is_of T c.or_error_here.result) (sym (simple_is type.bool (g.V.Type.WasmType.tree c.args.ty.now) (sym c.in-Bool.is ∙ c.kind-kind.ensures)))
+    (leaf_of g.V.WasmValue.tree g.V.WasmValue.is_of g.V.WasmValue.is_full (value.bool c.in_ok-as_bool_key-in-Bool.field-0) (leaf_node c.args.self.now) c.or_error_here.result (leaf_anew g.V.WasmValue.tree g.V.WasmValue.is_of g.V.WasmValue.is_full (value.bool c.in_ok-as_bool_key-in-Bool.field-0) (leaf_node c.args.self.now) c.make_bool.result c.or_error_here.result c.make_bool.ensures.made c.make_bool.ensures.full c.or_error_here.ensures))
+
+pub returns-in-S8-clause-typed : goal.returns-in-S8-clause-typed
+returns-in-S8-clause-typed g c = λ source here.
+    whole_of g.V.WasmValue.tree g.V.WasmValue.is_of g.V.WasmValue.is_full in_text in_text (g.V.Type.WasmType.tree c.args.ty.now) c.kind-kind.result source (leaf_node c.args.self.now) c.read_whole.result c.kind-kind.ensures (c.read_whole.ensures source here)
+
+pub returns-in_err-as_char-in-Char-clause-typed : goal.returns-in_err-as_char-in-Char-clause-typed
+returns-in_err-as_char-in-Char-clause-typed g c = λ source here. none_of g.V.WasmValue.is_of (g.V.Type.WasmType.tree c.args.ty.now) (λ e. e ≡ c.in_err-as_char-in-Char.field-0.0) c.from_residual-in_err-as_char-in-Char.result c.from_residual-in_err-as_char-in-Char.ensures.1
+
+pub returns-in_ok-as_char-in-Char-clause-typed : goal.returns-in_ok-as_char-in-Char-clause-typed
+returns-in_ok-as_char-in-Char-clause-typed g c = λ source here.
+    subst (λ (T : TypeTree). IsOfType g.V.WasmValue.is_of T c.or_error_here-in-Char.result) (sym (simple_is type.char (g.V.Type.WasmType.tree c.args.ty.now) (sym c.in-Char.is ∙ c.kind-kind.ensures)))
+    (leaf_of g.V.WasmValue.tree g.V.WasmValue.is_of g.V.WasmValue.is_full (value.char c.in_ok-as_char-in-Char.field-0) (leaf_node c.args.self.now) c.or_error_here-in-Char.result (leaf_anew g.V.WasmValue.tree g.V.WasmValue.is_of g.V.WasmValue.is_full (value.char c.in_ok-as_char-in-Char.field-0) (leaf_node c.args.self.now) c.make_char.result c.or_error_here-in-Char.result c.make_char.ensures.made c.make_char.ensures.full c.or_error_here-in-Char.ensures))
+
+pub returns-in-String-clause-typed : goal.returns-in-String-clause-typed
+returns-in-String-clause-typed g c = λ source here.
+    subst (λ (T : TypeTree). IsOfType g.V.WasmValue.is_of T c.read_string_key.result) (sym (simple_is type.string (g.V.Type.WasmType.tree c.args.ty.now) (sym c.in-String.is ∙ c.kind-kind.ensures))) c.read_string_key.ensures.typed

@@ -1,13 +1,13 @@
 use Rattle.std.proofs.Common.{◌∙◌, sym}
 use Rattle.wave_wasm.specs.Types as type
 use Rattle.wave_read.specs.Leaves.{leaf_node}
-use Rattle.wave_read.proofs.SimpleTypes.{read_at_kind, bool_at_kind, whole_at_kind}
+use Rattle.wave_read.proofs.SimpleTypes.{read_at_kind, whole_at_kind}
 use Rattle.wave_read.proofs.NamedKinds.{none_word}
 use Rattle.wave_read.proofs.leaf.Leaf.read_simple.Goals as goal
 
 pub returns-in-Bool : goal.returns-in-Bool
 returns-in-Bool g c = λ due o w source token here.
-    bool_at_kind g.V.WasmValue.tree g.V.WasmValue.is_of g.V.WasmValue.is_full o w (g.V.Type.WasmType.tree c.args.ty.now) source (leaf_node c.args.self.now) c.read_bool.result (sym c.in-Bool.is ∙ c.kind-kind.ensures) (c.read_bool.ensures.answer o w source) c.read_bool.ensures.within
+    read_at_kind g.V.WasmValue.tree g.V.WasmValue.is_of g.V.WasmValue.is_full o w type.bool (g.V.Type.WasmType.tree c.args.ty.now) source (leaf_node c.args.self.now) c.read_bool.result (sym c.in-Bool.is ∙ c.kind-kind.ensures) (c.read_bool.ensures o w source token here)
 
 pub returns-in-Char : goal.returns-in-Char
 returns-in-Char g c = λ due o w source token here.

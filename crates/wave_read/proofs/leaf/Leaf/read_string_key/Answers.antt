@@ -6,7 +6,7 @@ use Rattle.wave_grammar.proofs.ByKind.Keys.{key_made}
 use Rattle.wave_grammar.proofs.ByKind.TextKeys.{string_key}
 use Rattle.wave_grammar.proofs.ErrorSpans.Nodes.{all_in, leaf_at}
 use Rattle.wave_read.specs.Leaves.{leaf_node}
-use Rattle.wave_read.proofs.Errors.{kept_blame, kept_within}
+use Rattle.wave_read.proofs.Errors.{kept_blame, kept_within, leaf_of}
 use Rattle.wave_read.proofs.Strings.{string_key_blamed, told_string_in, given_one}
 use Rattle.wave_read.proofs.leaf.Leaf.read_string_key.Goals as goal
 
@@ -25,3 +25,6 @@ returns-in-Err-clause-answer g c = λ source here K p key is token.
 pub returns-in-Err-clause-within : goal.returns-in-Err-clause-within
 returns-in-Err-clause-within g c = λ source here key.
     kept_within (leaf_node c.args.self.now) c.in-Err.error c.of_error.result c.of_error.ensures (told_string_in source (leaf_node c.args.self.now) c.in-Err.error (inr key) (c.in-Err.ensures.gives source here (inr key)))
+
+pub returns-in-Ok-clause-typed : goal.returns-in-Ok-clause-typed
+returns-in-Ok-clause-typed g c = leaf_of g.V.WasmValue.tree g.V.WasmValue.is_of g.V.WasmValue.is_full (string (cow_str_bytes c.in-Ok.text)) (leaf_node c.args.self.now) c.made_string.result c.made_string.ensures

@@ -6,10 +6,39 @@ use Rattle.wave_grammar.specs.declared.form.NodeType.TheVariants as kind
 use Rattle.wave_wasm.specs.Types.{TypeTree}
 use Rattle.wave_read.specs.PlainReading.{IsPlain}
 use Rattle.wave_read.specs.Reading.{IsReadAs}
-use Rattle.wave_read.specs.PartsOfKinds.{AreParts}
+use Rattle.wave_read.specs.PartsOfKinds.{AreParts, AreBareOrRead}
 use Rattle.wave_read.specs.declared.parts.Partial.{Partial}
 use Rattle.wave_read.proofs.Doomed.{told}
+use Rattle.wave_read.proofs.PartsRead.{items_read, row_read, some_was_read, result_was_read, case_read, fields_read, entries_read}
 use Rattle.wave_read.proofs.parts.Partial+V+Type+V.whole.Goals as goal
+
+pub whole-requires : goal.whole-requires
+whole-requires g c =
+    items_read g.V.Type.WasmType.tree g.V.WasmValue.tree g.V.WasmValue.is_of g.V.WasmValue.is_full c.in-Items.items (subst (AreBareOrRead g.V.Type.WasmType.tree g.V.WasmValue.tree g.V.WasmValue.is_of g.V.WasmValue.is_full) c.in-Items.is c.requires)
+
+pub whole-requires-in-TupleItems : goal.whole-requires-in-TupleItems
+whole-requires-in-TupleItems g c =
+    row_read g.V.Type.WasmType.tree g.V.WasmValue.tree g.V.WasmValue.is_of g.V.WasmValue.is_full c.in-TupleItems.row (subst (AreBareOrRead g.V.Type.WasmType.tree g.V.WasmValue.tree g.V.WasmValue.is_of g.V.WasmValue.is_full) c.in-TupleItems.is c.requires)
+
+pub whole-requires-in-OfSome : goal.whole-requires-in-OfSome
+whole-requires-in-OfSome g c =
+    some_was_read g.V.Type.WasmType.tree g.V.WasmValue.tree g.V.WasmValue.is_of g.V.WasmValue.is_full c.in-OfSome.payload (subst (AreBareOrRead g.V.Type.WasmType.tree g.V.WasmValue.tree g.V.WasmValue.is_of g.V.WasmValue.is_full) c.in-OfSome.is c.requires)
+
+pub whole-requires-in-OfResult : goal.whole-requires-in-OfResult
+whole-requires-in-OfResult g c =
+    result_was_read g.V.Type.WasmType.tree g.V.WasmValue.tree g.V.WasmValue.is_of g.V.WasmValue.is_full c.in-OfResult.payload (subst (AreBareOrRead g.V.Type.WasmType.tree g.V.WasmValue.tree g.V.WasmValue.is_of g.V.WasmValue.is_full) c.in-OfResult.is c.requires)
+
+pub whole-requires-in-OfCase : goal.whole-requires-in-OfCase
+whole-requires-in-OfCase g c =
+    case_read g.V.Type.WasmType.tree g.V.WasmValue.tree g.V.WasmValue.is_of g.V.WasmValue.is_full c.in-OfCase.payload (subst (AreBareOrRead g.V.Type.WasmType.tree g.V.WasmValue.tree g.V.WasmValue.is_of g.V.WasmValue.is_full) c.in-OfCase.is c.requires)
+
+pub whole-requires-in-Fields : goal.whole-requires-in-Fields
+whole-requires-in-Fields g c =
+    fields_read g.V.Type.WasmType.tree g.V.WasmValue.tree g.V.WasmValue.is_of g.V.WasmValue.is_full c.in-Fields.fields (subst (AreBareOrRead g.V.Type.WasmType.tree g.V.WasmValue.tree g.V.WasmValue.is_of g.V.WasmValue.is_full) c.in-Fields.is c.requires)
+
+pub whole-requires-in-Entries : goal.whole-requires-in-Entries
+whole-requires-in-Entries g c =
+    entries_read g.V.Type.WasmType.tree g.V.WasmValue.tree g.V.WasmValue.is_of g.V.WasmValue.is_full c.in-Entries.entries (subst (AreBareOrRead g.V.Type.WasmType.tree g.V.WasmValue.tree g.V.WasmValue.is_of g.V.WasmValue.is_full) c.in-Entries.is c.requires)
 
 pub returns-in-Faulty-clause-read : goal.returns-in-Faulty-clause-read
 returns-in-Faulty-clause-read g c = λ w T source of children parts.

@@ -1,14 +1,14 @@
 use Rattle.wave_grammar.specs.FaultOrder.{in_text}
-use Rattle.std.proofs.Common.{List, length, ◌≡◌, refl, subst, arith}
+use Rattle.std.proofs.Common.{List, length, ◌≡◌, refl, sym, subst, arith}
 use Rattle.std.specs.Prelude.{IfOk, IfErr}
-use Rattle.wave_wasm.specs.Types.{TypeTree}
+use Rattle.wave_wasm.specs.Types.{TypeTree, HasDistinctNames}
 use Rattle.wave_wasm.specs.Borrowed.{shown_all}
-use Rattle.wave_wasm.specs.ConstructorContracts.{MakesTuple, FullTuple}
+use Rattle.wave_wasm.specs.ConstructorContracts.{MakesTuple, FullTuple, TypedTuple}
 use Rattle.wave_grammar.specs.NodeTree.{node, node_trees}
 use Rattle.wave_grammar.specs.declared.form.NodeType.TheVariants as kind
 use Rattle.wave_grammar.proofs.ByKind.Tuples.{as_shown}
 use Rattle.wave_read.specs.TupleParts.{AreReadEach}
-use Rattle.wave_read.proofs.TupleItems.{items_fine, count_refused, tuple_read}
+use Rattle.wave_read.proofs.TupleItems.{items_fine, count_refused, row_typed, tuple_read}
 use Rattle.wave_read.proofs.tuples.TupleItems+V+Type+V.whole.Goals as goal
 
 pub returns-then-count-want : goal.returns-then-count-want
@@ -18,10 +18,17 @@ returns-then-count-want g c = λ w T source children a.
     (λ Ts is distinct items nodes. items_fine g.V.WasmValue.tree g.V.WasmValue.is_of g.V.WasmValue.is_full in_text w Ts source children c.args.self.items.items items distinct
     (subst (λ (l : List TypeTree). AreReadEach g.V.WasmValue.tree g.V.WasmValue.is_of g.V.WasmValue.is_full w l source children c.args.self.items.items) is a.read) nodes) c.wrong_number.ensures.refusal c.wrong_number.ensures.span
 
+pub make_tuple_unchecked-requires : goal.make_tuple_unchecked-requires
+make_tuple_unchecked-requires g c =
+    let (w, T, source, children, a) = c.requires in
+    let wanted : c.len-want.result ≡ length (shown_all g.V.Type.WasmType.tree c.args.self.types.items) = omega (arith, as_shown g.V.Type.WasmType.tree c.args.self.types.items) in
+    subst (λ (U : TypeTree). HasDistinctNames U → TypedTuple g.V.WasmValue.is_of U c.args.self.items.items) (sym a.is)
+    (row_typed g.V.WasmValue.tree g.V.WasmValue.is_of g.V.WasmValue.is_full in_text w T (shown_all g.V.Type.WasmType.tree c.args.self.types.items) source children c.args.self.items.items c.len-want.result c.args.self.count a.kind a.parts wanted a.count c.if-count-want.false a.read)
+
 pub returns : goal.returns
 returns g c = λ w T source children a.
     let wanted : c.len-want.result ≡ length (shown_all g.V.Type.WasmType.tree c.args.self.types.items) = omega (arith, as_shown g.V.Type.WasmType.tree c.args.self.types.items) in
-    tuple_read g.V.WasmValue.tree g.V.WasmValue.is_of g.V.WasmValue.is_full in_text w T (shown_all g.V.Type.WasmType.tree c.args.self.types.items) source c.args.span children c.args.self.items.items c.len-want.result c.args.self.count c.make_tuple.result c.or_error_at.result a.kind a.parts wanted a.count c.if-count-want.false a.read
-    (subst (λ (U : TypeTree). IfOk c.make_tuple.result (MakesTuple g.V.WasmValue.tree g.V.WasmValue.is_of U c.args.self.items.items)) a.is c.make_tuple.ensures.made)
-    (subst (λ (U : TypeTree). IfErr c.make_tuple.result (FullTuple g.V.WasmValue.is_of g.V.WasmValue.is_full U c.args.self.items.items)) a.is c.make_tuple.ensures.full)
+    tuple_read g.V.WasmValue.tree g.V.WasmValue.is_of g.V.WasmValue.is_full in_text w T (shown_all g.V.Type.WasmType.tree c.args.self.types.items) source c.args.span children c.args.self.items.items c.len-want.result c.args.self.count c.make_tuple_unchecked.result c.or_error_at.result a.kind a.parts wanted a.count c.if-count-want.false a.read
+    (subst (λ (U : TypeTree). IfOk c.make_tuple_unchecked.result (MakesTuple g.V.WasmValue.tree g.V.WasmValue.is_of U c.args.self.items.items)) a.is c.make_tuple_unchecked.ensures.made)
+    (subst (λ (U : TypeTree). IfErr c.make_tuple_unchecked.result (FullTuple g.V.WasmValue.is_of g.V.WasmValue.is_full U c.args.self.items.items)) a.is c.make_tuple_unchecked.ensures.full)
     (c.or_error_at.ensures (node kind.Tuple c.args.span (node_trees children)) refl)

@@ -1,8 +1,19 @@
 use Rattle.wave_grammar.specs.FaultOrder.{in_text}
 use Rattle.std.proofs.Common.{refl}
 use Rattle.wave_grammar.specs.NodeTree.{node, node_trees}
-use Rattle.wave_read.proofs.KeptSteps.{whole_alone, whole_around, alone_spares, around_spares}
+use Rattle.wave_read.proofs.KeptSteps.{kept_read, part_around, whole_alone, whole_around, alone_spares, around_spares}
 use Rattle.wave_read.proofs.values.Frame+V+Type+V.whole.Goals as goal
+
+pub whole-made-requires : goal.whole-made-requires
+whole-made-requires g c =
+    let (w, due, source, ty, children, kept) = c.requires in
+    kept_read g.V.Type.WasmType.tree g.V.WasmValue.tree g.V.WasmValue.is_of g.V.WasmValue.is_full w source ty due children c.args.self kept
+
+pub around-requires : goal.around-requires
+around-requires g c =
+    let (w, due, source, ty, children, kept) = c.requires in
+    part_around g.V.Type.WasmType.tree g.V.WasmValue.tree g.V.WasmValue.is_of g.V.WasmValue.is_full w source ty children c.args.span due c.args.self c.in-Some.ty c.whole-made.result c.in-Some.is
+    (λ U parts. c.whole-made.ensures.read w U source ty children parts) kept
 
 pub returns-in-Some : goal.returns-in-Some
 returns-in-Some g c = λ w due source ty children kept. (

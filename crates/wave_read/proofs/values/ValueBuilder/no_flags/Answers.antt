@@ -1,11 +1,19 @@
-use Rattle.std.proofs.Common.{◌≡◌, ◌⊎◌, Option, Bor, sym, subst}
+use Rattle.std.proofs.Common.{◌≡◌, ◌⊎◌, [], Option, Bor, refl, sym, subst}
+use Rattle.wave_grammar.specs.FaultOrder.{in_text}
+use Rattle.wave_grammar.specs.NodeTree.{node, no_nodes}
 use Rattle.wave_wasm.specs.Borrowed.{shown}
 use Rattle.wave_grammar.specs.declared.form.NodeType.{NodeType}
 use Rattle.wave_grammar.specs.declared.form.NodeType.TheVariants as kind
 use Rattle.wave_read.specs.Reading.{IsReadWhereDue}
 use Rattle.wave_read.proofs.PlainTypes.{no_row_spares, flags_no_row}
 use Rattle.wave_read.specs.Flat.{IsAround}
+use Rattle.wave_read.proofs.Surrounding.{part_within}
 use Rattle.wave_read.proofs.values.ValueBuilder.no_flags.Goals as goal
+
+pub surrounded-requires : goal.surrounded-requires
+surrounded-requires g c =
+    part_within g.V.Type.WasmType.tree g.V.WasmValue.is_of kind.Flags c.refuse_flags-made.result (g.V.Type.WasmType.tree c.in-Some.due.now) c.type_of_parts.result.0 c.type_of_parts.result.1 c.type_of_parts.ensures
+    (c.refuse_flags-made.ensures in_text in_text [] (node kind.Flags c.args.span no_nodes) refl refl).typed
 
 pub returns-clause-read : goal.returns-clause-read
 returns-clause-read g c = λ o w source n ty place. (

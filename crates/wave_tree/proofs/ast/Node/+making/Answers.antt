@@ -8,7 +8,7 @@ use Rattle.wave_grammar.specs.FaultOrder.{in_text, by_type}
 use Rattle.wave_grammar.specs.TypedGrammar.{names_of}
 use Rattle.wave_grammar.specs.NodeTree.{NodeTree, type_of, place_of, children_of}
 use Rattle.wave_grammar.specs.NodeAccessors.{shown_node}
-use Rattle.wave_grammar.specs.TypedReading.{IsValueOf, IsKeyOf}
+use Rattle.wave_grammar.specs.TypedReading.{IsValueOf, IsKeyOf, Answers}
 use Rattle.wave_grammar.specs.Shared.ErrorSpans.{RefusesIn}
 use Rattle.wave_grammar.specs.Shared.NodeFields.{fields_at, AnswersField, IsFieldNode}
 use Rattle.wave_grammar.specs.declared.form.NodeType.{NodeType}
@@ -28,13 +28,15 @@ use Rattle.wave_read.specs.PlainReading.{IsReadSparing}
 use Rattle.wave_read.proofs.PlainTypes.{no_row_spares}
 use Rattle.wave_read.specs.Flat.{ReadsNoRecord, IsCounted}
 use Rattle.wave_read.specs.KeptParts.{AreKeptWhereDue}
+use Rattle.wave_read.specs.PartsOfKinds.{AreDoomedAtOnce}
 use Rattle.wave_tree.proofs.Children.{child_below, key_child, value_child, if_true, if_false, more_children, key_alone, whole_at}
 use Rattle.wave_tree.proofs.TypeOrder.{read_by_type}
 use Rattle.wave_tree.proofs.ReadNodes.{due_read, set_no_row, record_read, field_told, left_told}
-use Rattle.wave_tree.proofs.RecordNodes.{part_at, as_parts, still_held, held_value, none_before, removed_next, unknown_blame, fields_kept, record_done, held_belongs, held_below, depth_of_maybe}
+use Rattle.wave_tree.proofs.RecordNodes.{part_at, as_parts, still_held, held_value, none_before, removed_next, unknown_blame, fields_kept, record_typed, record_done, held_belongs, held_below, depth_of_maybe}
 use Rattle.wave_tree.proofs.ast.Node.+making.Goals.{make_of_parts-then-takes_key+in_ok-push_key, make_of_parts-else-takes_key+in_ok-made+in_ok-push_part}
 use Rattle.wave_tree.proofs.ast.Node.+making.Goals as goal
-use Rattle.wave_read.proofs.Errors.{made_in, no_memory, same_or_memory}
+use Rattle.wave_read.proofs.Surrounding.{due_within}
+use Rattle.wave_read.proofs.Errors.{made_in, no_memory, same_or_memory, none_of, typed_of}
 
 -- ---- at the type that is due
 
@@ -45,6 +47,11 @@ make-returns-in-Some g t c =
           (λ T is. c.surrounded.ensures by_type by_type T c.args.src.now c.args.self.now is (sym c.span.ensures) c.read_record-made.ensures),
       no_row_spares (shown g.V.Type.WasmType.tree c.args.builder.due) c.args.self.now c.surrounded.result (set_no_row (type_of c.args.self.now) set),
     )
+
+pub make-surrounded-requires : goal.make-surrounded-requires
+make-surrounded-requires g t c =
+    let set : type_of c.args.self.now ≡ kind.TupleSet = sym c.ty.ensures ∙ c.in-Some.ensures.node in
+    due_within g.V.Type.WasmType.tree g.V.WasmValue.is_of kind.TupleSet c.read_record-made.result (shown g.V.Type.WasmType.tree c.args.builder.due) c.in-Some.around c.in-Some.ty c.in-Some.ensures.around c.read_record-made.ensures.typed
 
 pub read-returns-in-Ok : goal.read-returns-in-Ok
 read-returns-in-Ok g t c =
@@ -68,6 +75,7 @@ read_record-returns-in-Err-fields g t c =
     same_or_memory g.V.WasmValue.tree g.V.WasmValue.is_of g.V.WasmValue.is_full by_type by_type (g.V.Type.WasmType.tree c.args.ty.now) c.args.src.now c.args.self.now c.in-Err-fields.error c.of_error.result (record {
       answer = λ p is distinct. nodes_blame g.V.WasmValue.is_full by_type (g.V.Type.WasmType.tree c.args.ty.now) (shown_fields g.V.Type.WasmType.tree c.in-Ok.types.items) c.args.src.now c.args.self.now p c.in-Err-fields.error is_record is c.in-Err-fields.ensures.refused;
       within = λ value. c.in-Err-fields.ensures.within;
+      typed = tt;
     }) c.of_error.ensures
 
 pub read_record-read_field-requires : goal.read_record-read_field-requires
@@ -89,6 +97,7 @@ read_record-returns-in_err-val g t c =
           handed g.V.WasmValue.tree g.V.WasmValue.is_of g.V.WasmValue.is_full by_type by_type (g.V.Type.WasmType.tree c.args.ty.now) p c.in_err-val.field-0.0 c.from_residual.result c.from_residual.ensures.1
           (field_blamed g.V.WasmValue.tree g.V.WasmValue.is_of g.V.WasmValue.is_full by_type (g.V.Type.WasmType.tree c.args.ty.now) (shown_fields g.V.Type.WasmType.tree c.in-Ok.types.items) c.args.src.now c.args.self.now p (fields_at c.args.src.now (children_of c.args.self.now)) c.loop-i.fields.items c.in_err-val.field-0.0 is_record is c.in-Ok-fields.ensures.given distinct c.loop-i.i c.index.result.now.0.now (g.V.Type.WasmType.tree c.index.result.now.1.now) (shown_node c.remove-node.result) typed g.met.V.WasmValue.full_parts found (c.loop-i.invariant.read (fields_at c.args.src.now (children_of c.args.self.now)) c.in-Ok-fields.ensures.held (entry_list (record_nodes c.args.src.now c.args.self.now p is c.in-Ok-fields.ensures.given.is_set).given) (given_fields c.args.src.now c.args.self.now p (fields_at c.args.src.now (children_of c.args.self.now)) is c.in-Ok-fields.ensures.given) apart) c.in_err-val.ensures.answer);
       within = λ value. error_handed (RefusesIn c.args.self.now) c.from_residual.result c.in_err-val.field-0.0 c.from_residual.ensures.1 (part_in c.args.src.now c.args.self.now (shown_node c.remove-node.result) c.in_err-val.field-0.0 (inl value) (held_belongs c.args.src.now c.args.self.now (names_of (take c.loop-i.i (shown_fields g.V.Type.WasmType.tree c.in-Ok.types.items))) c.in-Ok-fields.nodes c.loop-i.nodes (fields_at c.args.src.now (children_of c.args.self.now)) c.index.result.now.0.now c.remove-node.result value c.in-Ok-fields.ensures.given c.in-Ok-fields.ensures.held c.loop-i.invariant.removed c.remove-node.ensures.value) c.in_err-val.ensures.within);
+      typed = none_of g.V.WasmValue.is_of (g.V.Type.WasmType.tree c.args.ty.now) (λ e. e ≡ c.in_err-val.field-0.0) c.from_residual.result c.from_residual.ensures.1;
     }
 
 pub read_record-loop-i-preserved : goal.read_record-loop-i-preserved
@@ -111,18 +120,32 @@ read_record-returns-then-not-is_empty g t c =
       answer = λ p is distinct.
           unknown_blame g.V.WasmValue.tree g.V.WasmValue.is_of g.V.WasmValue.is_full by_type (g.V.Type.WasmType.tree c.args.ty.now) (shown_fields g.V.Type.WasmType.tree c.in-Ok.types.items) c.args.src.now c.args.self.now p (fields_at c.args.src.now (children_of c.args.self.now)) c.loop-i.i c.in-Ok-fields.nodes c.loop-i.nodes c.loop-i.fields.items c.read_error-then-not-is_empty.result is_record distinct is c.in-Ok-fields.ensures.given c.in-Ok-fields.ensures.held (omega (arith, as_parts g.V.Type.WasmType.tree c.in-Ok.types.items)) c.loop-i.invariant.removed (failed c.is_empty.result c.if-not-is_empty.true c.is_empty.ensures.1) (c.loop-i.invariant.read (fields_at c.args.src.now (children_of c.args.self.now)) c.in-Ok-fields.ensures.held (entry_list (record_nodes c.args.src.now c.args.self.now p is c.in-Ok-fields.ensures.given.is_set).given) (given_fields c.args.src.now c.args.self.now p (fields_at c.args.src.now (children_of c.args.self.now)) is c.in-Ok-fields.ensures.given) (fields_distinct (g.V.Type.WasmType.tree c.args.ty.now) (shown_fields g.V.Type.WasmType.tree c.in-Ok.types.items) is_record distinct)) (said {p = place_of c.args.self.now} c.read_error-then-not-is_empty.ensures);
       within = λ value. at_in c.args.src.now c.args.self.now c.read_error-then-not-is_empty.result (inl value) (refused_at _ c.args.self.now c.read_error-then-not-is_empty.result (λ was. cc) tt c.read_error-then-not-is_empty.ensures);
+      typed = tt;
     }
+
+pub read_record-make_record_unchecked-requires : goal.read_record-make_record_unchecked-requires
+read_record-make_record_unchecked-requires g t c = λ distinct.
+    let known : kind_of (g.V.Type.WasmType.tree c.args.ty.now) ≡ kinds.Record = assumption in
+    let value : IsValueOf c.args.src.now c.args.self.now = assumption in
+    let is_record : RecordType (g.V.Type.WasmType.tree c.args.ty.now) (shown_fields g.V.Type.WasmType.tree c.in-Ok.types.items) = record_is (g.V.Type.WasmType.tree c.args.ty.now) (shown_fields g.V.Type.WasmType.tree c.in-Ok.types.items) (sym known) c.in-Ok.ensures in
+    let apart = fields_distinct (g.V.Type.WasmType.tree c.args.ty.now) (shown_fields g.V.Type.WasmType.tree c.in-Ok.types.items) is_record distinct in
+    let es = entry_list (record_nodes c.args.src.now c.args.self.now value.0 value.1 c.in-Ok-fields.ensures.given.is_set).given in
+    let read = c.loop-i.invariant.read (fields_at c.args.src.now (children_of c.args.self.now)) c.in-Ok-fields.ensures.held es (given_fields c.args.src.now c.args.self.now value.0 (fields_at c.args.src.now (children_of c.args.self.now)) value.1 c.in-Ok-fields.ensures.given) apart in
+    record_typed g.V.WasmValue.tree g.V.WasmValue.is_of g.V.WasmValue.is_full by_type (g.V.Type.WasmType.tree c.args.ty.now) (shown_fields g.V.Type.WasmType.tree c.in-Ok.types.items) es c.loop-i.i c.loop-i.fields.items is_record apart (omega (arith, as_parts g.V.Type.WasmType.tree c.in-Ok.types.items)) read
 
 pub read_record-returns : goal.read_record-returns
 read_record-returns g t c =
     let known : kind_of (g.V.Type.WasmType.tree c.args.ty.now) ≡ kinds.Record = assumption in
     let is_record : RecordType (g.V.Type.WasmType.tree c.args.ty.now) (shown_fields g.V.Type.WasmType.tree c.in-Ok.types.items) = record_is (g.V.Type.WasmType.tree c.args.ty.now) (shown_fields g.V.Type.WasmType.tree c.in-Ok.types.items) (sym known) c.in-Ok.ensures in
     let made = c.or_error_at.ensures c.args.self.now (sym c.span.ensures) in
+    let value : IsValueOf c.args.src.now c.args.self.now = assumption in
+    let answer : Answers g.V.WasmValue.tree g.V.WasmValue.is_of g.V.WasmValue.is_full by_type by_type (g.V.Type.WasmType.tree c.args.ty.now) c.args.src.now c.args.self.now c.or_error_at.result = λ p is distinct.
+    let read = c.loop-i.invariant.read (fields_at c.args.src.now (children_of c.args.self.now)) c.in-Ok-fields.ensures.held (entry_list (record_nodes c.args.src.now c.args.self.now p is c.in-Ok-fields.ensures.given.is_set).given) (given_fields c.args.src.now c.args.self.now p (fields_at c.args.src.now (children_of c.args.self.now)) is c.in-Ok-fields.ensures.given) (fields_distinct (g.V.Type.WasmType.tree c.args.ty.now) (shown_fields g.V.Type.WasmType.tree c.in-Ok.types.items) is_record distinct) in
+    record_done g.V.WasmValue.tree g.V.WasmValue.is_of g.V.WasmValue.is_full by_type (g.V.Type.WasmType.tree c.args.ty.now) (shown_fields g.V.Type.WasmType.tree c.in-Ok.types.items) c.args.src.now c.args.self.now p (fields_at c.args.src.now (children_of c.args.self.now)) c.loop-i.i c.in-Ok-fields.nodes c.loop-i.nodes c.loop-i.fields.items c.make_record_unchecked.result c.or_error_at.result is_record distinct is c.in-Ok-fields.ensures.given c.in-Ok-fields.ensures.held (omega (arith, as_parts g.V.Type.WasmType.tree c.in-Ok.types.items)) c.loop-i.invariant.removed (c.is_empty.ensures.0 c.if-not-is_empty.false) read c.make_record_unchecked.ensures.made c.make_record_unchecked.ensures.full made in
     record {
-      answer = λ p is distinct.
-          let read = c.loop-i.invariant.read (fields_at c.args.src.now (children_of c.args.self.now)) c.in-Ok-fields.ensures.held (entry_list (record_nodes c.args.src.now c.args.self.now p is c.in-Ok-fields.ensures.given.is_set).given) (given_fields c.args.src.now c.args.self.now p (fields_at c.args.src.now (children_of c.args.self.now)) is c.in-Ok-fields.ensures.given) (fields_distinct (g.V.Type.WasmType.tree c.args.ty.now) (shown_fields g.V.Type.WasmType.tree c.in-Ok.types.items) is_record distinct) in
-          record_done g.V.WasmValue.tree g.V.WasmValue.is_of g.V.WasmValue.is_full by_type (g.V.Type.WasmType.tree c.args.ty.now) (shown_fields g.V.Type.WasmType.tree c.in-Ok.types.items) c.args.src.now c.args.self.now p (fields_at c.args.src.now (children_of c.args.self.now)) c.loop-i.i c.in-Ok-fields.nodes c.loop-i.nodes c.loop-i.fields.items c.make_record.result c.or_error_at.result is_record distinct is c.in-Ok-fields.ensures.given c.in-Ok-fields.ensures.held (omega (arith, as_parts g.V.Type.WasmType.tree c.in-Ok.types.items)) c.loop-i.invariant.removed (c.is_empty.ensures.0 c.if-not-is_empty.false) read c.make_record.ensures.made c.make_record.ensures.full made;
-      within = λ value. made_in c.args.src.now c.args.self.now c.make_record.result c.or_error_at.result (inl value) made;
+      answer = answer;
+      within = λ value. made_in c.args.src.now c.args.self.now c.make_record_unchecked.result c.or_error_at.result (inl value) made;
+      typed = typed_of g.V.WasmValue.tree g.V.WasmValue.is_of g.V.WasmValue.is_full by_type by_type (g.V.Type.WasmType.tree c.args.ty.now) c.args.src.now c.args.self.now c.or_error_at.result value answer;
     }
 
 pub read_field-read-requires : goal.read_field-read-requires
@@ -156,8 +179,9 @@ pub make_of_parts-returns-in-Some : goal.make_of_parts-returns-in-Some
 make_of_parts-returns-in-Some g t c =
     let form : IsOfParts (type_of c.args.self.now) = assumption in
     let parts : IsOfParts c.ty-ty.result = subst IsOfParts (sym c.ty-ty.ensures) form in
-    subst (λ (n : NodeTree). IsReadSparing g.V.WasmValue.tree g.V.WasmValue.is_of g.V.WasmValue.is_full by_type by_type (shown g.V.Type.WasmType.tree c.args.builder.due) c.args.src.now n (Err c.in-Some.error)) (whole_at c.args.self.now c.ty-ty.result c.span.result c.ty-ty.ensures c.span.ensures)
-    (c.in-Some.ensures.refused by_type (shown g.V.Type.WasmType.tree c.args.builder.due) c.args.src.now c.ty-ty.result (children_of c.args.self.now) parts (ap length (sym c.nodes-nodes.ensures)) (c.begin-parts.ensures.begun by_type c.args.src.now parts) c.begin-parts.ensures.doomed)
+    c.in-Some.ensures.refused by_type (shown g.V.Type.WasmType.tree c.args.builder.due) c.args.src.now form
+    (subst (λ (k : NodeType). AreKeptWhereDue g.V.Type.WasmType.tree g.V.WasmValue.tree g.V.WasmValue.is_of g.V.WasmValue.is_full by_type (shown g.V.Type.WasmType.tree c.args.builder.due) c.args.src.now k [] c.begin-parts.result) c.ty-ty.ensures (c.begin-parts.ensures.begun by_type c.args.src.now parts))
+    (λ T due. subst (λ (k : NodeType). AreDoomedAtOnce g.V.Type.WasmType.tree g.V.WasmValue.tree g.V.WasmValue.is_of g.V.WasmValue.is_full T k c.begin-parts.result.parts) c.ty-ty.ensures (c.begin-parts.ensures.doomed T due))
 
 pub make-make_of_parts-requires : goal.make-make_of_parts-requires
 make-make_of_parts-requires g t c κs within =
@@ -213,6 +237,9 @@ make_of_parts-loop-i-preserved g t c =
           (w.in_ok-push_part.ensures.kept by_type (shown g.V.Type.WasmType.tree c.args.builder.due) c.args.src.now (type_of c.args.self.now) (take c.loop-i.i (children_of c.args.self.now)) c.index-nodes-i.result next c.loop-i.invariant made))
     ]
 
+pub make_of_parts-whole-requires : goal.make_of_parts-whole-requires
+make_of_parts-whole-requires g t c = (by_type, shown g.V.Type.WasmType.tree c.args.builder.due, c.args.src.now, type_of c.args.self.now, take c.loop-i.i (children_of c.args.self.now), c.loop-i.invariant)
+
 pub make_of_parts-returns : goal.make_of_parts-returns
 make_of_parts-returns g t c =
     let form : IsOfParts (type_of c.args.self.now) = assumption in
@@ -220,10 +247,10 @@ make_of_parts-returns g t c =
     let no_record : (T : TypeTree) → shown g.V.Type.WasmType.tree c.args.builder.due ≡ Some T → ReadsNoRecord T (type_of c.args.self.now) = assumption in
     let ended : length (children_of c.args.self.now) ≤ c.loop-i.i = subst (λ (l : List NodeTree). length l ≤ c.loop-i.i) c.nodes-nodes.ensures c.loop-i-test.false in
     let all = subst (λ (l : List NodeTree). AreKeptWhereDue g.V.Type.WasmType.tree g.V.WasmValue.tree g.V.WasmValue.is_of g.V.WasmValue.is_full by_type (shown g.V.Type.WasmType.tree c.args.builder.due) c.args.src.now (type_of c.args.self.now) l c.loop-i.parts) (take_all c.loop-i.i (children_of c.args.self.now) ended) c.loop-i.invariant in
-    let read = subst (λ (n : NodeTree). IsReadSparing g.V.WasmValue.tree g.V.WasmValue.is_of g.V.WasmValue.is_full in_text by_type (shown g.V.Type.WasmType.tree c.args.builder.due) c.args.src.now n c.whole.result) (whole_at c.args.self.now (type_of c.args.self.now) c.span-2.result refl c.span-2.ensures)
+    let read = subst (λ (n : NodeTree). IsReadSparing g.V.WasmValue.tree g.V.WasmValue.is_of g.V.WasmValue.is_full in_text by_type (shown g.V.Type.WasmType.tree c.args.builder.due) c.args.src.now n c.whole.result) (whole_at c.args.self.now (type_of c.args.self.now) c.span.result refl c.span.ensures)
     (c.whole.ensures by_type (shown g.V.Type.WasmType.tree c.args.builder.due) c.args.src.now (type_of c.args.self.now) (children_of c.args.self.now) all) in
     read_by_type g.V.WasmValue.tree g.V.WasmValue.is_of g.V.WasmValue.is_full by_type (shown g.V.Type.WasmType.tree c.args.builder.due) c.args.src.now c.args.self.now c.whole.result no_record
     (λ T due.
     let begun = subst (λ (o : Option TypeTree). AreKeptWhereDue g.V.Type.WasmType.tree g.V.WasmValue.tree g.V.WasmValue.is_of g.V.WasmValue.is_full by_type o c.args.src.now c.ty-ty.result [] c.begin-parts.result) due (c.begin-parts.ensures.begun by_type c.args.src.now parts) in
-    subst (λ (ns : List NodeTree). IsCounted T (type_of c.args.self.now) (length ns)) c.nodes-nodes.ensures
-    (subst (λ (k : NodeType). IsCounted T k (length c.nodes-nodes.result.now)) c.ty-ty.ensures (c.in_default.ensures.counted by_type T c.args.src.now c.ty-ty.result parts begun (c.begin-parts.ensures.doomed T due)))) read
+    c.in_default.ensures.counted by_type T c.args.src.now form (subst (λ (k : NodeType). AreKeptWhereDue g.V.Type.WasmType.tree g.V.WasmValue.tree g.V.WasmValue.is_of g.V.WasmValue.is_full by_type (Some T) c.args.src.now k [] c.begin-parts.result) c.ty-ty.ensures begun)
+    (subst (λ (k : NodeType). AreDoomedAtOnce g.V.Type.WasmType.tree g.V.WasmValue.tree g.V.WasmValue.is_of g.V.WasmValue.is_full T k c.begin-parts.result.parts) c.ty-ty.ensures (c.begin-parts.ensures.doomed T due))) read

@@ -795,3 +795,81 @@ parse_part-returns-clause-memory g t c = wants_any (λ (source : List ℕ) (of :
 
 pub parse_part-returns-clause-asks : goal.parse_part-returns-clause-asks
 parse_part-returns-clause-asks g t c = asks_token c.args.self.now c.advance.new.self c.parse_behind.new.self c.in_ok-token.token c.in_ok-token.ensures.takes c.advance.ensures.asks c.parse_behind.ensures.asks
+
+-- ---- parts that a value is made of are those of its node's children
+
+pub parse_some-parse_payload-requires : goal.parse_some-parse_payload-requires
+parse_some-parse_payload-requires g t c κs within = (omega arith, (within.0, (within.1.0, (within.1.1, ([], refl, c.parts-parts.ensures c.expect.new.self.place.lexer.source tt)))))
+
+pub parse_maybe-parse_payload-requires : goal.parse_maybe-parse_payload-requires
+parse_maybe-parse_payload-requires g t c κs within =
+    let label = label_children c.args.with (span_at c.next_is.new.self.place) in
+    let behind : c.expect.new.self.place.lexer.source ≡ c.next_is.new.self.place.lexer.source = source_item c.next_is.new.self.place c.expect.new.self.place ParenOpen c.in_ok-expect.ensures.takes in
+    (omega arith, (within.0, (within.1.0, (within.1.1, (label, payload_due c.args.with (span_at c.next_is.new.self.place) c.requires.1, subst (λ (s : List ℕ). g.P.Builder.are_parts c.args.builder s c.args.with label c.in_ok-front.front) (sym behind) (c.in_ok-front.ensures.made (payload_parts c.args.with c.requires.1)))))))
+
+pub parse_braces-parse_entries-requires : goal.parse_braces-parse_entries-requires
+parse_braces-parse_entries-requires g t c κs within =
+    let key = node kind_of_node.Label (span_at c.next_is.new.self.place) no_nodes in
+    let behind : c.expect-then-next_is.new.self.place.lexer.source ≡ c.next_is.new.self.place.lexer.source = source_item c.next_is.new.self.place c.expect-then-next_is.new.self.place Colon c.in_ok-expect-2.ensures.takes in
+    (omega arith, (within.0, (within.1.0, (within.1.1, (key, subst (λ (s : List ℕ). g.P.Builder.are_parts c.args.builder s kind_of_node.TupleSet (key ∷ []) c.in_ok-key.key) (sym behind) c.in_ok-key.ensures.made)))))
+
+pub parse_braces-parse_entries-requires-2 : goal.parse_braces-parse_entries-requires-2
+parse_braces-parse_entries-requires-2 g t c κs within =
+    let key = node c.in-Some.ty (span_at c.advance.new.self.place) no_nodes in
+    let behind : c.expect-2.new.self.place.lexer.source ≡ c.advance.new.self.place.lexer.source = source_item c.advance.new.self.place c.expect-2.new.self.place Colon c.in_ok-expect-3.ensures.takes in
+    (omega arith, (within.0, (within.1.0, (within.1.1, (key, subst (λ (s : List ℕ). g.P.Builder.are_parts c.args.builder s kind_of_node.TupleSet (key ∷ []) c.in_ok-key-2.key) (sym behind) c.in_ok-key-2.ensures.made)))))
+
+pub parse_payload-whole-requires : goal.parse_payload-whole-requires
+parse_payload-whole-requires g t c =
+    let (front, part_due, first) = c.requires in
+    let (n, is, grown) = c.in_ok-parse_part.ensures.kept c.args.ty front part_due first in
+    (c.args.self.now.place.lexer.source, front ++ n ∷ [], grown)
+
+pub parse_items-whole-requires : goal.parse_items-whole-requires
+parse_items-whole-requires g t c = (c.args.self.now.place.lexer.source, [], c.parts-none.ensures c.args.self.now.place.lexer.source tt)
+
+pub parse_items-whole-requires-then-eq-3 : goal.parse_items-whole-requires-then-eq-3
+parse_items-whole-requires-then-eq-3 g t c =
+    let (children, first, go) = c.items.invariant.tree in
+    let (d, i, r) = c.items.invariant.reached (c.args.levels + 1) [] (omega arith) in
+    let here : c.items.self.place.lexer.source ≡ c.args.self.now.place.lexer.source = source_reached r in
+    let part_due : TakesPart c.if-eq-2.ty children = elim c.if-eq-2.branch [
+      | parse_items-then-eq-2 w ↦ subst (λ z. TakesPart z children) (sym w.ty-is) tt
+      | parse_items-else-eq-2 w ↦ subst (λ z. TakesPart z children) (sym w.ty-is) tt
+    ] in
+    let (n, is, grown) = part_added (λ (s : List ℕ) cs ps. g.P.Builder.are_parts c.args.builder s c.if-eq-2.ty cs ps) c.items.parts c.parse_part.new.parts children (IsParsed c.args.levels c.items.self.place c.parse_part.new.self.place) here (c.in_ok-parse_part.ensures.kept c.if-eq-2.ty children part_due) first in
+    (c.args.self.now.place.lexer.source, children ++ n ∷ [], grown)
+
+pub parse_items-whole-requires-then-next_is-2 : goal.parse_items-whole-requires-then-next_is-2
+parse_items-whole-requires-then-next_is-2 g t c =
+    let (children, first, go) = c.items.invariant.tree in
+    let (d, i, r) = c.items.invariant.reached (c.args.levels + 1) [] (omega arith) in
+    let here : c.items.self.place.lexer.source ≡ c.args.self.now.place.lexer.source = source_reached r in
+    let part_due : TakesPart c.if-eq-2.ty children = elim c.if-eq-2.branch [
+      | parse_items-then-eq-2 w ↦ subst (λ z. TakesPart z children) (sym w.ty-is) tt
+      | parse_items-else-eq-2 w ↦ subst (λ z. TakesPart z children) (sym w.ty-is) tt
+    ] in
+    let (n, is, grown) = part_added (λ (s : List ℕ) cs ps. g.P.Builder.are_parts c.args.builder s c.if-eq-2.ty cs ps) c.items.parts c.parse_part.new.parts children (IsParsed c.args.levels c.items.self.place c.parse_part.new.self.place) here (c.in_ok-parse_part.ensures.kept c.if-eq-2.ty children part_due) first in
+    (c.args.self.now.place.lexer.source, children ++ n ∷ [], grown)
+
+pub parse_braces-whole-requires : goal.parse_braces-whole-requires
+parse_braces-whole-requires g t c = (c.args.self.now.place.lexer.source, [], c.parts-none.ensures c.args.self.now.place.lexer.source tt)
+
+pub parse_braces-whole-requires-then-eq-2 : goal.parse_braces-whole-requires-then-eq-2
+parse_braces-whole-requires-then-eq-2 g t c = (c.args.self.now.place.lexer.source, [], c.parts-none-then-eq-2.ensures c.args.self.now.place.lexer.source tt)
+
+pub parse_entries-whole-requires : goal.parse_entries-whole-requires
+parse_entries-whole-requires g t c =
+    let (first, given) = c.requires in
+    let (hs, so_far, part_due, go) = c.entries.invariant.tree first given in
+    let here : c.entries.self.place.lexer.source ≡ c.args.self.now.place.lexer.source = source_reached (c.entries.invariant.led (c.args.levels + 1) [] (omega arith)) in
+    let (n, is, grown) = part_added (λ (s : List ℕ) cs ps. g.P.Builder.are_parts c.args.builder s kind_of_node.TupleSet cs ps) c.entries.parts c.parse_part.new.parts (first ∷ hs) (IsParsed c.args.levels c.entries.self.place c.parse_part.new.self.place) here (c.in_ok-parse_part.ensures.kept kind_of_node.TupleSet (first ∷ hs) part_due) so_far in
+    (c.args.self.now.place.lexer.source, first ∷ (hs ++ n ∷ []), grown)
+
+pub parse_entries-whole-requires-then-eq-2 : goal.parse_entries-whole-requires-then-eq-2
+parse_entries-whole-requires-then-eq-2 g t c =
+    let (first, given) = c.requires in
+    let (hs, so_far, part_due, go) = c.entries.invariant.tree first given in
+    let here : c.entries.self.place.lexer.source ≡ c.args.self.now.place.lexer.source = source_reached (c.entries.invariant.led (c.args.levels + 1) [] (omega arith)) in
+    let (n, is, grown) = part_added (λ (s : List ℕ) cs ps. g.P.Builder.are_parts c.args.builder s kind_of_node.TupleSet cs ps) c.entries.parts c.parse_part.new.parts (first ∷ hs) (IsParsed c.args.levels c.entries.self.place c.parse_part.new.self.place) here (c.in_ok-parse_part.ensures.kept kind_of_node.TupleSet (first ∷ hs) part_due) so_far in
+    (c.args.self.now.place.lexer.source, first ∷ (hs ++ n ∷ []), grown)

@@ -1,6 +1,7 @@
 use Rattle.std.proofs.Common.{◌≤◌, ◌+◌, Some, sym, subst, ◌∙◌}
 use Rattle.wave_wasm.specs.Types.{flags_names}
 use Rattle.wave_value.specs.Private.CaseRules.{behind}
+use Rattle.wave_value.proofs.LawfulCases.{names_distinct}
 use Rattle.wave_value.proofs.FlagsInTurn.{PlacesInTurn, next_place, all_in_turn}
 use Rattle.wave_value.proofs.value.checked.cases.places_in_turn.Goals as goal
 
@@ -14,12 +15,12 @@ loop-name-preserved c =
 
 pub returns-clause-known : goal.returns-clause-known
 returns-clause-known c =
-    (all_in_turn (flags_names c.args.ty.now) c.args.names.now c.loop-name.last c.loop-name.name-index c.loop-name.places.items (c.has_distinct_flags.ensures.0 c.if-not-has_distinct_flags.false) c.loop-name-test.false c.loop-name.invariant).0
+    (all_in_turn (flags_names c.args.ty.now) c.args.names.now c.loop-name.last c.loop-name.name-index c.loop-name.places.items (names_distinct c.args.ty.now (c.has_distinct_names.ensures.0 c.if-not-has_distinct_names.false)) c.loop-name-test.false c.loop-name.invariant).0
 
 pub returns-clause-grow : goal.returns-clause-grow
 returns-clause-grow c =
-    (all_in_turn (flags_names c.args.ty.now) c.args.names.now c.loop-name.last c.loop-name.name-index c.loop-name.places.items (c.has_distinct_flags.ensures.0 c.if-not-has_distinct_flags.false) c.loop-name-test.false c.loop-name.invariant).1
+    (all_in_turn (flags_names c.args.ty.now) c.args.names.now c.loop-name.last c.loop-name.name-index c.loop-name.places.items (names_distinct c.args.ty.now (c.has_distinct_names.ensures.0 c.if-not-has_distinct_names.false)) c.loop-name-test.false c.loop-name.invariant).1
 
 pub returns-clause-found : goal.returns-clause-found
 returns-clause-found c =
-    (all_in_turn (flags_names c.args.ty.now) c.args.names.now c.loop-name.last c.loop-name.name-index c.loop-name.places.items (c.has_distinct_flags.ensures.0 c.if-not-has_distinct_flags.false) c.loop-name-test.false c.loop-name.invariant).2
+    (all_in_turn (flags_names c.args.ty.now) c.args.names.now c.loop-name.last c.loop-name.name-index c.loop-name.places.items (names_distinct c.args.ty.now (c.has_distinct_names.ensures.0 c.if-not-has_distinct_names.false)) c.loop-name-test.false c.loop-name.invariant).2

@@ -1,0 +1,14 @@
+use Rattle.std.proofs.Common.{sym}
+use Rattle.std.proofs.lemmas.Result.{IfErr-weaker}
+use Rattle.wave_wasm.specs.ConstructorContracts.{FullRecord}
+use Rattle.wave_wasm.specs.Borrowed.{named}
+use Rattle.wave_value.specs.FullTypes.{IsFull}
+use Rattle.wave_value.specs.RecordConstructor.{RefusesRecord}
+use Rattle.wave_value.specs.ConstructorRules.{own_text}
+use Rattle.wave_value.specs.TypedValue.{IsAt}
+use Rattle.wave_value.proofs.LawfulRecord.{full_record}
+use Rattle.wave_value.proofs.value.wasm_value.ValueWasmValue.make_record_unchecked.Goals as goal
+
+pub returns-clause-full : goal.returns-clause-full
+returns-clause-full c =
+    rw (sym c.replace.ensures.value) (IfErr-weaker c.record_unchecked.result (RefusesRecord own_text c.args.ty.now (named c.replace.result.items)) (FullRecord (λ v T. IsAt T v) IsFull c.args.ty.now c.replace.result.items) (λ e r. full_record own_text c.args.ty.now c.replace.result.items e r) c.record_unchecked.ensures.refused)

@@ -1,0 +1,7 @@
+use Rattle.std.proofs.Common.{sym}
+use Rattle.wave_value.specs.ConstructorRules.{own_text}
+use Rattle.wave_value.proofs.LawfulCases.{full_variant}
+use Rattle.wave_value.proofs.value.wasm_value.ValueWasmValue.make_variant_unchecked.Goals as goal
+
+pub returns-clause-full : goal.returns-clause-full
+returns-clause-full c = rw (sym c.take.ensures.value) (full_variant own_text c.args.ty.now c.args.case.now c.take.result _ c.variant_unchecked.ensures.refused)
