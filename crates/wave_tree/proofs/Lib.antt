@@ -24,3 +24,11 @@ pub mod FlagPlaces
 pub mod ReadNodes
 pub mod RecordNodes
 pub mod TypeOrder
+pub mod ExpectedMoves
+pub mod Viable
+pub mod Following
+pub mod MayStand
+pub mod ClassList
+pub mod RefusalPlaces
+pub mod OpenForms
+pub mod PlacedTokens

@@ -10,3 +10,5 @@ pub mod DisplayKeeps
 pub mod UntypedLaws
 pub mod WholeTextLaws
 pub mod KeywordNodes
+pub mod Expected
+pub mod ExpectedLaws

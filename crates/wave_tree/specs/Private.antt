@@ -9,3 +9,5 @@ pub mod NodeDepth
 pub mod NodeEncoding
 pub mod SyntaxErrors
 pub mod TokenRoles
+pub mod Moves
+pub mod Prefixes

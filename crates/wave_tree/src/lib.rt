@@ -11,6 +11,7 @@ use wave_wasm::wasm::WasmValue;
 
 pub mod ast;
 mod descent;
+pub mod expected;
 mod flags;
 mod item;
 pub mod laws;
