@@ -1,5 +1,5 @@
 -- Worked examples: scalars that can't be seen, and how scalars are shown.
-use Rattle.std.proofs.Common.{◌≡◌, List, [], ◌∷◌, true, false, refl, map}
+use Rattle.std.proofs.Common.{◌≡◌, [], ◌∷◌, true, false, refl, map}
 use Rattle.std.specs.Prelude.{codes}
 use Rattle.std.specs.Fmt.{digits}
 use Rattle.ucd_category.proofs.Computing.{ucd_category}

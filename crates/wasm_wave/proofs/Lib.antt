@@ -3,3 +3,4 @@ mod Lines
 mod Shown
 mod OneExplanation
 mod Examples
+mod Steps

@@ -1,3 +1,6 @@
 pub mod MainTheorem
 pub mod Places
 pub mod Shown
+pub mod Paths
+pub mod ValueExplained
+pub mod Private

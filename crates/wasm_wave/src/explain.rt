@@ -14,6 +14,15 @@ use unicode_width::UnicodeWidthStr;
 use wave_lex::error::ParserError;
 use wave_lex::lex::Span;
 
+mod due;
+mod hints;
+mod names;
+mod path;
+mod syntax;
+mod value;
+
+pub use value::{explain_untyped, explain_value};
+
 /// How many scalars of a line are shown before the place, and how many from there on.
 const SHOWN: usize = 48;
 

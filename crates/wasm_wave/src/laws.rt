@@ -16,12 +16,13 @@ pub use wave_lex::laws::{
 pub use wave_tree::laws::{
     a_fault_alone_is_answered, accepted_tokens_have_a_tree, answered_faults_are_faults,
     keys_are_values, last_commas_mean_nothing, levels_are_exact, lexer_calls_bounded,
-    nodes_read_as_their_tokens, one_fault, one_reading, one_tree, order_means_nothing,
-    orders_agree, params_are_by_tree, prefixes_are_viable, read_values_have_a_tree,
-    reading_is_by_tree, refusal_kinds_sound, refusals_lie_in_the_text, refused_tokens_begin_none,
-    refused_values_have_none, same_tokens_mean_the_same, shown_call_keeps_meaning,
-    shown_keeps_meaning, trees_are_accepted, unexpected_tokens_begin_none, untyped_reading_agrees,
-    viable_tokens_begin_a_tree, whole_texts_are_read,
+    nodes_read_as_their_tokens, one_fault, one_reading, one_tree, open_brackets_are_forms,
+    order_means_nothing, orders_agree, params_are_by_tree, prefixes_are_viable,
+    read_values_have_a_tree, reading_is_by_tree, refusal_kinds_sound, refusals_lie_in_the_text,
+    refused_tokens_begin_none, refused_values_have_none, same_tokens_mean_the_same,
+    shown_call_keeps_meaning, shown_keeps_meaning, trees_are_accepted, unexpected_may_not_follow,
+    unexpected_tokens_begin_none, untyped_reading_agrees, viable_tokens_begin_a_tree,
+    whole_texts_are_read,
 };
 pub use wave_type::laws::{
     end_alone_is_unexpected_end, equal_functions, equal_types, function_text_spells,

@@ -25,7 +25,7 @@ pub mod value;
 pub use wave_grammar::number::WholeNumber;
 pub use wave_lex::asked::Asked;
 pub use wave_lex::{lex, strings};
-pub use wave_tree::{ast, parser, untyped};
+pub use wave_tree::{ast, expected, parser, untyped};
 pub use wave_wasm::{wasm, writer};
 
 /// The value that the whole text means at the type, which is of that type; a text that means none

@@ -2,6 +2,7 @@
 //! texts of many levels.
 mod cases;
 mod deep;
+mod explained;
 mod maps;
 mod names;
 mod parts;

@@ -1,0 +1,95 @@
+-- What is shown of the refusal of a text at a type.
+use Rattle.std.specs.Prelude.{ℕ, ◌≡◌, ◌⊎◌, ◌≤◌, ◌-◌, List, [], ◌∷◌, ◌++◌, Bool, true, false, codes}
+use Rattle.std.specs.Fmt.{decimal}
+use Rattle.std.specs.declared.ops.Range.{Range}
+use Rattle.wave_wasm.specs.Types.{TypeTree}
+use Rattle.wave_wasm.specs.TypeText.{type_text}
+use Rattle.wave_lex.specs.Errors.{Diagnostic, error_text}
+use Rattle.wave_lex.specs.declared.error.ParserErrorKind.{ParserErrorKind}
+use Rattle.wave_lex.specs.declared.error.ParserErrorKind.TheVariants as kind
+use Rattle.wave_grammar.specs.NodeTree.{NodeTree}
+use Rattle.wave_grammar.specs.ParserPosition.{Place}
+use Rattle.wave_grammar.specs.PrefixAutomaton as due_first
+use Rattle.wave_grammar.specs.SyntaxErrors.{IsSyntaxError}
+use Rattle.wave_tree.specs.ParserState.{start_of}
+use Rattle.wave_tree.specs.Untyped.{Untyped, IsUntypedTaken}
+use Rattle.wasm_wave.specs.Places.{IsPlaceNear, IsMarked}
+use Rattle.wasm_wave.specs.Shown.{shown_lines}
+use Rattle.wasm_wave.specs.Paths.{Step, IsPartAt, shown_first, path_text}
+
+-- the kinds that tell a fault of a value at its type
+abbrev pub is_of_type : ParserErrorKind → Bool
+is_of_type kind.InvalidType = true
+is_of_type kind.InvalidValue = true
+is_of_type kind.InvalidEscape = true
+is_of_type kind.InvalidMultilineString = true
+is_of_type kind.DuplicateField = true
+is_of_type kind.WasmValueError = true
+is_of_type _ = false
+
+-- no part is looked for: the kind tells no fault of type, or no value of at most 1000 levels begins the source
+abbrev pub HasNoPart : ParserErrorKind → List ℕ → Type 0
+HasNoPart k source = (is_of_type k ≡ false) ⊎ ((e : Diagnostic) × (p : Place) × IsSyntaxError e 1000 due_first.value [] (start_of source) p)
+
+-- the value that begins the source was read without a type, within 1000 levels
+abbrev pub IsFront : List ℕ → Untyped → Type 0
+IsFront source u = (behind : Place) × IsUntypedTaken 1000 (start_of source) behind u
+
+-- the line that says which type is due: the type's text, of which at most 60 scalars are shown, and more on it
+abbrev pub expected_line : List ℕ → List ℕ → List ℕ
+expected_line text more = codes "  = expected " ++ (shown_first 60 text ++ (more ++ codes "\n"))
+
+-- the path leads from the value that begins the source, where one of type T is due, to the deepest part that holds the span, and the
+-- first line says which type is due there
+pub record TellsPart (source : List ℕ) (span : Range ℕ) (T : TypeTree) (path lines : List ℕ) : Type 0 where
+  pub value : Untyped
+  pub front : IsFront source value
+  pub steps : List Step
+  pub part : NodeTree
+  pub due : TypeTree
+  pub is_part : IsPartAt source span value.node T steps part due
+  pub path_is : path ≡ path_text steps
+  pub more : List ℕ
+  pub hints : List ℕ
+  pub lines_are : lines ≡ expected_line (type_text due) more ++ hints
+
+-- what is marked is the span, or a name within it
+abbrev pub IsWithin : Range ℕ → Range ℕ → Type 0
+IsWithin span mark = (mark ≡ span) ⊎ (span.start ≤ mark.start) × (mark.start ≤ mark.end) × (mark.end ≤ span.end)
+
+-- `, at ` before a path, where there is one
+abbrev pub before_path : List ℕ → List ℕ
+before_path [] = []
+before_path (c ∷ more) = codes ", at "
+
+-- the first two lines: the message, the place and the path
+abbrev pub heading_with_path : List ℕ → ℕ → ℕ → List ℕ → List ℕ
+heading_with_path message line column path =
+    message ++ (codes "\n --> line " ++ (decimal line ++ (codes ", column " ++ (decimal column ++ (before_path path ++ (path ++ codes "\n"))))))
+
+-- the text has the message, the place where the mark begins, the path, the line of the place, a mark below what stands there of the
+-- line, up to the mark's end, and these lines
+pub record IsBlock (source message : List ℕ) (mark : Range ℕ) (path lines text : List ℕ) : Type 0 where
+  pub there : ℕ
+  pub line : ℕ
+  pub column : ℕ
+  pub front : List ℕ
+  pub rest : List ℕ
+  pub marked : List ℕ
+  pub place : IsPlaceNear source mark.start there line column front rest
+  pub is_marked : IsMarked rest (mark.end - there) marked
+  pub text_is : text ≡ heading_with_path message line column path ++ (shown_lines front rest marked ++ lines)
+
+-- the text explains the refusal of the source, read without a type: a block without a path
+abbrev pub IsUntypedExplained : List ℕ → Diagnostic → List ℕ → Type 0
+IsUntypedExplained source e text = (lines : List ℕ) × IsBlock source (error_text e) e.span [] lines text
+
+-- the text explains the refusal of the source at the type T: a block with the path to the part that is wrong and the type that is due
+-- there, or without a path where no part is looked for
+pub record IsValueExplained (source : List ℕ) (T : TypeTree) (e : Diagnostic) (text : List ℕ) : Type 0 where
+  pub mark : Range ℕ
+  pub within : IsWithin e.span mark
+  pub path : List ℕ
+  pub lines : List ℕ
+  pub told : TellsPart source e.span T path lines ⊎ (path ≡ []) × HasNoPart e.kind source
+  pub block : IsBlock source (error_text e) mark path lines text

@@ -1,0 +1,345 @@
+//! How a fault of syntax may be mended.
+use super::hints::{ESCAPES, line, push_hint};
+use super::is_invisible;
+use crate::ast::{Node, NodeType};
+use crate::expected::expected_at;
+use crate::parser::MAX_LEVELS;
+use crate::place::place_of;
+use std::alloc::{AllocError, Global};
+use wave_lex::error::{ParserError, ParserErrorKind};
+
+/// The lines beside a refusal of a text that has no value to be looked at: what might have stood there,
+/// and a hint.
+pub(crate) fn syntax_lines(
+    alloc: Global,
+    error: &ParserError,
+    source: &str,
+) -> Result<String, AllocError> {
+    let hint = syntax_hint(alloc, error, source)?;
+    let mut lines = match error.kind() {
+        ParserErrorKind::UnexpectedToken | ParserErrorKind::UnexpectedEnd => {
+            expected_line(alloc, source, error.span().start)?
+        }
+        ParserErrorKind::InvalidToken if hint.is_empty() => {
+            expected_line(alloc, source, error.span().start)?
+        }
+        _ => String::new(alloc),
+    };
+    lines.push_str(hint.as_str())?;
+    Ok(lines)
+}
+
+/// The line that says what might have stood at the place, where what stands before it begins a value.
+fn expected_line(alloc: Global, source: &str, at: usize) -> Result<String, AllocError> {
+    let expected = expected_at(alloc, source, at, MAX_LEVELS)?;
+    if expected.classes.is_empty() && !expected.may_end {
+        return line(alloc, "");
+    }
+    let words = expected.words(alloc)?;
+    let mut lines = String::new(alloc);
+    push_hint(&mut lines, "expected ", words.as_str(), "")?;
+    Ok(lines)
+}
+
+/// How what was refused may be mended.
+fn syntax_hint(alloc: Global, error: &ParserError, source: &str) -> Result<String, AllocError> {
+    match error.kind() {
+        ParserErrorKind::UnexpectedEnd => unclosed(alloc, source),
+        ParserErrorKind::EmptyTuple => line(alloc, "a tuple has at least one item"),
+        ParserErrorKind::DuplicateFlag => line(alloc, "a flag stands once"),
+        ParserErrorKind::OutOfMemory => line(alloc, ""),
+        ParserErrorKind::InvalidToken => invalid_token(alloc, source, error.span().start),
+        _ => beside_word(alloc, source, error.span().start),
+    }
+}
+
+// ---- the end
+
+/// The last bracket that is open at the end of the text.
+fn unclosed(alloc: Global, source: &str) -> Result<String, AllocError> {
+    let expected = expected_at(alloc, source, source.len(), MAX_LEVELS)?;
+    match expected.open_brackets.last() {
+        Some(bracket) => open_bracket(alloc, source, bracket.start),
+        None => line(alloc, ""),
+    }
+}
+
+/// The line that says which bracket is open.
+fn open_bracket(alloc: Global, source: &str, start: usize) -> Result<String, AllocError> {
+    let place = place_of(source, start);
+    let bracket = match place.rest.chars().next() {
+        Some('(') => "(",
+        Some('[') => "[",
+        _ => "{",
+    };
+    format!(in alloc;
+        "  = the {bracket} of line {}, column {} is not closed\n",
+        place.line, place.column
+    )
+}
+
+// ---- invalid tokens
+
+/// What helps where no token begins.
+fn invalid_token(alloc: Global, source: &str, start: usize) -> Result<String, AllocError> {
+    let at = source.floor_char_boundary(start);
+    let after = source.split_at(at).1;
+    if after.starts_with("\"\"\"") {
+        return line(
+            alloc,
+            "the multiline string isn't closed: its last line is three quotes",
+        );
+    }
+    match after.chars().next() {
+        Some('"') => quoted(alloc, source, at, '"'),
+        Some('\'') => quoted(alloc, source, at, '\''),
+        Some('‘' | '’' | '“' | '”' | '„' | '«' | '»' | '`') => {
+            line(alloc, "quotes are straight: \"text\", 'c'")
+        }
+        Some('+') => line(alloc, "a number has no plus sign"),
+        Some('=') => line(
+            alloc,
+            "a name and its value are parted by a colon: {name: value}",
+        ),
+        Some(';') => line(alloc, "parts are parted by commas"),
+        Some('#') => line(alloc, "a comment begins with //"),
+        Some(scalar) if is_invisible(scalar) => {
+            let mut lines = String::new(alloc);
+            push_hint(
+                &mut lines,
+                "here stands ",
+                invisible_name(scalar),
+                ", which is not seen",
+            )?;
+            Ok(lines)
+        }
+        _ => beside_word(alloc, source, at),
+    }
+}
+
+/// The name of a scalar that isn't seen.
+fn invisible_name(scalar: char) -> &'static str {
+    match scalar {
+        '\u{feff}' => "a byte order mark, U+FEFF",
+        '\u{200b}' => "a zero-width space, U+200B",
+        '\u{200c}' => "a zero-width non-joiner, U+200C",
+        '\u{200d}' => "a zero-width joiner, U+200D",
+        '\u{2060}' => "a word joiner, U+2060",
+        '\u{ad}' => "a soft hyphen, U+00AD",
+        '\u{a0}' => "a no-break space, U+00A0",
+        '\u{202f}' => "a narrow no-break space, U+202F",
+        '\u{3000}' => "an ideographic space, U+3000",
+        _ => "a character",
+    }
+}
+
+/// What is wrong between quotes.
+#[derive(Clone, Copy)]
+enum QuoteFault {
+    /// The line ends before the closing quote.
+    Unclosed,
+    /// No escape has this scalar behind the backslash.
+    Escape(char),
+    /// All escapes begin as escapes do, and the quote is closed.
+    Other,
+}
+
+/// What helps where a string or a char isn't one.
+fn quoted(alloc: Global, source: &str, at: usize, quote: char) -> Result<String, AllocError> {
+    let text = source.get(at.saturating_add(1)..source.len()).unwrap_or("");
+    match quote_fault(text, quote) {
+        QuoteFault::Escape(scalar) => unknown_escape(alloc, scalar),
+        QuoteFault::Unclosed if quote == '"' => {
+            line(
+                alloc,
+                "the string isn't closed on its line; a string of more lines stands in \"\"\"",
+            )
+        }
+        QuoteFault::Other if quote == '"' => {
+            line(alloc, "\\u{..} has one to six hexadecimal digits in braces")
+        }
+        _ => line(
+            alloc,
+            "a char is one character in single quotes; a string stands in double quotes",
+        ),
+    }
+}
+
+/// The lines of an escape that there isn't.
+fn unknown_escape(alloc: Global, scalar: char) -> Result<String, AllocError> {
+    let mut name = String::new(alloc);
+    name.push('\\')?;
+    name.push(scalar)?;
+    let mut lines = String::new(alloc);
+    push_hint(&mut lines, "unknown escape ", name.as_str(), "")?;
+    push_hint(&mut lines, ESCAPES, "", "")?;
+    Ok(lines)
+}
+
+/// The first fault behind the opening quote.
+fn quote_fault(text: &str, quote: char) -> QuoteFault {
+    let mut behind = ' ';
+    for scalar in text.chars() {
+        if behind == '\\' {
+            if !matches!(scalar, '\'' | '"' | '\\' | 't' | 'n' | 'r' | 'u') {
+                return QuoteFault::Escape(scalar);
+            }
+            behind = if scalar == 'u' { 'u' } else { ' ' };
+        } else if behind == 'u' && scalar != '{' {
+            return QuoteFault::Escape('u');
+        } else if scalar == quote {
+            return QuoteFault::Other;
+        } else if scalar == '\n' {
+            return QuoteFault::Unclosed;
+        } else {
+            behind = if scalar == '\\' { '\\' } else { ' ' };
+        }
+    }
+    QuoteFault::Unclosed
+}
+
+// ---- words
+
+/// What helps with the word at the place, or with the parentheses around it.
+fn beside_word(alloc: Global, source: &str, start: usize) -> Result<String, AllocError> {
+    let at = source.floor_char_boundary(start);
+    let (before, after) = source.split_at(at);
+    if after.starts_with(')') && before.trim_end().ends_with('(') {
+        return line(
+            alloc,
+            "a payload stands in the parentheses; a case without one is its name alone",
+        );
+    }
+    word_hint(alloc, word_at(source, at))
+}
+
+/// The bytes around the place that may stand in a name or a number.
+fn word_at(source: &str, at: usize) -> &str {
+    let (before, after) = source.split_at(source.floor_char_boundary(at));
+    let start = before.len().saturating_sub(count_at_end(before));
+    let end = before.len().saturating_add(count_at_start(after));
+    source.get(start..end).unwrap_or("")
+}
+
+/// How many bytes at the end of the text may stand in a name or a number.
+fn count_at_end(text: &str) -> usize {
+    let mut count = 0_usize;
+    for byte in text.bytes() {
+        count = if is_of_word(byte) {
+            count.saturating_add(1)
+        } else {
+            0
+        };
+    }
+    count
+}
+
+/// How many bytes at the start of the text may stand in a name or a number.
+fn count_at_start(text: &str) -> usize {
+    let mut count = 0_usize;
+    for byte in text.bytes() {
+        if !is_of_word(byte) {
+            break;
+        }
+        count = count.saturating_add(1);
+    }
+    count
+}
+
+/// Whether the byte may stand in what is meant for a name or a number.
+fn is_of_word(byte: u8) -> bool {
+    byte.is_ascii_alphanumeric() || byte == b'_' || byte == b'-'
+}
+
+/// What helps with a word that a name is only the front of, as `not_found` and `None`.
+pub(crate) fn broken_word(alloc: Global, source: &str, node: &Node) -> Result<String, AllocError> {
+    let span = node.span();
+    let word = word_at(source, span.start);
+    if node.ty() == NodeType::Label && word.len() > span.end.saturating_sub(span.start) {
+        word_hint(alloc, word)
+    } else {
+        line(alloc, "")
+    }
+}
+
+/// What helps with a word.
+fn word_hint(alloc: Global, word: &str) -> Result<String, AllocError> {
+    let mut lines = String::new(alloc);
+    if word.starts_with(is_digit) {
+        return line(alloc, digits_hint(word));
+    }
+    match keyword_meant(word) {
+        Some(keyword) => push_hint(&mut lines, "a keyword has small letters: ", keyword, "")?,
+        None => {
+            let name = kebab(alloc, word)?;
+            if !word.is_empty() && name.as_str() != word && word_is_name(word) {
+                push_hint(&mut lines, "names are in kebab-case: ", name.as_str(), "")?;
+            }
+        }
+    }
+    Ok(lines)
+}
+
+/// Whether the scalar is a decimal digit.
+fn is_digit(scalar: char) -> bool {
+    scalar.is_ascii_digit()
+}
+
+/// What is wrong with a word that begins with a digit.
+fn digits_hint(word: &str) -> &'static str {
+    if word.starts_with("0x") || word.starts_with("0X") {
+        "numbers are decimal: there is no hexadecimal"
+    } else if word.starts_with("0b") || word.starts_with("0o") {
+        "numbers are decimal: there is no binary and no octal"
+    } else if word.contains('_') {
+        "a number has no underscore"
+    } else if word.starts_with('0') && word.len() > 1 {
+        "a number has no leading zero"
+    } else {
+        ""
+    }
+}
+
+/// The keyword that the word is meant for.
+fn keyword_meant(word: &str) -> Option<&'static str> {
+    match word {
+        "None" | "Null" => Some("none"),
+        "Some" => Some("some"),
+        "Ok" => Some("ok"),
+        "Err" => Some("err"),
+        "True" => Some("true"),
+        "False" => Some("false"),
+        _ => None,
+    }
+}
+
+/// Whether the word has letters of both cases in one part, or an underscore.
+fn word_is_name(word: &str) -> bool {
+    word.contains('_') || word.contains(is_capital)
+}
+
+/// Whether the scalar is a capital letter.
+fn is_capital(scalar: char) -> bool {
+    scalar.is_ascii_uppercase()
+}
+
+/// The name in kebab-case: words in small letters, parted by `-`.
+fn kebab(alloc: Global, word: &str) -> Result<String, AllocError> {
+    let mut name = String::new(alloc);
+    let mut small = false;
+    for scalar in word.chars() {
+        if scalar == '_' || scalar == '-' {
+            small = false;
+            if !name.is_empty() && !name.as_str().ends_with('-') {
+                name.push('-')?;
+            }
+        } else {
+            if scalar.is_ascii_uppercase() && small {
+                name.push('-')?;
+            }
+            small = !scalar.is_ascii_uppercase();
+            name.push(scalar.to_ascii_lowercase())?;
+        }
+    }
+    Ok(name)
+}

@@ -1,0 +1,234 @@
+//! A refusal of a text at a type, as a person is shown it.
+ghost use Rattle.std.specs.Prelude.{◌≡◌, ◌⊎◌, ◌++◌, [], IfOk, IfSome, IfNone};
+ghost use Rattle.std.specs.String.{string_bytes};
+ghost use Rattle.wave_wasm.specs.Types.{TypeTree};
+ghost use Rattle.wave_lex.specs.Errors.{error_text};
+ghost use Rattle.wasm_wave.specs.ValueExplained.{is_of_type, HasNoPart, IsFront, TellsPart, IsWithin, IsBlock, IsUntypedExplained, IsValueExplained, heading_with_path, before_path};
+
+use super::due::push_expected;
+use super::hints::hints_of;
+use super::path::part_at;
+use super::syntax::syntax_lines;
+use super::{marked_of, shown_lines};
+use crate::parser::{MAX_LEVELS, Parser};
+use crate::place::{Place, place_of};
+use crate::untyped::UntypedValue;
+use crate::wasm::WasmType;
+use std::alloc::{AllocError, Global};
+use wave_lex::error::{ParserError, ParserErrorKind};
+use wave_lex::lex::Span;
+
+/// The refusal of a whole text at the type, by `from_str`, or by `Parser::parse_value` and `finish`: what
+/// `explain` shows, and beside it the path to the part of the value that is wrong, the type that is due
+/// there, and hints how to mend it, on at most three lines that begin with `=`:
+///
+/// ```text
+/// invalid value at 10..15
+///  --> line 1, column 11, at .servers[2].port
+///   | {port: 80800}
+///   |        ^^^^^
+///   = expected u16, a whole number from 0 to 65535
+/// ```
+///
+/// A path has `.name` for the value of a record's field and for the payload of a case, `.some`, `.ok` and
+/// `.err` for other payloads, `[0]` for an item of a list or a tuple, and `["key"]` for an entry of a map;
+/// it is empty for the whole value. Where the fault is a name within the place, as that of a field that
+/// the type hasn't, that name is marked. A type that takes more than 60 scalars is truncated. A refusal of
+/// syntax is explained as by `explain_untyped`.
+///
+/// The text is read anew, without a type, for the explanation. The error, the text and the type need not
+/// belong together: an explanation is always made, and the only error is out of memory.
+pub fn explain_value<T: WasmType>(
+    alloc: Global,
+    error: &ParserError,
+    source: &str,
+    ty: &T,
+) -> Result<String, AllocError>
+    ensures { IfOk result (λ text. IsValueExplained source.now (T.tree ty.now) error.now (string_bytes text)) }
+{
+    match untyped(alloc, error.kind(), source)? {
+        Some(value) => explain_part(alloc, error, source, &value, ty),
+        None => explain_alone(alloc, error, source),
+    }
+}
+
+/// The explanation by the value that begins the source, read without a type.
+fn explain_part<T: WasmType>(
+    alloc: Global,
+    error: &ParserError,
+    source: &str,
+    value: &UntypedValue<'_>,
+    ty: &T,
+) -> Result<String, AllocError>
+    requires { IsFront source.now value.now }
+    ensures { IfOk result (λ text. IsValueExplained source.now (T.tree ty.now) error.now (string_bytes text)) }
+{
+    let mut path = String::new(alloc);
+    let mut lines = String::new(alloc);
+    let mark = tell_part(alloc, error, source, value, ty, &mut path, &mut lines)?;
+    let message = error.to_string(alloc)?;
+    block(
+        alloc,
+        message.as_str(),
+        mark,
+        source,
+        path.as_str(),
+        lines.as_str(),
+    )
+}
+
+/// The refusal of a text that is read without a type, as by `UntypedValue::parse`: what `explain` shows,
+/// and beside it what might have stood there and hints how to mend it, on at most three lines that begin
+/// with `=`:
+///
+/// ```text
+/// unexpected token: Number at 3..4
+///  --> line 1, column 4
+///   | [1 2]
+///   |    ^
+///   = expected ',' or ']'
+/// ```
+///
+/// The only error is out of memory.
+pub fn explain_untyped(
+    alloc: Global,
+    error: &ParserError,
+    source: &str,
+) -> Result<String, AllocError>
+    ensures { IfOk result (λ text. IsUntypedExplained source.now error.now (string_bytes text)) }
+{
+    let lines = syntax_lines(alloc, error, source)?;
+    let message = error.to_string(alloc)?;
+    block(
+        alloc,
+        message.as_str(),
+        error.span(),
+        source,
+        "",
+        lines.as_str(),
+    )
+}
+
+/// The explanation where no part is looked for.
+fn explain_alone(alloc: Global, error: &ParserError, source: &str) -> Result<String, AllocError>
+    requires { HasNoPart error.now.kind source.now }
+    ensures { IfOk result (λ text. (T : TypeTree) → IsValueExplained source.now T error.now (string_bytes text)) }
+{
+    explain_untyped(alloc, error, source)
+}
+
+/// The value that begins the source, read without a type, where the refusal tells a fault of type.
+fn untyped(
+    alloc: Global,
+    kind: ParserErrorKind,
+    source: &str,
+) -> Result<Option<UntypedValue<'_>>, AllocError>
+    ensures value { IfOk result (λ r. IfSome r (IsFront source.now)) }
+    ensures none { IfOk result (λ r. IfNone r (HasNoPart kind source.now)) }
+{
+    if !is_of_type(kind) {
+        return Ok(None);
+    }
+    let mut parser = Parser::new(source).with_limit(MAX_LEVELS);
+    match parser.parse_raw_value(alloc) {
+        Ok(value) => Ok(Some(value)),
+        Err(error) => match error.kind() {
+            ParserErrorKind::OutOfMemory => Err(AllocError),
+            _ => Ok(None),
+        },
+    }
+}
+
+/// Whether the kind tells a fault of a value at its type.
+fn is_of_type(kind: ParserErrorKind) -> bool
+    ensures { result ≡ is_of_type kind }
+{
+    matches!(
+        kind,
+        ParserErrorKind::InvalidType
+            | ParserErrorKind::InvalidValue
+            | ParserErrorKind::InvalidEscape
+            | ParserErrorKind::InvalidMultilineString
+            | ParserErrorKind::DuplicateField
+            | ParserErrorKind::WasmValueError
+    )
+}
+
+/// Adds the path to the part of the value that is wrong, and the lines that say what is due there; what is
+/// to be marked.
+fn tell_part<T: WasmType>(
+    alloc: Global,
+    error: &ParserError,
+    source: &str,
+    value: &UntypedValue<'_>,
+    ty: &T,
+    path: &mut String,
+    lines: &mut String,
+) -> Result<Span, AllocError>
+    requires path { string_bytes path.old ≡ [] }
+    requires lines { string_bytes lines.old ≡ [] }
+    requires front { IsFront source.now value.now }
+    ensures told { IfOk result (λ _. TellsPart source.now error.now.span (T.tree ty.now) (string_bytes path.new) (string_bytes lines.new)) }
+    ensures within { IfOk result (λ mark. IsWithin error.now.span mark) }
+{
+    let span = error.span();
+    let part = part_at(alloc, source, value.node(), ty, &span, path)?;
+    push_expected(alloc, lines, error, part.0, part.1)?;
+    let hints = hints_of(alloc, error, source, part.0, part.1)?;
+    lines.push_str(hints.lines.as_str())?;
+    Ok(within(span, hints.mark))
+}
+
+/// The mark, where it lies within the span; else the span.
+fn within(span: Span, mark: Option<Span>) -> Span
+    ensures { IsWithin span result }
+{
+    match mark {
+        Some(mark) if span.start <= mark.start && mark.start <= mark.end && mark.end <= span.end =>
+            mark,
+        _ => span,
+    }
+}
+
+/// The message, the place and the path, the line with the mark, and the lines.
+fn block(
+    alloc: Global,
+    message: &str,
+    mark: Span,
+    source: &str,
+    path: &str,
+    lines: &str,
+) -> Result<String, AllocError>
+    ensures { IfOk result (λ text. IsBlock source.now message.now mark path.now lines.now (string_bytes text)) }
+{
+    let place = place_of(source, mark.start);
+    let mut text = heading_with_path(alloc, message, &place, path)?;
+    let marked = marked_of(place.rest, mark.end.saturating_sub(place.at));
+    let shown = shown_lines(alloc, place.front, place.rest, marked)?;
+    text.push_str(shown.as_str())?;
+    text.push_str(lines)?;
+    Ok(text)
+}
+
+/// The message, where it stands, and the path.
+fn heading_with_path(
+    alloc: Global,
+    message: &str,
+    place: &Place<'_>,
+    path: &str,
+) -> Result<String, AllocError>
+    ensures { IfOk result (λ text. string_bytes text ≡ heading_with_path message.now place.now.line place.now.column path.now) }
+{
+    let before = before_path(path);
+    format!(in alloc;
+        "{message}\n --> line {}, column {}{before}{path}\n",
+        place.line, place.column
+    )
+}
+
+/// What stands before the path, where there is one.
+fn before_path(path: &str) -> &'static str
+    ensures { result.now ≡ before_path path.now }
+{
+    if path.is_empty() { "" } else { ", at " }
+}

@@ -1,0 +1,469 @@
+//! Worked rows of refusals at types, as a person is shown them: the path, the type that is due, the names
+//! that there are, and hints.
+use crate::rows::types::type_of;
+use std::alloc::Global;
+use std::test::Fail;
+use wasm_wave::explain::explain_value;
+use wasm_wave::from_str;
+use wasm_wave::value::{Type, Value};
+
+/// A type, a text, and the block that is shown.
+const PATHS: [(&str, &str, &str); 14] = [
+    (
+        "u16",
+        "80800",
+        "invalid value at 0..5
+ --> line 1, column 1
+  | 80800
+  | ^^^^^
+  = expected u16, a whole number from 0 to 65535
+",
+    ),
+    (
+        "record { servers: list<record { host: string, port: u16 }> }",
+        "{servers: [{host: \"a\", port: 1}, {host: \"b\",\n  port: 80800}]}",
+        "invalid value at 53..58
+ --> line 2, column 9, at .servers[1].port
+  |   port: 80800}]}
+  |         ^^^^^
+  = expected u16, a whole number from 0 to 65535
+",
+    ),
+    (
+        "tuple<u8, option<option<char>>>",
+        "(1, some(some(\"x\")))",
+        "invalid value type at 14..17
+ --> line 1, column 15, at [1].some.some
+  | (1, some(some(\"x\")))
+  |               ^^^
+  = expected char, found a string
+  = a char stands in single quotes
+",
+    ),
+    (
+        "variant { body(list<u8>) }",
+        "body([1, \"2\"])",
+        "invalid value type at 9..12
+ --> line 1, column 10, at .body[1]
+  | body([1, \"2\"])
+  |          ^^^
+  = expected u8, found a string
+  = a number is written without quotes
+",
+    ),
+    (
+        "result<u8, string>",
+        "err(3)",
+        "invalid value type at 4..5
+ --> line 1, column 5, at .err
+  | err(3)
+  |     ^
+  = expected string, found a number
+  = a string stands in double quotes
+",
+    ),
+    (
+        "result<u8, string>",
+        "ok(300)",
+        "invalid value at 3..6
+ --> line 1, column 4, at .ok
+  | ok(300)
+  |    ^^^
+  = expected u8, a whole number from 0 to 255
+",
+    ),
+    (
+        "list<option<u8>>",
+        "[1, 300]",
+        "invalid value at 4..7
+ --> line 1, column 5, at [1]
+  | [1, 300]
+  |     ^^^
+  = expected u8, a whole number from 0 to 255
+",
+    ),
+    (
+        "map<string, u8>",
+        "{\"a\": 1, \"b\": 300}",
+        "invalid value at 14..17
+ --> line 1, column 15, at [\"b\"]
+  | {\"a\": 1, \"b\": 300}
+  |               ^^^
+  = expected u8, a whole number from 0 to 255
+",
+    ),
+    (
+        "map<u8, bool>",
+        "{1: true, 300: false}",
+        "invalid value at 10..13
+ --> line 1, column 11, at [300]
+  | {1: true, 300: false}
+  |           ^^^
+  = expected u8, a whole number from 0 to 255
+",
+    ),
+    (
+        "map<string, u8>",
+        "{\"a key of more than twenty-four scalars\": -1}",
+        "invalid value at 43..45
+ --> line 1, column 44, at [\"a key of more than twen…]
+  | {\"a key of more than twenty-four scalars\": -1}
+  |                                            ^^
+  = expected u8, a whole number from 0 to 255
+  = an unsigned number is written without a sign
+",
+    ),
+    (
+        "record { %record: list<list<u8>> }",
+        "{%record: [[0], [1, 256]]}",
+        "invalid value at 20..23
+ --> line 1, column 21, at .record[1][1]
+  | {%record: [[0], [1, 256]]}
+  |                     ^^^
+  = expected u8, a whole number from 0 to 255
+",
+    ),
+    (
+        "list<u8, 3>",
+        "[1, 2]",
+        "error converting Wasm value: expected 3 list elements; got 2 at 0..6
+ --> line 1, column 1
+  | [1, 2]
+  | ^^^^^^
+  = expected list<u8, 3>
+",
+    ),
+    (
+        "record { a: string }",
+        "{a: \"\\u{d800}\"}",
+        "invalid character escape at 5..6
+ --> line 1, column 6, at .a
+  | {a: \"\\u{d800}\"}
+  |      ^
+  = expected string, text in double quotes
+  = escapes are \\', \\\", \\\\, \\t, \\n, \\r and \\u{..}, the number of a character in hexadecimal
+",
+    ),
+    (
+        "tuple<record { a-long-name: u8, another-long-name: u8, and-another-long-name: u8 }>",
+        "([])",
+        "invalid value type at 1..3
+ --> line 1, column 2, at [0]
+  | ([])
+  |  ^^
+  = expected record { a-long-name: u8, another-long-name: u8, and-another…, found a list
+",
+    ),
+];
+
+/// A type, a text, and the lines that begin with `=`.
+const HINTS: [(&str, &str, &str); 38] = [
+    (
+        "record { must-have: u8, optional: option<u8> }",
+        "{must-have: 1, optinal: 2}",
+        "  = expected record { must-have: u8, optional: option<u8> }
+  = unknown field \"optinal\"; did you mean \"optional\"?
+  = fields: must-have, optional
+",
+    ),
+    (
+        "record { must-have: u8, optional: option<u8> }",
+        "{optional: 2}",
+        "  = expected record { must-have: u8, optional: option<u8> }
+  = the field \"must-have\" of type u8 is missing
+",
+    ),
+    (
+        "flags { read, write }",
+        "{read, execute}",
+        "  = expected flags { read, write }
+  = unknown flag \"execute\"
+  = flags: read, write
+",
+    ),
+    (
+        "enum { red, green }",
+        "gren",
+        "  = expected enum { red, green }
+  = unknown case \"gren\"; did you mean \"green\"?
+  = cases: red, green
+",
+    ),
+    (
+        "enum { ok, failed }",
+        "ok",
+        "  = expected enum { ok, failed }, found ok
+  = a keyword is the name of a case behind a percent sign: %ok
+",
+    ),
+    (
+        "variant { body(u8), err(string) }",
+        "err(\"x\")",
+        "  = expected variant { body(u8), err(string) }, found err
+  = a keyword is the name of a case behind a percent sign: %err
+",
+    ),
+    (
+        "variant { body(u8) }",
+        "body",
+        "  = expected variant { body(u8) }
+  = the payload stands in parentheses: body(..)
+",
+    ),
+    (
+        "variant { empty }",
+        "empty(1)",
+        "  = expected variant { empty }
+  = write empty alone, without a payload
+",
+    ),
+    (
+        "enum { not-found }",
+        "not_found",
+        "  = expected enum { not-found }
+  = names are in kebab-case: not-found
+",
+    ),
+    (
+        "record { must-have: u8 }",
+        "{mustHave: 1}",
+        "  = expected ':', ',' or '}'
+  = names are in kebab-case: must-have
+",
+    ),
+    (
+        "record { must-have: u8 }",
+        "{must_have: 1}",
+        "  = names are in kebab-case: must-have
+",
+    ),
+    (
+        "record { a: u8 }",
+        "{}",
+        "  = expected record { a: u8 }, found empty flags or an empty map
+  = an empty record is written {:}
+",
+    ),
+    (
+        "flags { a }",
+        "{:}",
+        "  = expected flags { a }, found a record or a map
+  = empty flags are written {}
+",
+    ),
+    (
+        "flags { a }",
+        "{a: true}",
+        "  = expected flags { a }, found a record or a map
+  = flags are names alone: {name, name}
+",
+    ),
+    (
+        "option<option<u8>>",
+        "1",
+        "  = expected option<option<u8>>, found a number
+  = an option of such a type is written some(..) or none
+",
+    ),
+    (
+        "result<_, string>",
+        "1",
+        "  = expected result<_, string>, found a number
+  = a result is written ok or err(..)
+",
+    ),
+    (
+        "option<u8>",
+        "null",
+        "  = expected u8, found a name
+  = there is no null; an absent option is written none
+",
+    ),
+    (
+        "option<u8>",
+        "None",
+        "  = expected u8, found a name
+  = a keyword has small letters: none
+",
+    ),
+    (
+        "bool",
+        "True",
+        "  = expected bool, found a name
+  = a keyword has small letters: true
+",
+    ),
+    (
+        "result<u8>",
+        "Ok(1)",
+        "  = expected u8, found a name
+  = a keyword has small letters: ok
+",
+    ),
+    (
+        "u16",
+        "0x1f90",
+        "  = numbers are decimal: there is no hexadecimal
+",
+    ),
+    (
+        "u16",
+        "08080",
+        "  = a number has no leading zero
+",
+    ),
+    (
+        "u32",
+        "1.0",
+        "  = expected u32, a whole number from 0 to 4294967295
+  = a whole number is written without a fraction and an exponent
+",
+    ),
+    (
+        "u8",
+        "\u{feff}1",
+        "  = here stands a byte order mark, U+FEFF, which is not seen
+",
+    ),
+    (
+        "list<u16>",
+        "[300\u{200b}]",
+        "  = here stands a zero-width space, U+200B, which is not seen
+",
+    ),
+    (
+        "f32",
+        "1.0",
+        "  = expected f32
+  = no value of this type can be read: floats have none
+",
+    ),
+    (
+        "char",
+        "'ab'",
+        "  = a char is one character in single quotes; a string stands in double quotes
+",
+    ),
+    (
+        "string",
+        "\"abc",
+        "  = the string isn't closed on its line; a string of more lines stands in \"\"\"
+",
+    ),
+    (
+        "string",
+        "\"tw\\qo\"",
+        "  = unknown escape \\q
+  = escapes are \\', \\\", \\\\, \\t, \\n, \\r and \\u{..}, the number of a character in hexadecimal
+",
+    ),
+    (
+        "string",
+        "\"\\u0041\"",
+        "  = unknown escape \\u
+  = escapes are \\', \\\", \\\\, \\t, \\n, \\r and \\u{..}, the number of a character in hexadecimal
+",
+    ),
+    (
+        "list<u8>",
+        "[1, [2",
+        "  = expected ',' or ']'
+  = the [ of line 1, column 5 is not closed
+",
+    ),
+    (
+        "result",
+        "ok()",
+        "  = expected a value
+  = a payload stands in the parentheses; a case without one is its name alone
+",
+    ),
+    (
+        "tuple<u8>",
+        "()",
+        "  = a tuple has at least one item
+",
+    ),
+    (
+        "tuple<u8>",
+        "[1]",
+        "  = expected tuple<u8>, found a list
+  = a tuple stands in parentheses: (..)
+",
+    ),
+    (
+        "list<u8>",
+        "(1)",
+        "  = expected list<u8>, found a tuple
+  = a list stands in brackets: [..]
+",
+    ),
+    (
+        "record { host: string, port: u16 }",
+        "{host: \"a\" port: 1}",
+        "  = expected ',' or '}'
+",
+    ),
+    (
+        "list<u8>",
+        "[1 2]",
+        "  = expected ',' or ']'
+",
+    ),
+    (
+        "enum { red }",
+        "\"red\"",
+        "  = expected enum { red }, found a string
+  = a case is written without quotes
+",
+    ),
+];
+
+#[test]
+fn paths(rt: HostRuntime) -> Result<(), Fail> {
+    let found = wrong_blocks(rt.alloc(), &PATHS)?;
+    assert_eq!(rt; found.as_str(), "");
+    Ok(())
+}
+
+#[test]
+fn hints(rt: HostRuntime) -> Result<(), Fail> {
+    let found = wrong_lines(rt.alloc(), &HINTS)?;
+    assert_eq!(rt; found.as_str(), "");
+    Ok(())
+}
+
+/// The blocks that don't end with the lines of their rows, behind the marks.
+fn wrong_lines(alloc: Global, rows: &[(&str, &str, &str)]) -> Result<String, Fail> {
+    let mut found = String::new(alloc);
+    for (ty, text, due) in rows {
+        let ty = type_of(alloc, ty)?;
+        let block = explained(alloc, &ty, text)?;
+        let lines = format!(in alloc; "^\n{due}")?;
+        if !block.as_str().ends_with(lines.as_str()) {
+            found.push_str(block.as_str())?;
+        }
+    }
+    Ok(found)
+}
+
+/// The blocks that are shown in place of those in the rows.
+fn wrong_blocks(alloc: Global, rows: &[(&str, &str, &str)]) -> Result<String, Fail> {
+    let mut found = String::new(alloc);
+    for (ty, text, due) in rows {
+        let ty = type_of(alloc, ty)?;
+        let block = explained(alloc, &ty, text)?;
+        if block.as_str() != *due {
+            found.push_str(block.as_str())?;
+        }
+    }
+    Ok(found)
+}
+
+/// The block that is shown of the refusal of the text at the type; nothing where it is taken.
+fn explained(alloc: Global, ty: &Type, text: &str) -> Result<String, Fail> {
+    match from_str::<Value>(alloc, ty, text) {
+        Ok(_) => Ok(String::new(alloc)),
+        Err(error) => Ok(explain_value(alloc, &error, text, ty)?),
+    }
+}

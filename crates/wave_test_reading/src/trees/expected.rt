@@ -1,0 +1,125 @@
+//! Worked rows of what may stand at a place of a text, in the words for people, and of the brackets that
+//! are open there.
+use std::alloc::Global;
+use std::test::Fail;
+use wasm_wave::expected::{Expected, expected_at};
+use wasm_wave::from_str;
+use wasm_wave::value::{Type, Value};
+
+/// A text, how many bytes of it stand before the place, the levels, what may stand there, and where each open
+/// bracket begins.
+type Row = (&'static str, usize, u32, &'static str, &'static [usize]);
+
+/// What may stand after the tokens of a text.
+const ROWS: &[Row] = &[
+    ("", 0, 100, "a value", &[]),
+    ("1 2", 2, 100, "the end", &[]),
+    ("a b", 2, 100, "'(' or the end", &[]),
+    ("some", 4, 100, "'('", &[]),
+    ("ok 1", 3, 100, "'(' or the end", &[]),
+    ("none 1", 5, 100, "the end", &[]),
+    ("(", 1, 100, "a value", &[0]),
+    ("(1, 2", 5, 100, "',' or ')'", &[0]),
+    ("(1, ", 4, 100, "a value or ')'", &[0]),
+    ("[", 1, 100, "a value or ']'", &[0]),
+    ("[1 2]", 3, 100, "',' or ']'", &[0]),
+    ("[1, 2] ]", 7, 100, "the end", &[]),
+    ("{", 1, 100, "a label, another key, ':' or '}'", &[0]),
+    ("{:", 2, 100, "'}'", &[0]),
+    ("{a", 2, 100, "':', ',' or '}'", &[0]),
+    ("{a, ", 4, 100, "a label or '}'", &[0]),
+    ("{a, b c", 5, 100, "',' or '}'", &[0]),
+    ("{1 2", 2, 100, "':'", &[0]),
+    ("{a: ", 4, 100, "a value", &[0]),
+    ("{a: 1 b: 2}", 5, 100, "',' or '}'", &[0]),
+    ("{a: 1, ", 7, 100, "a label, another key or '}'", &[0]),
+    ("[some(ok({a: (1", 15, 100, "',' or ')'", &[0, 5, 8, 9, 13]),
+    ("[(1), {a: []}, some(2) 3", 22, 100, "',' or ']'", &[0]),
+];
+
+/// The same where few levels are allowed: no value is named past the last.
+const LEVELS: &[Row] = &[
+    ("", 0, 0, "nothing", &[]),
+    ("", 0, 1, "a value", &[]),
+    ("(", 1, 1, "nothing", &[0]),
+    ("(", 1, 2, "a value", &[0]),
+    ("[", 1, 1, "']'", &[0]),
+    ("some", 4, 1, "nothing", &[]),
+    ("a", 1, 1, "the end", &[]),
+    ("a", 1, 2, "'(' or the end", &[]),
+    ("{a", 2, 1, "',' or '}'", &[0]),
+    ("{", 1, 1, "a label, ':' or '}'", &[0]),
+];
+
+/// The same after tokens that begin no value, and before what is no token.
+const OTHER: &[Row] = &[
+    ("] 1", 3, 100, "nothing", &[]),
+    ("()", 2, 100, "nothing", &[]),
+    ("{a, a", 5, 100, "nothing", &[0]),
+    ("{a, %a", 6, 100, "nothing", &[0]),
+    ("[1, $ 2", 7, 100, "a value or ']'", &[0]),
+    ("[12 3", 3, 100, "',' or ']'", &[0]),
+    ("[12 3", 2, 100, "a value or ']'", &[0]),
+];
+
+/// Whether the open brackets begin there.
+fn begin_at(expected: &Expected, starts: &[usize]) -> bool {
+    let spans = expected.open_brackets.as_slice();
+    if spans.len() != starts.len() {
+        return false;
+    }
+    for index in 0..spans.len() {
+        if spans[index].start != starts[index] {
+            return false;
+        }
+    }
+    true
+}
+
+/// The first row that is answered otherwise, with the words; nothing where there is none.
+fn wrong(alloc: Global, rows: &[Row]) -> Result<String, Fail> {
+    for row in rows {
+        let (text, at, levels, words, starts) = *row;
+        let expected = expected_at(alloc, text, at, levels)?;
+        let told = expected.words(alloc)?;
+        if told.as_str() != words || !begin_at(&expected, starts) {
+            return Ok(format!(in alloc; "{text} gives {told} at {at}")?);
+        }
+    }
+    Ok(String::new(alloc))
+}
+
+#[test]
+fn after_the_tokens_before(rt: HostRuntime) -> Result<(), Fail> {
+    let wrong = wrong(rt.alloc(), ROWS)?;
+    assert!(rt; wrong.as_str() == "");
+    Ok(())
+}
+
+#[test]
+fn within_the_levels(rt: HostRuntime) -> Result<(), Fail> {
+    let wrong = wrong(rt.alloc(), LEVELS)?;
+    assert!(rt; wrong.as_str() == "");
+    Ok(())
+}
+
+#[test]
+fn after_no_value(rt: HostRuntime) -> Result<(), Fail> {
+    let wrong = wrong(rt.alloc(), OTHER)?;
+    assert!(rt; wrong.as_str() == "");
+    Ok(())
+}
+
+#[test]
+fn where_a_text_is_refused(rt: HostRuntime) -> Result<(), Fail> {
+    let text = "{must-have: 1 optional: 2}";
+    match from_str::<Value>(rt.alloc(), &Type::U8, text) {
+        Ok(_) => Err(Fail::new(format_args!("{text} is read"))),
+        Err(error) => {
+            let expected = expected_at(rt.alloc(), text, error.span().start, 100)?;
+            let words = expected.words(rt.alloc())?;
+            assert!(rt; words.as_str() == "',' or '}'");
+            Ok(())
+        }
+    }
+}
