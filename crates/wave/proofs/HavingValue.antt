@@ -1,11 +1,11 @@
 -- Which types have a value, and what the parts say of the whole.
-use Rattle.std.proofs.Common.{ℕ, zero, suc, ◌≡◌, ◌<◌, ◌≤◌, ◌+◌, ◌||◌, ◌&&◌, ◌↔◌, ◌⊎◌, rules, Bool, true, false, IsTrue, List, [], ◌∷◌, ◌++◌, append_assoc, Bor, length, drop, get_or, map, Option, Some, None, Result, Ok, Err, IfOk, refl, arith, sym, ap, subst, ◌∙◌, inl, inr}
+use Rattle.std.proofs.Common.{ℕ, zero, suc, ◌≡◌, ◌<◌, ◌≤◌, ◌+◌, ◌||◌, ◌&&◌, ◌↔◌, ◌⊎◌, rules, Bool, true, false, IsTrue, List, [], ◌∷◌, ◌++◌, append_assoc, Bor, length, drop, get_or, Option, Result, Ok, Err, IfOk, refl, arith, sym, ap, subst, ◌∙◌, inl, inr}
 use Rattle.std.specs.List.{list_all, list_any}
 use Rattle.std.specs.Prelude.{pos}
 use Rattle.std.proofs.lemmas.List.{append-nil}
 use Rattle.wave_wasm.specs.Borrowed.{shown_all}
 use Rattle.wave_wasm.specs.Lists.{AllOf}
-use Rattle.wave_wasm.specs.Names.{IsOneOf, ArePicked}
+use Rattle.wave_wasm.specs.Names.{ArePicked}
 use Rattle.wave_wasm.specs.Types as type
 use Rattle.wave_wasm.specs.Types.{TypeTree, MaybeType, Types, Fields, Cases, Simple, no_type, a_type, no_types, type_and, no_fields, field, no_cases, case_of, has_names, kind_of, maybe_type, type_option, type_list, field_list, case_list, tuple_parts, record_parts, variant_parts}
 use Rattle.wave_wasm.specs.Values as value

@@ -6,3 +6,8 @@ pub mod Named
 pub mod Untyped
 pub mod TypedCalls
 pub mod Told
+pub mod LineReading
+pub mod LinesAnswered
+pub mod AskedFor
+pub mod OneLine
+pub mod Misused

@@ -1,9 +1,9 @@
 -- What arguments ask for, by how many there are.
-use Rattle.std.proofs.Common.{ℕ, ◌≡◌, ◌≢◌, ◌≤◌, ◌<◌, ◌⊎◌, ◌∙◌, List, [], ◌∷◌, String, Global, Result, Ok, Err, IfErr, string_bytes, map, get_or, length, refl, inl, inr, sym, ap, subst, arith, codes}
+use Rattle.std.proofs.Common.{ℕ, ◌≡◌, ◌≤◌, ◌<◌, ◌∙◌, List, [], ◌∷◌, String, Global, Result, Ok, Err, IfErr, string_bytes, map, get_or, length, refl, inl, inr, sym, ap, subst, arith, codes}
 use Rattle.wave.specs.declared.request.Request.TheVariants.{Value, Call, CallAt, Read}
 use Rattle.wave_wasm.specs.Types.{TypeTree}
 use Rattle.wave.specs.Types.{NamesParams}
-use Rattle.wave.specs.Requests.{IsLimitWord, AskForType, AreUnknown}
+use Rattle.wave.specs.Requests.{IsLimitWord, HaveType, MakeNone}
 
 -- the text of the only word
 pub one_word : (words : List (String Global)) (word : String Global) (text : List ℕ) → 1 ≤ length words → length words < 2 → word ≡ get_or words 0 word → text ≡ string_bytes word → map string_bytes words ≡ text ∷ []
@@ -28,17 +28,17 @@ three_words (a ∷ b ∷ d ∷ []) x y z s t u least below is_x is_y is_z same_s
 three_words (a ∷ b ∷ d ∷ e ∷ more) x y z s t u least below is_x is_y is_z same_s same_t same_u = absurd (omega (arith, below))
 
 -- arguments that ask for a type, where there was no memory for it
-pub asks_two : {X E : Type 0} (r : Result X E) (a b : List ℕ) → a ≡ codes "read" → IfErr r (λ e. AskForType (a ∷ b ∷ []))
+pub asks_two : {X E : Type 0} (r : Result X E) (a b : List ℕ) → a ≡ codes "read" → IfErr r (λ e. HaveType (a ∷ b ∷ []))
 asks_two (Ok x) a b is = tt
 asks_two (Err e) a b is = inl (b, 100, inl (ap (λ z. z ∷ b ∷ []) is, refl))
 
 -- the same with a limit
-pub asks_three : {X E : Type 0} (r : Result X E) (a b d : List ℕ) (n : ℕ) → a ≡ codes "read" → IsLimitWord d n → IfErr r (λ e. AskForType (a ∷ b ∷ d ∷ []))
+pub asks_three : {X E : Type 0} (r : Result X E) (a b d : List ℕ) (n : ℕ) → a ≡ codes "read" → IsLimitWord d n → IfErr r (λ e. HaveType (a ∷ b ∷ d ∷ []))
 asks_three (Ok x) a b d n is limit = tt
 asks_three (Err e) a b d n is limit = inl (b, n, inr (d, ap (λ z. z ∷ b ∷ d ∷ []) is, limit))
 
 -- arguments that ask for the type of a function, where there was no memory for it
-pub asks_call : {X E : Type 0} (r : Result X E) (a b : List ℕ) → a ≡ codes "call" → IfErr r (λ e. AskForType (a ∷ b ∷ []))
+pub asks_call : {X E : Type 0} (r : Result X E) (a b : List ℕ) → a ≡ codes "call" → IfErr r (λ e. HaveType (a ∷ b ∷ []))
 asks_call (Ok x) a b is = tt
 asks_call (Err e) a b is = inr (b, ap (λ z. z ∷ b ∷ []) is)
 
@@ -49,7 +49,7 @@ second_is : (a b first second : List ℕ) → a ∷ b ∷ [] ≡ first ∷ secon
 second_is a b first second is = ap (λ words. get_or words 1 []) is
 
 -- `call` with the text of no type of a function whose parameters have values
-pub unknown_call : (a b : List ℕ) → a ≡ codes "call" → ((Ts : List TypeTree) → NamesParams b Ts → ⊥) → AreUnknown (a ∷ b ∷ [])
+pub unknown_call : (a b : List ℕ) → a ≡ codes "call" → ((Ts : List TypeTree) → NamesParams b Ts → ⊥) → MakeNone (a ∷ b ∷ [])
 unknown_call a b call none (Value n) (inl (is, hundred)) = absurd (omega (arith, ap length is))
 unknown_call a b call none (Value n) (inr (l, is, limit)) = let wrong : 99 ≡ 118 = ap (λ t. get_or t 0 0) (sym call ∙ first_is a b (codes "value") (l ∷ []) is) in absurd (omega (arith, wrong))
 unknown_call a b call none Call is = absurd (omega (arith, ap length is))
@@ -58,7 +58,7 @@ unknown_call a b call none (Read T n) (w, inl (is, hundred), names) = let wrong 
 unknown_call a b call none (Read T n) (w, inr (l, is, limit), names) = absurd (omega (arith, ap length is))
 
 -- no arguments
-pub unknown_none : (words : List (String Global)) → length words < 1 → AreUnknown (map string_bytes words)
+pub unknown_none : (words : List (String Global)) → length words < 1 → MakeNone (map string_bytes words)
 unknown_none (w ∷ more) none request asked = absurd (omega (arith, none))
 unknown_none [] none (Value n) (inl (is, hundred)) = absurd (omega (arith, ap length is))
 unknown_none [] none (Value n) (inr (l, is, limit)) = absurd (omega (arith, ap length is))
@@ -68,7 +68,7 @@ unknown_none [] none (Read T n) (w, inl (is, hundred), names) = absurd (omega (a
 unknown_none [] none (Read T n) (w, inr (l, is, limit), names) = absurd (omega (arith, ap length is))
 
 -- more than three arguments
-pub unknown_many : (words : List (String Global)) → 4 ≤ length words → AreUnknown (map string_bytes words)
+pub unknown_many : (words : List (String Global)) → 4 ≤ length words → MakeNone (map string_bytes words)
 unknown_many [] many request asked = absurd (omega (arith, many))
 unknown_many (a ∷ []) many request asked = absurd (omega (arith, many))
 unknown_many (a ∷ b ∷ []) many request asked = absurd (omega (arith, many))

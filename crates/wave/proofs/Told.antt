@@ -1,21 +1,25 @@
 -- What a refusal and a fault of the input say of the line that is due.
-use Rattle.std.proofs.Common.{ℕ, ◌≡◌, ◌≢◌, List, Option, Some, MatchOption, Result, [], refl, inl, inr, sym, subst, rules, arith}
+use Rattle.std.proofs.Common.{ℕ, ◌≡◌, ◌≢◌, List, Option, Some, MatchOption, Result, Ok, refl, inl, inr, sym, subst, rules, arith}
 use Rattle.std.specs.declared.alloc.AllocError.{AllocError}
 use Rattle.wave_lex.specs.Errors.{Diagnostic, error_text}
 use Rattle.wave_lex.specs.declared.error.ParserErrorKind.TheVariants as kind
 use Rattle.wave_tree.specs.ParserState.{IsLimit}
 use Rattle.wave.specs.declared.request.Request.{Request}
 use Rattle.wave.specs.declared.request.Request.TheVariants.{Value, Call, CallAt, Read}
+use Rattle.wave.specs.declared.request.Asked.{Asked}
+use Rattle.wave.specs.declared.request.Asked.TheVariants.{Whole, Lines}
+use Rattle.wave.specs.declared.program.Ended.{Ended}
 use Rattle.wave.specs.declared.input.Input.{Input}
 use Rattle.wave.specs.declared.input.Fault.{Fault}
 use Rattle.wave.specs.declared.input.Fault.TheVariants.{NotUtf8, InputFailed, OutOfMemory}
 use Rattle.wave.specs.declared.output.Output.{Output}
-use Rattle.wave.specs.Requests.{TellLimit, AreWordsOf, AreUnknown}
+use Rattle.wave.specs.Requests.{TellLimit, AreWordsOf, AskFor, AreUnknown}
 use Rattle.wave.specs.Answers.{IsFaultOf, IsInput, words_of_fault}
-use Rattle.wave.specs.Explained.{IsShown, ShowsRefusal}
+use Rattle.wave.specs.ByLines.{EndsBefore, AnswersLines, RunsByLines}
+use Rattle.wave.specs.Explained.{ShowsRefusal, ShowsWhy}
 use Rattle.wave.specs.Lines.{line}
 use Rattle.wave.specs.ReadFaults.{IsReadToEnd}
-use Rattle.wave.specs.Statuses.{IsDue}
+use Rattle.wave.specs.Statuses.{IsDueTo}
 use Rattle.wave.specs.Written.{Prints, WritesWhole}
 use Rattle.wave.specs.Private.Requests.{IsFit}
 use Rattle.wave.proofs.Spelled.{named_distinct, params_distinct}
@@ -33,9 +37,21 @@ is_fit words Call asked = tt
 is_fit words (CallAt types) (word, is, names) = params_distinct word types.items names
 is_fit words (Read T n) (word, tells, names) = (is_limit words _ n tells, named_distinct word T names)
 
--- the request that was found is one that the arguments make
-pub asked_for : (words : List (List ℕ)) (found : Option Request) (request : Request) → MatchOption found (AreUnknown words) (λ r. AreWordsOf r words) → found ≡ Some request → AreWordsOf request words
-asked_for words found request made is = subst (λ f. MatchOption f (AreUnknown words) (λ r. AreWordsOf r words)) is made
+module _ (words : List (List ℕ)) (found : Option Asked) (asked : Asked) (request : Request) (made : MatchOption found (AreUnknown words) (λ a. AskFor a words)) (is : found ≡ Some asked) where
+  asked_for : AskFor asked words
+  asked_for = subst (λ f. MatchOption f (AreUnknown words) (λ a. AskFor a words)) is made
+
+  -- the request that was found is one that the arguments make
+  pub asked_whole : asked ≡ Whole request → AreWordsOf request words
+  asked_whole of = subst (λ a. AskFor a words) of asked_for
+
+  -- so of one on each line
+  pub asked_lines : asked ≡ Lines request → AskFor (Lines request) words
+  asked_lines of = subst (λ a. AskFor a words) of asked_for
+
+-- a request on each line that arguments make is fit for a parser
+pub is_fit_by_lines : (words : List (List ℕ)) (request : Request) → AskFor (Lines request) words → IsFit request
+is_fit_by_lines words request (front, is, asked) = is_fit front request asked
 
 module _ {R : Type 0} where
   -- why there is no outcome is a fault of the input, or out of memory
@@ -46,13 +62,13 @@ module _ {R : Type 0} where
 
 module _ {R : Type 0} {W : Type 0} (contents : W → Option (List ℕ)) where
   -- what is printed of a refusal is due
-  pub told : (words : List (List ℕ)) (request : Request) (left : Option (List ℕ)) (whole : List ℕ) (old new : Input R) (before after : Output W) (e : Diagnostic) (result : ℕ)
-      → AreWordsOf request words → IsReadToEnd old new → IsInput left whole → Refuses request whole e → TellsRefusal contents before after e result
-      → (status : ℕ) × (said : List ℕ) × IsDue words left old new status said × Prints contents before after said status result
-  told words request left whole old new before after e result asked ended input refuses (inl (other, prints)) =
-      (1, line (error_text e), inr (inr (inr (request, asked, inr (inl (refl, (whole, e, input, refuses other, refl), ended))))), prints)
-  told words request left whole old new before after e result asked ended input refuses (inr prints) =
-      (3, line (words_of_fault OutOfMemory), inr (inr (inr (request, asked, inr (inr (refl, (OutOfMemory, ended.2, refl)))))), prints)
+  pub told : (request : Request) (left : Option (List ℕ)) (whole : List ℕ) (old new : Input R) (before after : Output W) (e : Diagnostic) (result : ℕ)
+      → IsReadToEnd old new → IsInput left whole → Refuses request whole e → TellsRefusal contents before after e result
+      → (status : ℕ) × (said : List ℕ) × IsDueTo request left old new status said × Prints contents before after said status result
+  told request left whole old new before after e result ended input refuses (inl (other, prints)) =
+      (1, line (error_text e), inr (inl (refl, (whole, e, input, refuses other, refl), ended)), prints)
+  told request left whole old new before after e result ended input refuses (inr prints) =
+      (3, line (words_of_fault OutOfMemory), inr (inr (refl, (OutOfMemory, ended.2, refl))), prints)
 
 module _ {W : Type 0} (contents : W → Option (List ℕ)) where
   -- the status of the answer is that of what was printed
@@ -67,9 +83,35 @@ module _ {W : Type 0} (contents : W → Option (List ℕ)) where
   told_at_1 before after e result (inr (inr (three, cut))) one = absurd (omega (arith, three, one))
 
   -- the refusal that was printed is shown
-  pub shown : {E : Type 0} (held : E → Option (List ℕ)) (words : List (List ℕ)) (request : Request) (left : Option (List ℕ)) (whole : List ℕ) (before after : Output W) (old new : Output E) (e : Diagnostic) (result : ℕ) (answered : Result (Unit {0}) AllocError)
-      → AreWordsOf request words → IsInput left whole → Refuses request whole e → TellsRefusal contents before after e result → (result ≡ 1 → ShowsRefusal held old new whole e answered)
-      → result ≡ 1 → IsShown words left contents before after held old new answered
-  shown held words request left whole before after old new e result answered asked input refuses tells shows one =
+  pub shown : {E : Type 0} (held : E → Option (List ℕ)) (request : Request) (left : Option (List ℕ)) (whole : List ℕ) (before after : Output W) (old new : Output E) (e : Diagnostic) (result : ℕ) (answered : Result (Unit {0}) AllocError)
+      → IsInput left whole → Refuses request whole e → TellsRefusal contents before after e result → (result ≡ 1 → ShowsRefusal held request old new whole e answered)
+      → result ≡ 1 → ShowsWhy request left contents before after held old new answered
+  shown held request left whole before after old new e result answered input refuses tells shows one =
       let line_is = told_at_1 before after e result tells one in
-      (request, whole, e, asked, input, refuses line_is.0, line_is.1, shows one)
+      (whole, e, input, refuses line_is.0, line_is.1, shows one)
+
+module _ {R W E : Type 0} (contents : W → Option (List ℕ)) (held : E → Option (List ℕ)) where
+  -- so of requests on each line
+  pub run_by_lines : (words : List (List ℕ)) (request : Request) (left : Option (List ℕ)) (old new : Input R) (before after : Output W) (errors_before errors_after : Output E) (status : ℕ) (ended : Ended)
+      → AskFor (Lines request) words → AnswersLines contents held request left old new before after errors_before errors_after status → ended.status ≡ status → ended.shown ≡ Ok tt
+      → RunsByLines contents held words left old new before after errors_before errors_after ended
+  run_by_lines words request left old new before after errors_before errors_after status ended asked answers is shown =
+      (request, asked, subst (AnswersLines contents held request left old new before after errors_before errors_after) (sym is) answers, shown)
+
+module _ {R W : Type 0} (contents : W → Option (List ℕ)) where
+  -- what a request comes to is never status 2
+  pub whole_not_misused : (request : Request) (left : Option (List ℕ)) (old new : Input R) (before after : Output W) (status result : ℕ) (said : List ℕ)
+      → IsDueTo request left old new status said → Prints contents before after said status result → result ≡ 2 → ⊥
+  whole_not_misused request left old new before after status result said due (inr (three, cut)) two = absurd (omega (arith, three, two))
+  whole_not_misused request left old new before after status result said (inl due) (inl (is, writes)) two = let zero = due.0 in absurd (omega (arith, zero, is, two))
+  whole_not_misused request left old new before after status result said (inr (inl due)) (inl (is, writes)) two = let one = due.0 in absurd (omega (arith, one, is, two))
+  whole_not_misused request left old new before after status result said (inr (inr due)) (inl (is, writes)) two = let three = due.0 in absurd (omega (arith, three, is, two))
+
+  -- nor what it comes to on each line
+  pub lines_not_misused : {E : Type 0} (held : E → Option (List ℕ)) (rest : List (List ℕ)) (old new : Input R) (before after : Output W) (said explained : List ℕ) (status result : ℕ)
+      → EndsBefore contents held rest old new before after said explained status → result ≡ status → result ≡ 2 → ⊥
+  lines_not_misused held rest old new before after said explained status result (inl (none, ended, inl (zero, quiet), writes)) is two = absurd (omega (arith, zero, is, two))
+  lines_not_misused held rest old new before after said explained status result (inl (none, ended, inr (one, refused), writes)) is two = absurd (omega (arith, one, is, two))
+  lines_not_misused held rest old new before after said explained status result (inr (inl (fault, due, inl (three, writes)))) is two = absurd (omega (arith, three, is, two))
+  lines_not_misused held rest old new before after said explained status result (inr (inl (fault, due, inr (three, cut)))) is two = absurd (omega (arith, three, is, two))
+  lines_not_misused held rest old new before after said explained status result (inr (inr (three, cut))) is two = absurd (omega (arith, three, is, two))

@@ -34,6 +34,9 @@ help = lines (
     ∷ codes "  func(a: T, b: option<U>)"
     ∷ codes "Options at its end may be left out of the call, and are printed as none."
     ∷ codes ""
+    ∷ codes "--lines behind value, call or read: each line is a text, and printed as a line, which is empty for one"
+    ∷ codes "that is blank or refused."
+    ∷ codes ""
     ∷ codes "N is the number of levels that the value may have, from 1 to 1000; it is 100 where there is none."
     ∷ codes ""
     ∷ codes "status 0   the value is printed"
@@ -52,13 +55,29 @@ help = lines (
 abbrev pub version : List ℕ
 version = line (codes "wave 0.1.0, a port of wasm-wave 0.263.0, proved with Rattle, logic dac8208d650f15bf")
 
+-- the word begins a request
+abbrev pub IsRequestWord : List ℕ → Type 0
+IsRequestWord word = (word ≡ codes "value") ⊎ (word ≡ codes "call") ⊎ (word ≡ codes "read")
+
+-- the word asks for the help behind such a word
+abbrev pub IsHelpOption : List ℕ → Type 0
+IsHelpOption word = (word ≡ codes "--help") ⊎ (word ≡ codes "-h")
+
+-- the arguments are such a word and such an option
+abbrev pub AskForHelpOf : List (List ℕ) → Type 0
+AskForHelpOf words = (command : List ℕ) × (option : List ℕ) × (words ≡ command ∷ option ∷ []) × IsRequestWord command × IsHelpOption option
+
 -- the arguments ask for the help
 abbrev pub AskForHelp : List (List ℕ) → Type 0
-AskForHelp words = (words ≡ codes "--help" ∷ []) ⊎ (words ≡ codes "help" ∷ []) ⊎ (words ≡ codes "-h" ∷ [])
+AskForHelp words = (words ≡ codes "--help" ∷ []) ⊎ (words ≡ codes "help" ∷ []) ⊎ (words ≡ codes "-h" ∷ []) ⊎ AskForHelpOf words
+
+-- the arguments ask for the version
+abbrev pub AskForVersion : List (List ℕ) → Type 0
+AskForVersion words = (words ≡ codes "--version" ∷ []) ⊎ (words ≡ codes "version" ∷ []) ⊎ (words ≡ codes "-V" ∷ [])
 
 -- the arguments ask for the help or for the version, which is said
 abbrev pub IsNotice : List (List ℕ) → List ℕ → Type 0
-IsNotice words said = AskForHelp words × (said ≡ help) ⊎ (words ≡ codes "--version" ∷ []) × (said ≡ version)
+IsNotice words said = AskForHelp words × (said ≡ help) ⊎ AskForVersion words × (said ≡ version)
 
 -- the arguments ask for neither
 abbrev pub IsNoNotice : List (List ℕ) → Type 0

@@ -1,3 +1,5 @@
 pub mod Requests
 pub mod Answers
 pub mod Inhabited
+pub mod InputLines
+pub mod ByLines

@@ -4,6 +4,8 @@ use Rattle.wave_grammar.specs.NumberText.{all_digits}
 use Rattle.wave_tree.specs.ParserState.{IsLimit}
 use Rattle.wave.specs.declared.request.Request.{Request}
 use Rattle.wave.specs.declared.request.Request.TheVariants.{Value, Call, CallAt, Read}
+use Rattle.wave.specs.declared.request.Asked.{Asked}
+use Rattle.wave.specs.declared.request.Asked.TheVariants.{Whole, Lines}
 use Rattle.wave.specs.Types.{NamesType, NamesParams}
 
 -- the word has no leading zero
@@ -26,12 +28,32 @@ AreWordsOf Call words = words ≡ codes "call" ∷ []
 AreWordsOf (CallAt types) words = (word : List ℕ) × (words ≡ codes "call" ∷ word ∷ []) × NamesParams word types.items
 AreWordsOf (Read T n) words = (word : List ℕ) × TellLimit words (codes "read" ∷ word ∷ []) n × NamesType word T
 
--- the arguments ask for a type, or for the type of a function, by a name or its text
-abbrev pub AskForType : List (List ℕ) → Type 0
-AskForType words =
+-- the arguments make the request that is asked for; to be answered on each line they do so before `--lines`
+abbrev pub AskFor : Asked → List (List ℕ) → Type 0
+AskFor (Whole request) words = AreWordsOf request words
+AskFor (Lines request) words = (front : List (List ℕ)) × (words ≡ front ++ codes "--lines" ∷ []) × AreWordsOf request front
+
+-- the arguments have a type, or the type of a function, by a name or its text
+abbrev pub HaveType : List (List ℕ) → Type 0
+HaveType words =
     ((word : List ℕ) × (n : ℕ) × TellLimit words (codes "read" ∷ word ∷ []) n)
     ⊎ ((word : List ℕ) × (words ≡ codes "call" ∷ word ∷ []))
 
--- the arguments make no request
+-- they have one, perhaps before `--lines`
+abbrev pub AskForType : List (List ℕ) → Type 0
+AskForType words = HaveType words ⊎ ((front : List (List ℕ)) × (words ≡ front ++ codes "--lines" ∷ []) × HaveType front)
+
+-- the arguments make no request of the whole input
+abbrev pub MakeNone : List (List ℕ) → Type 0
+MakeNone words = (request : Request) → AreWordsOf request words → ⊥
+
+-- the arguments make the request before a last `--lines`, to be answered on each line; or none
+abbrev pub AskByLines : Request → List (List ℕ) → Type 0
+AskByLines request words = AskFor (Lines request) words
+
+abbrev pub AskNoneByLines : List (List ℕ) → Type 0
+AskNoneByLines words = (request : Request) → AskByLines request words → ⊥
+
+-- the arguments ask for nothing
 abbrev pub AreUnknown : List (List ℕ) → Type 0
-AreUnknown words = (request : Request) → AreWordsOf request words → ⊥
+AreUnknown words = (asked : Asked) → AskFor asked words → ⊥

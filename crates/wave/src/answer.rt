@@ -46,17 +46,17 @@ impl From<ParserError> for Unanswered {
 }
 
 /// The answer of the request on the text.
-pub fn answer(alloc: Global, request: Request, text: &str) -> Result<String, Unanswered>
-    requires { IsFit request }
+pub fn answer(alloc: Global, request: &Request, text: &str) -> Result<String, Unanswered>
+    requires { IsFit request.now }
     ensures { MatchResult result
-        (λ answer. Answers request text.now (string_bytes answer))
-        (IsUnanswered request text.now) }
+        (λ answer. Answers request.now text.now (string_bytes answer))
+        (IsUnanswered request.now text.now) }
 {
     match request {
-        Request::Value(levels) => value(alloc, levels, text),
+        Request::Value(levels) => value(alloc, *levels, text),
         Request::Call => call(alloc, text),
-        Request::CallAt(types) => call_at(alloc, &types, text),
-        Request::Read(ty, levels) => read(alloc, &ty, levels, text),
+        Request::CallAt(types) => call_at(alloc, types, text),
+        Request::Read(ty, levels) => read(alloc, ty, *levels, text),
     }
 }
 

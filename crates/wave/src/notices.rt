@@ -1,6 +1,6 @@
 // What the program prints of itself.
-ghost use Rattle.std.specs.Prelude.{[], ◌∷◌, MatchOption, map, string_bytes};
-ghost use Rattle.wave.specs.Notices.{IsNotice, IsNoNotice};
+ghost use Rattle.std.specs.Prelude.{[], ◌∷◌, MatchBool, MatchOption, map, string_bytes};
+ghost use Rattle.wave.specs.Notices.{IsRequestWord, IsHelpOption, IsNotice, IsNoNotice};
 
 const VERSION: &str =
     "wave 0.1.0, a port of wasm-wave 0.263.0, proved with Rattle, logic dac8208d650f15bf\n";
@@ -35,6 +35,9 @@ FUNC is the text of a function's type; it may have results, which are not used:
   func(a: T, b: option<U>)
 Options at its end may be left out of the call, and are printed as none.
 
+--lines behind value, call or read: each line is a text, and printed as a line, which is empty for one
+that is blank or refused.
+
 N is the number of levels that the value may have, from 1 to 1000; it is 100 where there is none.
 
 status 0   the value is printed
@@ -57,6 +60,7 @@ pub fn notice_of(words: &[String]) -> Option<&'static str>
 {
     match words {
         [word] => notice(word.as_str()),
+        [command, option] => help_of(command.as_str(), option.as_str()),
         _ => None,
     }
 }
@@ -69,7 +73,34 @@ fn notice(word: &str) -> Option<&'static str>
 {
     match word {
         "--help" | "help" | "-h" => Some(HELP),
-        "--version" => Some(VERSION),
+        "--version" | "version" | "-V" => Some(VERSION),
         _ => None,
     }
+}
+
+/// The help, where it is asked for behind a word that begins a request.
+fn help_of(command: &str, option: &str) -> Option<&'static str>
+    ensures { MatchOption result
+        (IsNoNotice (command.now ∷ option.now ∷ []))
+        (λ said. IsNotice (command.now ∷ option.now ∷ []) said.now) }
+{
+    if begins_request(command) && is_help_option(option) {
+        Some(HELP)
+    } else {
+        None
+    }
+}
+
+/// Whether the word begins a request.
+fn begins_request(word: &str) -> bool
+    ensures { MatchBool result (IsRequestWord word.now) (IsRequestWord word.now → ⊥) }
+{
+    matches!(word, "value" | "call" | "read")
+}
+
+/// Whether the word asks for the help behind one that begins a request.
+fn is_help_option(word: &str) -> bool
+    ensures { MatchBool result (IsHelpOption word.now) (IsHelpOption word.now → ⊥) }
+{
+    matches!(word, "--help" | "-h")
 }

@@ -1,25 +1,29 @@
 // The program between a reader and a writer.
-ghost use Rattle.std.specs.Prelude.{ℕ, List, ◌≡◌, ◌≢◌, ◌≤◌, true, false, map, IfOk, IfErr, OnOk, IfSome, string_bytes};
+ghost use Rattle.std.specs.Prelude.{ℕ, List, ◌≡◌, ◌≢◌, ◌≤◌, ◌⊎◌, true, false, map, IfOk, IfErr, OnOk, IfSome, string_bytes};
 ghost use Rattle.wave_lex.specs.Errors.{error_text};
 ghost use Rattle.wave_lex.specs.declared.error.ParserErrorKind.TheVariants as kind;
 ghost use Rattle.wave.specs.ReadFaults.{IsReadToEnd, IsReadFault};
 ghost use Rattle.wave.specs.Written.{WritesWhole, WritesLess, Prints};
 ghost use Rattle.wave.specs.Requests.{AreUnknown};
-ghost use Rattle.wave.specs.Answers.{words_of_fault};
+ghost use Rattle.wave.specs.Answers.{words_of_fault, usage};
 ghost use Rattle.wave.specs.Lines.{line};
 ghost use Rattle.wave.specs.Private.Answers.{IsOutcome, IsNoOutcome, TellsRefusal};
-ghost use Rattle.wave.specs.Explained.{IsShown, ShowsRefusal};
+ghost use Rattle.wave.specs.ByLines.{RunsByLines};
+ghost use Rattle.wave.specs.Explained.{IsShown, ShowsWhy, ShowsRefusal};
+ghost use Rattle.wave.specs.Misuse.{ShowsMisuse};
 ghost use Rattle.wave.specs.Private.Requests.{IsFit};
-ghost use Rattle.wave.specs.Statuses.{IsDue};
+ghost use Rattle.wave.specs.Statuses.{IsDue, IsDueTo};
 
 use crate::answer::{Unanswered, answer};
+use crate::by_lines::answer_lines;
+use crate::explained::explain_refusal;
 use crate::input::{Fault, Input};
+use crate::misuse::explain_misuse;
 use crate::notices::notice_of;
 use crate::output::Output;
-use crate::request::{Request, request_of};
+use crate::request::{Asked, Request, asked_by};
 use std::alloc::{AllocError, Global};
 use std::io::{Read, Write};
-use wasm_wave::explain::explain;
 use wasm_wave::parser::{ParserError, ParserErrorKind};
 
 const CHUNK: usize = 65_536;
@@ -31,12 +35,12 @@ const USAGE: &str = "usage: wave value [N] | wave call | wave read NAME [N]\n";
 pub struct Ended {
     /// The status to end with.
     pub status: u8,
-    /// Out of memory, where there was none to show a refusal to a person.
+    /// Out of memory, where there was none to show a refusal, or what is wrong with the arguments, to a person.
     pub shown: Result<(), AllocError>,
 }
 
 impl Ended {
-    /// With the status, where no refusal is due to be shown.
+    /// With the status, where nothing is due to be shown.
     fn at(status: u8) -> Ended
         ensures status { result.status ≡ status }
         ensures shown { result.shown ≡ Ok tt }
@@ -54,7 +58,10 @@ impl Ended {
 /// input is no text, or memory ran out, also for the type that the arguments name, before anything is
 /// read. An input whose reader had reported its end before the call counts as one that failed. Where a
 /// refusal was printed, it is shown to a person too: what explains it is written to `errors`, unless
-/// there is no memory for that, which is answered.
+/// there is no memory for that, which is answered; and so is what is wrong with the arguments where the
+/// usage was printed. A request on each line of the input is answered by
+/// a line for each: empty for one that is blank or refused, and a refused one is shown with its number;
+/// the status is 1 where any was, and 3 where a fault or a failed write ended it.
 pub fn run<R: Read, W: Write, E: Write>(
     alloc: Global,
     words: &[String],
@@ -62,15 +69,25 @@ pub fn run<R: Read, W: Write, E: Write>(
     output: &mut Output<W>,
     errors: &mut Output<E>,
 ) -> Ended
-    // One line was due, and the status with it; it was written, or a write failed.
-    ensures printed { (status : ℕ) × (said : List ℕ)
+    // One line was due, and the status with it; it was written, or a write failed. Or a request on each
+    // line was answered.
+    ensures printed { ((status : ℕ) × (said : List ℕ)
         × IsDue (map string_bytes words.now) (R.remaining input.old.reader)
         input.old input.new status said
-        × Prints W.contents output.old output.new said status result.status }
-    // A refusal is shown where it was printed, or there was no memory for it, and nothing else is.
+        × Prints W.contents output.old output.new said status result.status)
+        ⊎ RunsByLines W.contents E.contents (map string_bytes words.now) (R.remaining input.old.reader)
+        input.old input.new output.old output.new errors.old errors.new result }
+    // A refusal is shown where it was printed, or there was no memory for it.
     ensures shown { result.status ≡ 1 → IsShown (map string_bytes words.now) (R.remaining input.old.reader)
-        W.contents output.old output.new E.contents errors.old errors.new result.shown }
-    ensures quiet { result.status ≢ 1 → (errors.new ≡ errors.old) × (result.shown ≡ Ok tt) }
+        W.contents output.old output.new E.contents errors.old errors.new result.shown
+        ⊎ RunsByLines W.contents E.contents (map string_bytes words.now) (R.remaining input.old.reader)
+        input.old input.new output.old output.new errors.old errors.new result }
+    ensures quiet { result.status ≢ 1 → result.status ≢ 2 → (errors.new ≡ errors.old) × (result.shown ≡ Ok tt)
+        ⊎ RunsByLines W.contents E.contents (map string_bytes words.now) (R.remaining input.old.reader)
+        input.old input.new output.old output.new errors.old errors.new result }
+    // Where the usage was printed, what is wrong with the arguments is said, or there was no memory for it.
+    ensures misused { result.status ≡ 2 →
+        ShowsMisuse E.contents (map string_bytes words.now) errors.old errors.new result.shown }
     // The arguments are tested before anything is read.
     ensures tested_first { AreUnknown (map string_bytes words.now) → input.new ≡ input.old }
     ensures counted { input.new.reads_left ≤ input.old.reads_left }
@@ -78,15 +95,75 @@ pub fn run<R: Read, W: Write, E: Write>(
     if let Some(notice) = notice_of(words) {
         return Ended::at(print(output, notice, 0));
     }
-    let request = match request_of(alloc, words) {
-        Ok(Some(request)) => request,
-        Ok(None) => return Ended::at(print(output, USAGE, 2)),
+    let asked = match asked_by(alloc, words) {
+        Ok(Some(asked)) => asked,
+        Ok(None) => return misused(alloc, words, output, errors),
         Err(_) => return Ended::at(report(output, Fault::OutOfMemory)),
     };
+    match asked {
+        Asked::Whole(request) => answer_whole(alloc, &request, input, output, errors),
+        Asked::Lines(request) => Ended::at(answer_lines(alloc, &request, input, output, errors)),
+    }
+}
+
+/// Prints the usage, and says to a person what is wrong with the arguments where that was printed.
+fn misused<W: Write, E: Write>(
+    alloc: Global,
+    words: &[String],
+    output: &mut Output<W>,
+    errors: &mut Output<E>,
+) -> Ended
+    requires { AreUnknown (map string_bytes words.now) }
+    ensures told { Prints W.contents output.old output.new usage 2 result.status }
+    ensures shown { result.status ≡ 2 →
+        ShowsMisuse E.contents (map string_bytes words.now) errors.old errors.new result.shown }
+    ensures quiet { result.status ≢ 2 → (errors.new ≡ errors.old) × (result.shown ≡ Ok tt) }
+{
+    let status = print(output, USAGE, 2);
+    if status != 2 {
+        return Ended::at(status);
+    }
+    Ended {
+        status,
+        shown: show_misuse(alloc, errors, words),
+    }
+}
+
+/// Writes what is wrong with the arguments; out of memory for that, and nothing is written.
+fn show_misuse<E: Write>(
+    alloc: Global,
+    errors: &mut Output<E>,
+    words: &[String],
+) -> Result<(), AllocError>
+    requires { AreUnknown (map string_bytes words.now) }
+    ensures { ShowsMisuse E.contents (map string_bytes words.now) errors.old errors.new result }
+{
+    let explained = explain_misuse(alloc, words)?;
+    write_whole(errors, explained.as_bytes());
+    Ok(())
+}
+
+/// Answers the request on all of the input.
+fn answer_whole<R: Read, W: Write, E: Write>(
+    alloc: Global,
+    request: &Request,
+    input: &mut Input<R>,
+    output: &mut Output<W>,
+    errors: &mut Output<E>,
+) -> Ended
+    requires { IsFit request.now }
+    ensures printed { (status : ℕ) × (said : List ℕ)
+        × IsDueTo request.now (R.remaining input.old.reader) input.old input.new status said
+        × Prints W.contents output.old output.new said status result.status }
+    ensures shown { result.status ≡ 1 → ShowsWhy request.now (R.remaining input.old.reader)
+        W.contents output.old output.new E.contents errors.old errors.new result.shown }
+    ensures quiet { result.status ≢ 1 → (errors.new ≡ errors.old) × (result.shown ≡ Ok tt) }
+    ensures counted { input.new.reads_left ≤ input.old.reads_left }
+{
     match respond(alloc, request, input) {
         Ok(Outcome::Answered(line)) => Ended::at(print(output, line.as_str(), 0)),
         Ok(Outcome::Refused(refusal, text)) => {
-            refuse(alloc, output, errors, &refusal, text.as_str())
+            refuse(alloc, output, errors, request, &refusal, text.as_str())
         }
         Err(fault) => Ended::at(report(output, fault)),
     }
@@ -97,12 +174,13 @@ fn refuse<W: Write, E: Write>(
     alloc: Global,
     output: &mut Output<W>,
     errors: &mut Output<E>,
+    request: &Request,
     refusal: &ParserError,
     text: &str,
 ) -> Ended
     ensures told { TellsRefusal W.contents output.old output.new refusal.now result.status }
     ensures shown { result.status ≡ 1 →
-        ShowsRefusal E.contents errors.old errors.new text.now refusal.now result.shown }
+        ShowsRefusal E.contents request.now errors.old errors.new text.now refusal.now result.shown }
     ensures quiet { result.status ≢ 1 → (errors.new ≡ errors.old) × (result.shown ≡ Ok tt) }
 {
     let status = tell(alloc, output, refusal);
@@ -111,7 +189,7 @@ fn refuse<W: Write, E: Write>(
     }
     Ended {
         status,
-        shown: show(alloc, errors, refusal, text),
+        shown: show(alloc, errors, request, refusal, text),
     }
 }
 
@@ -119,12 +197,13 @@ fn refuse<W: Write, E: Write>(
 fn show<E: Write>(
     alloc: Global,
     errors: &mut Output<E>,
+    request: &Request,
     refusal: &ParserError,
     text: &str,
 ) -> Result<(), AllocError>
-    ensures { ShowsRefusal E.contents errors.old errors.new text.now refusal.now result }
+    ensures { ShowsRefusal E.contents request.now errors.old errors.new text.now refusal.now result }
 {
-    let explained = explain(alloc, refusal, text)?;
+    let explained = explain_refusal(alloc, request, refusal, text)?;
     write_whole(errors, explained.as_bytes());
     Ok(())
 }
@@ -180,7 +259,7 @@ fn print<W: Write>(output: &mut Output<W>, line: &str, status: u8) -> u8
 }
 
 /// Writes all of the bytes, or answers false where a write failed before all were written.
-fn write_whole<W: Write>(output: &mut Output<W>, bytes: &[u8]) -> bool
+pub fn write_whole<W: Write>(output: &mut Output<W>, bytes: &[u8]) -> bool
     ensures whole { result ≡ true → WritesWhole W.contents output.old output.new bytes.now }
     ensures cut { result ≡ false → WritesLess W.contents output.old output.new bytes.now }
 {
@@ -205,11 +284,15 @@ enum Outcome {
 }
 
 /// The outcome of the request on all of the input.
-fn respond<R: Read>(alloc: Global, request: Request, input: &mut Input<R>) -> Result<Outcome, Fault>
-    requires { IsFit request }
+fn respond<R: Read>(
+    alloc: Global,
+    request: &Request,
+    input: &mut Input<R>,
+) -> Result<Outcome, Fault>
+    requires { IsFit request.now }
     ensures outcome { IfOk result (λ outcome.
-        IsOutcome request (R.remaining input.old.reader) outcome × IsReadToEnd input.old input.new) }
-    ensures fault { IfErr result (IsNoOutcome request (R.remaining input.old.reader) input.old input.new) }
+        IsOutcome request.now (R.remaining input.old.reader) outcome × IsReadToEnd input.old input.new) }
+    ensures fault { IfErr result (IsNoOutcome request.now (R.remaining input.old.reader) input.old input.new) }
     ensures counted { input.new.reads_left ≤ input.old.reads_left }
 {
     let bytes = read_whole(alloc, input)?;
@@ -247,7 +330,7 @@ fn read_whole<R: Read>(alloc: Global, input: &mut Input<R>) -> Result<Vec<u8>, F
 }
 
 /// The text and a line feed.
-fn line_of(text: String) -> Result<String, AllocError>
+pub fn line_of(text: String) -> Result<String, AllocError>
     ensures { IfOk result (λ whole. string_bytes whole ≡ line (string_bytes text)) }
 {
     let mut whole = text;

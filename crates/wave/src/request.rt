@@ -1,6 +1,6 @@
 // What the arguments after the program's name ask for.
 ghost use Rattle.std.specs.Prelude.{ℕ, [], ◌∷◌, IfOk, IfErr, MatchOption, map, string_bytes};
-ghost use Rattle.wave.specs.Requests.{IsLimitWord, AreWordsOf, AskForType, AreUnknown};
+ghost use Rattle.wave.specs.Requests.{IsLimitWord, AreWordsOf, HaveType, MakeNone, AskFor, AskByLines, AskNoneByLines, AskForType, AreUnknown};
 
 use crate::types::{params_at, type_at};
 use std::alloc::{AllocError, Global};
@@ -21,8 +21,17 @@ pub enum Request {
     Read(Type, u32),
 }
 
+/// What the arguments ask for.
+#[derive(Debug, Drop)]
+pub enum Asked {
+    /// The request, of which the whole input is the text.
+    Whole(Request),
+    /// The request, for which each line of the input is a text.
+    Lines(Request),
+}
+
 /// The limit that the word writes: a decimal number from 1 to `MAX_LEVELS` without a leading zero.
-fn limit_of(word: &str) -> Option<u32>
+pub fn limit_of(word: &str) -> Option<u32>
     ensures { MatchOption result
         ((n : ℕ) → IsLimitWord word.now n → ⊥)
         (IsLimitWord word.now) }
@@ -41,7 +50,7 @@ fn limit_of(word: &str) -> Option<u32>
 /// The request that one word makes.
 fn one_word(word: &str) -> Option<Request>
     ensures { MatchOption result
-        (AreUnknown (word.now ∷ []))
+        (MakeNone (word.now ∷ []))
         (λ request. AreWordsOf request (word.now ∷ [])) }
 {
     match word {
@@ -54,9 +63,9 @@ fn one_word(word: &str) -> Option<Request>
 /// The request that two arguments make. The only error is out of memory.
 fn two_words(alloc: Global, first: &str, second: &str) -> Result<Option<Request>, AllocError>
     ensures made { IfOk result (λ found. MatchOption found
-        (AreUnknown (first.now ∷ second.now ∷ []))
+        (MakeNone (first.now ∷ second.now ∷ []))
         (λ request. AreWordsOf request (first.now ∷ second.now ∷ []))) }
-    ensures memory { IfErr result (λ e. AskForType (first.now ∷ second.now ∷ [])) }
+    ensures memory { IfErr result (λ e. HaveType (first.now ∷ second.now ∷ [])) }
 {
     match first {
         "value" => match limit_of(second) {
@@ -83,9 +92,9 @@ fn three_words(
     third: &str,
 ) -> Result<Option<Request>, AllocError>
     ensures made { IfOk result (λ found. MatchOption found
-        (AreUnknown (first.now ∷ second.now ∷ third.now ∷ []))
+        (MakeNone (first.now ∷ second.now ∷ third.now ∷ []))
         (λ request. AreWordsOf request (first.now ∷ second.now ∷ third.now ∷ []))) }
-    ensures memory { IfErr result (λ e. AskForType (first.now ∷ second.now ∷ third.now ∷ [])) }
+    ensures memory { IfErr result (λ e. HaveType (first.now ∷ second.now ∷ third.now ∷ [])) }
 {
     if first != "read" {
         return Ok(None);
@@ -100,11 +109,11 @@ fn three_words(
 }
 
 /// The request that the arguments make. The only error is out of memory, for the type that they name.
-pub fn request_of(alloc: Global, words: &[String]) -> Result<Option<Request>, AllocError>
+fn request_of(alloc: Global, words: &[String]) -> Result<Option<Request>, AllocError>
     ensures made { IfOk result (λ found. MatchOption found
-        (AreUnknown (map string_bytes words.now))
+        (MakeNone (map string_bytes words.now))
         (λ request. AreWordsOf request (map string_bytes words.now))) }
-    ensures memory { IfErr result (λ e. AskForType (map string_bytes words.now)) }
+    ensures memory { IfErr result (λ e. HaveType (map string_bytes words.now)) }
 {
     match words {
         [word] => Ok(one_word(word.as_str())),
@@ -113,5 +122,38 @@ pub fn request_of(alloc: Global, words: &[String]) -> Result<Option<Request>, Al
             three_words(alloc, first.as_str(), second.as_str(), third.as_str())
         }
         _ => Ok(None),
+    }
+}
+
+/// The request of each line that the arguments make, before a last `--lines`. The only error is out of
+/// memory, for the type that they name.
+fn lines_request(alloc: Global, words: &[String]) -> Result<Option<Request>, AllocError>
+    ensures made { IfOk result (λ found. MatchOption found
+        (AskNoneByLines (map string_bytes words.now))
+        (λ request. AskByLines request (map string_bytes words.now))) }
+    ensures memory { IfErr result (λ e. AskForType (map string_bytes words.now)) }
+{
+    let Some((last, front)) = words.split_last() else {
+        return Ok(None);
+    };
+    if last.as_str() != "--lines" {
+        return Ok(None);
+    }
+    request_of(alloc, front)
+}
+
+/// What the arguments ask for. The only error is out of memory, for the type that they name.
+pub fn asked_by(alloc: Global, words: &[String]) -> Result<Option<Asked>, AllocError>
+    ensures made { IfOk result (λ found. MatchOption found
+        (AreUnknown (map string_bytes words.now))
+        (λ asked. AskFor asked (map string_bytes words.now))) }
+    ensures memory { IfErr result (λ e. AskForType (map string_bytes words.now)) }
+{
+    if let Some(request) = lines_request(alloc, words)? {
+        return Ok(Some(Asked::Lines(request)));
+    }
+    match request_of(alloc, words)? {
+        Some(request) => Ok(Some(Asked::Whole(request))),
+        None => Ok(None),
     }
 }

@@ -63,7 +63,7 @@ fn with_values(alloc: Global, types: &Vec<&Type>) -> Result<Option<Vec<Type>>, A
 }
 
 /// The text for which the word stands: that of a sample's type, or the word itself.
-fn text_of(word: &str) -> &str
+pub fn text_of(word: &str) -> &str
     ensures { result.now ≡ text_of word.now }
 {
     match word {

@@ -1,10 +1,9 @@
-use Rattle.std.proofs.Common.{arith, ◌≡◌, ℕ, List, ap, sym, subst, ◌∙◌, Bor, map, Option}
+use Rattle.std.proofs.Common.{arith, ℕ, List, ap, ◌∙◌, Bor, map, Option}
 use Rattle.wave_wasm.specs.Borrowed.{shown}
-use Rattle.wave_wasm.specs.Types.{TypeTree, maybe_type}
+use Rattle.wave_wasm.specs.Types.{TypeTree}
 use Rattle.wave_wasm.specs.Shared.Types.{depth}
 use Rattle.wave_wasm.proofs.Sequence.{part_depth}
 use Rattle.wave_wasm.proofs.TypeTrees.{record_is, tuple_is, variant_is, field_depth, case_depth}
-use Rattle.wave.specs.Private.Inhabited.{inhabited, payload_inhabited}
 use Rattle.wave.proofs.HavingValue.{record_by, tuple_by, variant_by}
 use Rattle.wave.proofs.inhabited.+values.Goals as goal
 

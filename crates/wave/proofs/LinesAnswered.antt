@@ -1,0 +1,292 @@
+-- What was answered, printed and shown of the lines so far, and how that ends.
+use Rattle.std.proofs.Common.{ℕ, ◌≡◌, ◌≢◌, ◌+◌, ◌*◌, ◌≤◌, ◌⊎◌, Bool, true, false, List, [], ◌∷◌, ◌++◌, length, Option, Some, None, IfSome, refl, sym, ap, subst, ◌∙◌, inl, inr, arith, append_assoc, length-append}
+use Rattle.std.specs.Prelude.{MatchBool, if◌then◌else◌, not, ◌||◌, ◌==◌}
+use Rattle.std.specs.Io.KnownBytes.{IsAtEnd, prepend_known}
+use Rattle.std.specs.Str.Lines.{lines}
+use Rattle.std.proofs.KnownBytes.{Appends-nil, Appends-trans}
+use Rattle.std.proofs.lemmas.List.{append-nil}
+use Rattle.wave.specs.declared.request.Request.{Request}
+use Rattle.wave.specs.declared.input.Input.{Input}
+use Rattle.wave.specs.declared.input.Fault.{Fault}
+use Rattle.wave.specs.declared.input.Fault.TheVariants.{NotUtf8, InputFailed, OutOfMemory}
+use Rattle.wave.specs.declared.lines.Unread.{Unread}
+use Rattle.wave.specs.declared.output.Output.{Output}
+use Rattle.wave.specs.Answers.{words_of_fault}
+use Rattle.wave.specs.ByLines.{IsLineAnswer, AreAnswered, IsStatusOf, AnswersLines}
+use Rattle.wave.specs.Counts.{CountsOne}
+use Rattle.wave.specs.Lines.{line}
+use Rattle.wave.specs.ReadFaults.{IsUnread}
+use Rattle.wave.specs.Written.{WritesWhole, WritesLess, Prints}
+use Rattle.wave.specs.Private.ByLines.{IsNoNextAnswer}
+use Rattle.wave.specs.Private.InputLines.{IsCutOff, IsEndKnown, TakesLine, TakesLines, left, most_lines, unread_bytes}
+
+-- ---- lines
+
+-- the lines of known bytes
+abbrev rest_of : Option (List ℕ) → List (List ℕ)
+rest_of None = []
+rest_of (Some bytes) = lines bytes
+
+takes_more : (a b c : Option (List ℕ)) (texts : List (List ℕ)) (text : List ℕ) → TakesLines a b texts → TakesLine b c text → TakesLines a c (texts ++ text ∷ [])
+takes_more None b c texts text taken next = tt
+takes_more (Some xs) None c texts text taken next = absurd taken
+takes_more (Some xs) (Some ys) None texts text taken next = absurd next
+takes_more (Some xs) (Some ys) (Some zs) texts text taken next = taken ∙ (ap (λ z. texts ++ z) next ∙ sym (append_assoc texts (text ∷ []) (lines zs)))
+
+with_rest : (a b : Option (List ℕ)) (texts : List (List ℕ)) → TakesLines a b texts → IfSome a (λ bytes. lines bytes ≡ texts ++ rest_of b)
+with_rest None b texts taken = tt
+with_rest (Some xs) None texts taken = absurd taken
+with_rest (Some xs) (Some ys) texts taken = taken
+
+with_bad : (a b c : Option (List ℕ)) (texts : List (List ℕ)) (bad : List ℕ) → TakesLines a b texts → TakesLine b c bad → IfSome a (λ bytes. lines bytes ≡ texts ++ bad ∷ rest_of c)
+with_bad None b c texts bad taken next = tt
+with_bad (Some xs) None c texts bad taken next = absurd taken
+with_bad (Some xs) (Some ys) None texts bad taken next = absurd next
+with_bad (Some xs) (Some ys) (Some zs) texts bad taken next = taken ∙ ap (λ z. texts ++ z) next
+
+no_rest : (b : Option (List ℕ)) → IsAtEnd b → rest_of b ≡ []
+no_rest None end = refl
+no_rest (Some ys) end = ap lines end
+
+no_lines : (r : Option (List ℕ)) (unread : List ℕ) → unread ≡ [] → TakesLines r (prepend_known unread r) []
+no_lines None unread none = tt
+no_lines (Some ys) unread none = ap lines (sym (ap (λ z. z ++ ys) none))
+
+-- ---- answers
+
+answered_more : (request : Request) (number : ℕ) (texts : List (List ℕ)) (said shown text answer explained : List ℕ)
+    → AreAnswered request number texts said shown → IsLineAnswer request (number + length texts) text answer explained
+    → AreAnswered request number (texts ++ text ∷ []) (said ++ line answer) (shown ++ explained)
+answered_more request number [] said shown text answer explained (none, nothing) is =
+    let same : number + 0 ≡ number = omega arith in (
+      answer,
+      explained,
+      [],
+      [],
+      subst (λ n. IsLineAnswer request n text answer explained) same is,
+      (refl, refl),
+      ap (λ z. z ++ line answer) none ∙ sym (append-nil (line answer)),
+      ap (λ z. z ++ explained) nothing ∙ sym (append-nil explained),
+    )
+answered_more request number (t ∷ ts) said shown text answer explained (a, e, answers, others, first, more, said_is, shown_is) is =
+    let same : number + length (t ∷ ts) ≡ number + 1 + length ts = omega arith in (
+      a,
+      e,
+      answers ++ line answer,
+      others ++ explained,
+      first,
+      answered_more request (number + 1) ts answers others text answer explained more (subst (λ n. IsLineAnswer request n text answer explained) same is),
+      ap (λ z. z ++ line answer) said_is ∙ append_assoc (line a) answers (line answer),
+      ap (λ z. z ++ explained) shown_is ∙ append_assoc e others explained,
+    )
+
+longer : (x y : List ℕ) → x ≢ [] → x ++ y ≢ []
+longer [] y some is = some refl
+longer (b ∷ x) y some is = cc
+
+-- ---- what was written
+
+module _ {W : Type 0} (contents : W → Option (List ℕ)) where
+  whole_nothing : (a : Output W) → WritesWhole contents a a []
+  whole_nothing a = (Appends-nil (contents a.writer), refl)
+
+  whole_whole : (a b c : Output W) (s t : List ℕ) → WritesWhole contents a b s → WritesWhole contents b c t → WritesWhole contents a c (s ++ t)
+  whole_whole a b c s t (first, well) (later, fine) = (Appends-trans _ _ _ s t first later, fine ∙ well)
+
+  whole_less : (a b c : Output W) (s t : List ℕ) → WritesWhole contents a b s → WritesLess contents b c t → WritesLess contents a c (s ++ t)
+  whole_less a b c s t (first, well) (one, front, rest, is, some, later) =
+      (subst (λ n. CountsOne n c.failures) well one, s ++ front, rest, ap (λ z. s ++ z) is ∙ sym (append_assoc s front rest), some, Appends-trans _ _ _ s front first later)
+
+  less_more : (a b : Output W) (s t : List ℕ) → WritesLess contents a b s → WritesLess contents a b (s ++ t)
+  less_more a b s t (one, front, rest, is, some, wrote) = (one, front, rest ++ t, ap (λ z. z ++ t) is ∙ append_assoc front rest t, longer rest t some, wrote)
+
+  prints_behind : (a b c : Output W) (s t : List ℕ) (result : ℕ) → WritesWhole contents a b s → Prints contents b c t 3 result → Prints contents a c (s ++ t) 3 result
+  prints_behind a b c s t result whole (inl (is, later)) = inl (is, whole_whole a b c s t whole later)
+  prints_behind a b c s t result whole (inr (is, later)) = inr (is, whole_less a b c s t whole later)
+
+  -- the explanations were written while all writes went well
+  told_more : (a b c : Output W) (s t : List ℕ) (was is : Bool) → MatchBool was (WritesWhole contents a b s) (WritesLess contents a b s)
+      → (was ≡ true → is ≡ true → WritesWhole contents b c t) → (was ≡ true → is ≡ false → WritesLess contents b c t) → (was ≡ false → (c ≡ b) × (is ≡ false))
+      → MatchBool is (WritesWhole contents a c (s ++ t)) (WritesLess contents a c (s ++ t))
+  told_more a b c s t true true told whole less none = whole_whole a b c s t told (whole refl refl)
+  told_more a b c s t true false told whole less none = whole_less a b c s t told (less refl refl)
+  told_more a b c s t false true told whole less none = let h = none refl in absurd (cc (h.1))
+  told_more a b c s t false false told whole less none = let h = none refl in subst (λ z. WritesLess contents a z (s ++ t)) (sym h.0) (less_more a b s t told)
+
+  either_told : (a b : Output W) (s : List ℕ) (is : Bool) → MatchBool is (WritesWhole contents a b s) (WritesLess contents a b s) → WritesWhole contents a b s ⊎ WritesLess contents a b s
+  either_told a b s true told = inl told
+  either_told a b s false told = inr told
+
+-- whether anything is shown
+refused_more : (s t : List ℕ) (was empty : Bool) → MatchBool was (s ≢ []) (s ≡ []) → MatchBool empty (t ≡ []) (t ≢ []) → MatchBool (was || not empty) (s ++ t ≢ []) (s ++ t ≡ [])
+refused_more s t true empty old new = longer s t old
+refused_more s t false true old new = ap (λ z. z ++ t) old ∙ new
+refused_more s t false false old new = λ is. new (ap (λ z. z ++ t) (sym old) ∙ is)
+
+status_of : (shown : List ℕ) (refused : Bool) (status : ℕ) → MatchBool refused (shown ≢ []) (shown ≡ []) → status ≡ (if refused then 1 else 0) → IsStatusOf shown status
+status_of shown true status is e = inr (e, is)
+status_of shown false status is e = inl (e, is)
+
+cut_from : {R : Type 0} (rest : List (List ℕ)) (first now new : Input R) → now.failures ≡ first.failures → IsCutOff now new InputFailed → IsUnread first new
+cut_from rest first now new well (inl (one, goes_on)) = inl (subst (λ n. CountsOne n new.failures) well one, goes_on)
+cut_from rest first now new well (inr (none, goes_on, fine)) = inr (inl (none, goes_on, fine ∙ well))
+
+-- what is empty has no bytes
+pub emptiness : (t : List ℕ) (empty : Bool) → empty ≡ (length t == 0) → MatchBool empty (t ≡ []) (t ≢ [])
+emptiness [] true e = refl
+emptiness [] false e = absurd (cc e)
+emptiness (b ∷ t) true e = absurd (grind arith)
+emptiness (b ∷ t) false e = λ is. cc
+
+-- ---- the loop over the lines
+
+module _ {R W E : Type 0} (remaining : R → Option (List ℕ)) (contents : W → Option (List ℕ)) (held : E → Option (List ℕ)) where
+  -- the first lines were answered, the next has this number, and as many as the input has bytes can come
+  pub record AreAnsweredSoFar (request : Request) (first now : Input R) (unread : Unread) (before after : Output W) (errors_before errors_after : Output E) (number : ℕ) (is_refused is_shown : Bool) : Type 0 where
+    pub texts : List (List ℕ)
+    pub said : List ℕ
+    pub shown : List ℕ
+    pub taken : TakesLines (remaining first.reader) (left remaining now unread) texts
+    pub answered : AreAnswered request 1 texts said shown
+    pub printed : WritesWhole contents before after said
+    pub told : MatchBool is_shown (WritesWhole held errors_before errors_after shown) (WritesLess held errors_before errors_after shown)
+    pub refused : MatchBool is_refused (shown ≢ []) (shown ≡ [])
+    pub number_is : number ≡ 1 + length texts
+    pub fewer : number + most_lines now unread ≤ first.reads_left * 65537 + 1
+    pub known : IsEndKnown remaining now
+    pub well : now.failures ≡ first.failures
+    pub counted : now.reads_left ≤ first.reads_left
+
+  -- nothing was read
+  pub at_start : (request : Request) (first : Input R) (unread : Unread) (before : Output W) (errors : Output E) → unread_bytes unread ≡ [] → first.has_ended ≡ false
+      → AreAnsweredSoFar request first first unread before before errors errors 1 false true
+  at_start request first unread before errors none goes_on = record {
+    texts = [];
+    said = [];
+    shown = [];
+    taken = no_lines (remaining first.reader) (unread_bytes unread) none;
+    answered = (refl, refl);
+    printed = whole_nothing contents before;
+    told = whole_nothing held errors;
+    refused = refl;
+    number_is = refl;
+    fewer = omega (arith, ap length none);
+    known = λ ended. absurd (cc (goes_on, ended));
+    well = refl;
+    counted = omega arith;
+  }
+
+  -- the input had ended before
+  pub had_ended : (request : Request) (first : Input R) (before after : Output W) (errors : Output E) (result : ℕ) → first.has_ended ≡ true → Prints contents before after (line (words_of_fault InputFailed)) 3 result
+      → AnswersLines contents held request (remaining first.reader) first first before after errors errors result
+  had_ended request first before after errors result ended prints = record {
+    texts = [];
+    rest = rest_of (remaining first.reader);
+    said = [];
+    shown = [];
+    are_lines = with_rest (remaining first.reader) (remaining first.reader) [] (nothing (remaining first.reader));
+    answered = (refl, refl);
+    ended = inr (inl (InputFailed, inr (inr (ended, refl)), prints));
+    told = inl (whole_nothing held errors);
+  } where
+    nothing : (r : Option (List ℕ)) → TakesLines r r []
+    nothing None = tt
+    nothing (Some ys) = refl
+
+  module _ (request : Request) (first now : Input R) (unread : Unread) (before after : Output W) (errors_before errors_after : Output E) (number : ℕ) (is_refused is_shown : Bool)
+      (g : AreAnsweredSoFar request first now unread before after errors_before errors_after number is_refused is_shown) where
+    -- the input has no more lines
+    pub all_answered : (new : Input R) (status : ℕ) → first.has_ended ≡ false → IsAtEnd (left remaining now unread) → new.has_ended ≡ true → new.failures ≡ now.failures → status ≡ (if is_refused then 1 else 0)
+        → AnswersLines contents held request (remaining first.reader) first new before after errors_before errors_after status
+    all_answered new status goes_on end ended fine is = record {
+      texts = g.texts;
+      rest = rest_of (left remaining now unread);
+      said = g.said;
+      shown = g.shown;
+      are_lines = with_rest _ _ g.texts g.taken;
+      answered = g.answered;
+      ended = inl (no_rest (left remaining now unread) end, (goes_on, ended, fine ∙ g.well), status_of g.shown is_refused status g.refused is, g.printed);
+      told = either_told held errors_before errors_after g.shown is_shown g.told;
+    }
+
+    -- the next line is not answered
+    pub cut_off : (new : Input R) (more : Unread) (later : Output W) (fault : Fault) (result : ℕ) → IsNoNextAnswer (left remaining now unread) (left remaining new more) now new fault
+        → Prints contents after later (line (words_of_fault fault)) 3 result
+        → AnswersLines contents held request (remaining first.reader) first new before later errors_before errors_after result
+    cut_off new more later NotUtf8 result (bad, next, wrong, fine) prints = record {
+      texts = g.texts;
+      rest = bad ∷ rest_of (left remaining new more);
+      said = g.said;
+      shown = g.shown;
+      are_lines = with_bad _ _ _ g.texts bad g.taken next;
+      answered = g.answered;
+      ended = inr (inl (NotUtf8, (bad, rest_of (left remaining new more), refl, wrong, fine ∙ g.well), prints_behind contents before after later g.said _ result g.printed prints));
+      told = either_told held errors_before errors_after g.shown is_shown g.told;
+    }
+    cut_off new more later InputFailed result cut prints = record {
+      texts = g.texts;
+      rest = rest_of (left remaining now unread);
+      said = g.said;
+      shown = g.shown;
+      are_lines = with_rest _ _ g.texts g.taken;
+      answered = g.answered;
+      ended = inr (inl (InputFailed, cut_from (rest_of (left remaining now unread)) first now new g.well cut, prints_behind contents before after later g.said _ result g.printed prints));
+      told = either_told held errors_before errors_after g.shown is_shown g.told;
+    }
+    cut_off new more later OutOfMemory result fine prints = record {
+      texts = g.texts;
+      rest = rest_of (left remaining now unread);
+      said = g.said;
+      shown = g.shown;
+      are_lines = with_rest _ _ g.texts g.taken;
+      answered = g.answered;
+      ended = inr (inl (OutOfMemory, fine ∙ g.well, prints_behind contents before after later g.said _ result g.printed prints));
+      told = either_told held errors_before errors_after g.shown is_shown g.told;
+    }
+
+    module _ (new : Input R) (more : Unread) (text answer explained printed : List ℕ) (next : TakesLine (left remaining now unread) (left remaining new more) text) (is : IsLineAnswer request number text answer explained)
+        (printed_is : printed ≡ line answer) (errors_then : Output E) (shows : Bool)
+        (whole : is_shown ≡ true → shows ≡ true → WritesWhole held errors_after errors_then explained) (less : is_shown ≡ true → shows ≡ false → WritesLess held errors_after errors_then explained)
+        (none : is_shown ≡ false → (errors_then ≡ errors_after) × (shows ≡ false)) where
+      told_then : MatchBool shows (WritesWhole held errors_before errors_then (g.shown ++ explained)) (WritesLess held errors_before errors_then (g.shown ++ explained))
+      told_then = told_more held errors_before errors_after errors_then g.shown explained is_shown shows g.told whole less none
+
+      answered_then : AreAnswered request 1 (g.texts ++ text ∷ []) (g.said ++ line answer) (g.shown ++ explained)
+      answered_then = answered_more request 1 g.texts g.said g.shown text answer explained g.answered (subst (λ n. IsLineAnswer request n text answer explained) g.number_is is)
+
+      -- the next line was answered
+      pub one_answered : (later : Output W) (empty : Bool) → WritesWhole contents after later printed → MatchBool empty (explained ≡ []) (explained ≢ [])
+          → most_lines new more + 1 ≤ most_lines now unread → IsEndKnown remaining new → new.failures ≡ now.failures → new.reads_left ≤ now.reads_left
+          → AreAnsweredSoFar request first new more before later errors_before errors_then (number + 1) (is_refused || not empty) shows
+      one_answered later empty wrote emptiness progress known fine fewer_reads =
+          let old = g.fewer in
+          let numbered = g.number_is in
+          let reads = g.counted in
+          record {
+            texts = g.texts ++ text ∷ [];
+            said = g.said ++ line answer;
+            shown = g.shown ++ explained;
+            taken = takes_more _ _ _ g.texts text g.taken next;
+            answered = answered_then;
+            printed = whole_whole contents before after later g.said (line answer) g.printed (subst (WritesWhole contents after later) printed_is wrote);
+            told = told_then;
+            refused = refused_more g.shown explained is_refused empty g.refused emptiness;
+            number_is = omega (arith, numbered, length-append g.texts (text ∷ []));
+            fewer = omega (arith, old, progress);
+            known = known;
+            well = fine ∙ g.well;
+            counted = omega (arith, reads, fewer_reads);
+          }
+
+      -- its answer was not written whole
+      pub cut_short : (later : Output W) → WritesLess contents after later printed → AnswersLines contents held request (remaining first.reader) first new before later errors_before errors_then 3
+      cut_short later wrote = record {
+        texts = g.texts ++ text ∷ [];
+        rest = rest_of (left remaining new more);
+        said = g.said ++ line answer;
+        shown = g.shown ++ explained;
+        are_lines = with_rest _ _ (g.texts ++ text ∷ []) (takes_more _ _ _ g.texts text g.taken next);
+        answered = answered_then;
+        ended = inr (inr (refl, whole_less contents before after later g.said (line answer) g.printed (subst (WritesLess contents after later) printed_is wrote)));
+        told = either_told held errors_before errors_then (g.shown ++ explained) shows told_then;
+      }

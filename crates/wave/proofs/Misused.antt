@@ -1,0 +1,146 @@
+-- What is said of arguments that ask for nothing, by how many there are.
+use Rattle.std.proofs.Common.{ℕ, suc, zero, ◌≡◌, ◌≢◌, ◌≤◌, ◌<◌, ◌⊎◌, ◌∙◌, List, [], ◌∷◌, ◌++◌, String, Global, Result, Ok, Err, IfOk, Option, Some, None, MatchOption, string_bytes, map, get_or, length, refl, inl, inr, sym, ap, subst, arith, codes}
+use Rattle.std.specs.declared.vec.Vec.{Vec}
+use Rattle.wave_wasm.specs.Types.{TypeTree}
+use Rattle.wave.specs.declared.request.Request.TheVariants.{Value, Call, CallAt, Read}
+use Rattle.wave.specs.declared.request.Asked.TheVariants.{Whole, Lines}
+use Rattle.wave.specs.Lines.{line}
+use Rattle.wave.specs.Misuse.{IsCommand, IsQuoted, IsMisuse, IsExplainedMisuse, IsTypeExplained, IsBadType, IsBadFunc}
+use Rattle.wave_type.specs.FunctionSpelling.{IsFunctionOf, levels_of_function}
+use Rattle.wave_type.specs.FunctionType.{FunctionType, types_of}
+use Rattle.wave_type.specs.TypeErrors.{TypeRefusal, type_error_text}
+use Rattle.wave_type.specs.TypeItems.{IsTypeFault}
+use Rattle.wave_type.specs.declared.error.TypeErrorKind.TheVariants as kind
+use Rattle.wave_type.specs.TypeSpelling.{IsTypeOf, IsNoType, levels_of}
+use Rattle.wasm_wave.specs.Places.{IsExplained}
+use Rattle.wave.specs.Requests.{IsLimitWord, MakeNone, AreUnknown}
+use Rattle.wave.specs.Types.{text_of, NamesType, NamesParams}
+
+-- the text at a place
+pub text_at : (words : List (String Global)) (i : ℕ) (x : String Global) (t : List ℕ) → i < length words → x ≡ get_or words i x → t ≡ string_bytes x → get_or (map string_bytes words) i [] ≡ t
+text_at [] i x t less is same = absurd (omega (arith, less))
+text_at (w ∷ words) zero x t less is same = ap string_bytes (sym is) ∙ sym same
+text_at (w ∷ words) (suc i) x t less is same = text_at words i x t (omega (arith, less)) is same
+
+-- there are as many texts
+pub length_texts : (words : List (String Global)) → length (map string_bytes words) ≡ length words
+length_texts [] = refl
+length_texts (w ∷ words) = ap suc (length_texts words)
+
+-- no arguments
+pub no_texts : (words : List (String Global)) → length words < 1 → map string_bytes words ≡ []
+no_texts [] less = refl
+no_texts (w ∷ words) less = absurd (omega (arith, less))
+
+-- `value` and `call` alone are requests
+pub value_alone : (rest : List (List ℕ)) → rest ≡ [] → MakeNone (codes "value" ∷ rest) → ⊥
+value_alone rest none unknown = unknown (Value 100) (inl (ap (λ r. codes "value" ∷ r) none, refl))
+
+pub call_alone : (rest : List (List ℕ)) → rest ≡ [] → MakeNone (codes "call" ∷ rest) → ⊥
+call_alone rest none unknown = unknown Call (ap (λ r. codes "call" ∷ r) none)
+
+-- an argument behind all that a command takes
+pub too_many_said : {E : Type 0} (r : Result (String Global) E) (word : List ℕ) (rest : List (List ℕ)) (most : ℕ) (extra : List ℕ) → IsCommand word most → most < length (word ∷ rest) → get_or (word ∷ rest) most [] ≡ extra
+    → IfOk r (λ why. (quoted : List ℕ) × IsQuoted extra quoted × (string_bytes why ≡ codes "an argument too many: " ++ line quoted))
+    → IfOk r (λ why. IsMisuse (word ∷ rest) (string_bytes why))
+too_many_said (Err e) word rest most extra command many is told = tt
+too_many_said (Ok why) word rest most extra command many is (quoted, quotes, said) =
+    inr (inr (inl (word, rest, most, quoted, refl, command, many, subst (λ t. IsQuoted t quoted) (sym is) quotes, said)))
+
+-- a word that is no limit behind `value`
+pub value_limit_said : {E : Type 0} (r : Result (String Global) E) (rest : List (List ℕ)) (word : List ℕ) → rest ≡ word ∷ [] → MakeNone (codes "value" ∷ rest)
+    → IfOk r (λ why. (quoted : List ℕ) × IsQuoted word quoted × (string_bytes why ≡ quoted ++ line (codes " is no number of levels: N is a whole number from 1 to 1000")))
+    → IfOk r (λ why. IsMisuse (codes "value" ∷ rest) (string_bytes why))
+value_limit_said (Err e) rest word is unknown told = tt
+value_limit_said (Ok why) rest word is unknown (quoted, quotes, said) =
+    inr (inr (inr (inr (inl (
+      codes "value" ∷ [],
+      word,
+      quoted,
+      ap (λ r. codes "value" ∷ r) is,
+      inl refl,
+      λ n limit. unknown (Value n) (inr (word, ap (λ r. codes "value" ∷ r) is, limit)),
+      quotes,
+      said,
+    )))))
+
+-- and behind `read` and a type
+pub read_limit_said : {E : Type 0} (r : Result (String Global) E) (rest : List (List ℕ)) (type word : List ℕ) → rest ≡ type ∷ word ∷ [] → ((n : ℕ) → IsLimitWord word n → ⊥)
+    → IfOk r (λ why. (quoted : List ℕ) × IsQuoted word quoted × (string_bytes why ≡ quoted ++ line (codes " is no number of levels: N is a whole number from 1 to 1000")))
+    → IfOk r (λ why. IsMisuse (codes "read" ∷ rest) (string_bytes why))
+read_limit_said (Err e) rest type word is none told = tt
+read_limit_said (Ok why) rest type word is none (quoted, quotes, said) =
+    inr (inr (inr (inr (inl (codes "read" ∷ type ∷ [], word, quoted, ap (λ r. codes "read" ∷ r) is, inr (type, refl), none, quotes, said)))))
+
+-- no type behind `read`
+pub type_said : {E : Type 0} (r : Result (String Global) E) (rest more : List (List ℕ)) (word : List ℕ) → rest ≡ word ∷ more → IfOk r (λ why. IsBadType word (string_bytes why)) → IfOk r (λ why. IsMisuse (codes "read" ∷ rest) (string_bytes why))
+type_said (Err e) rest more word is told = tt
+type_said (Ok why) rest more word is told = inr (inr (inr (inr (inr (inl (word, more, ap (λ r. codes "read" ∷ r) is, told))))))
+
+-- no type of a function behind `call`
+pub func_said : {E : Type 0} (r : Result (String Global) E) (rest : List (List ℕ)) (word : List ℕ) → rest ≡ word ∷ [] → IfOk r (λ why. IsBadFunc word (string_bytes why)) → IfOk r (λ why. IsMisuse (codes "call" ∷ rest) (string_bytes why))
+func_said (Err e) rest word is told = tt
+func_said (Ok why) rest word is told = inr (inr (inr (inr (inr (inr (inl (word, ap (λ r. codes "call" ∷ r) is, told)))))))
+
+-- what `call` or `read` takes is none, where no request is made
+pub none_called : (rest : List (List ℕ)) (word : List ℕ) → rest ≡ word ∷ [] → MakeNone (codes "call" ∷ rest) → (types : Vec TypeTree Global) → NamesParams word types.items → ⊥
+none_called rest word is unknown types names = unknown (CallAt types) (word, ap (λ r. codes "call" ∷ r) is, names)
+
+pub none_read : (rest : List (List ℕ)) (word : List ℕ) → rest ≡ word ∷ [] → MakeNone (codes "read" ∷ rest) → (T : TypeTree) → NamesType word T → ⊥
+none_read rest word is unknown T names = unknown (Read T 100) (word, inl (ap (λ r. codes "read" ∷ r) is, refl), names)
+
+pub none_read_within : (rest : List (List ℕ)) (word limit : List ℕ) (n : ℕ) → rest ≡ word ∷ limit ∷ [] → IsLimitWord limit n → MakeNone (codes "read" ∷ rest) → (T : TypeTree) → NamesType word T → ⊥
+none_read_within rest word limit n is within unknown T names = unknown (Read T n) (word, inr (limit, ap (λ r. codes "read" ∷ r) is, within), names)
+
+-- what is said of arguments is said of the same ones
+pub said_of : {E : Type 0} (r : Result (String Global) E) (words others : List (List ℕ)) → others ≡ words → IfOk r (λ why. IsMisuse others (string_bytes why)) → IfOk r (λ why. IsMisuse words (string_bytes why))
+said_of r words others is told = subst (λ ws. IfOk r (λ why. IsMisuse ws (string_bytes why))) is told
+
+-- the texts of the first argument and of the others
+pub texts_first : (words rest : List (String Global)) (first : String Global) (t word : List ℕ) → words ≡ first ∷ rest → t ≡ string_bytes first → t ≡ word → word ∷ map string_bytes rest ≡ map string_bytes words
+texts_first words rest first t word is same named = ap (λ z. z ∷ map string_bytes rest) (sym named ∙ same) ∙ ap (map string_bytes) (sym is)
+
+-- arguments that are these make no request either
+pub none_first : (words others : List (List ℕ)) → others ≡ words → MakeNone words → MakeNone others
+none_first words others is = subst MakeNone (sym is)
+
+-- what is said where help is
+pub helped : {E : Type 0} (r : Result (String Global) E) (words front : List (List ℕ)) (why : List ℕ) → (words ≡ front) ⊎ (words ≡ front ++ codes "--lines" ∷ []) → IsMisuse front why
+    → IfOk r (λ whole. string_bytes whole ≡ why ++ line (codes "wave --help has the arguments")) → IfOk r (λ text. IsExplainedMisuse words (string_bytes text))
+helped (Err e) words front why of wrong is = tt
+helped (Ok whole) words front why of wrong is = (front, why, of, wrong, is)
+
+-- arguments that ask for nothing make no request, nor do those before a last `--lines`
+pub none_whole : (words : List (List ℕ)) → AreUnknown words → MakeNone words
+none_whole words unknown request asked = unknown (Whole request) asked
+
+pub none_before : (words front : List (List ℕ)) → words ≡ front ++ codes "--lines" ∷ [] → AreUnknown words → MakeNone front
+none_before words front is unknown request asked = unknown (Lines request) (front, is, asked)
+
+-- a type without a value
+pub valueless_said : {E : Type 0} (r : Result (String Global) E) (word text : List ℕ) (T : TypeTree) → text ≡ text_of word → IsTypeOf text T → levels_of T ≤ 100 → ((U : TypeTree) → NamesType word U → ⊥)
+    → IfOk r (λ why. string_bytes why ≡ line (codes "argument 2 is a type without a value: f32 and f64 have none here, nor has what needs one of them")) → IfOk r (λ why. IsBadType word (string_bytes why))
+valueless_said (Err e) word text T is spells levels none said = tt
+valueless_said (Ok why) word text T is spells levels none said =
+    let spelled = subst (λ s. IsTypeOf s T) is spells in
+    inr (T, spelled, (λ has. none T (spelled, levels, has)), said)
+
+-- no type
+pub type_refused_said : {E : Type 0} (r : Result (String Global) E) (word text : List ℕ) (e : TypeRefusal) (shown : List ℕ) → text ≡ text_of word → e.kind ≢ kind.OutOfMemory → IsNoType text e.kind → IsTypeFault text e
+    → IsExplained text (type_error_text e) e.span shown → IfOk r (λ why. string_bytes why ≡ codes "argument 2 is no type:\n" ++ shown) → IfOk r (λ why. IsBadType word (string_bytes why))
+type_refused_said (Err x) word text e shown is other none fault explained said = tt
+type_refused_said (Ok why) word text e shown is other none fault explained said = inl (shown, subst (λ s. IsTypeExplained s shown) is (e, other, none, fault, explained), said)
+
+-- a parameter whose type is without a value
+pub valueless_param_said : {E : Type 0} (r : Result (String Global) E) (word : List ℕ) (f : FunctionType) → IsFunctionOf word f → levels_of_function f ≤ 100 → ((Ts : List TypeTree) → NamesParams word Ts → ⊥)
+    → IfOk r (λ why. string_bytes why ≡ line (codes "argument 2 has a parameter of a type without a value: f32 and f64 have none here, nor has what needs one of them")) → IfOk r (λ why. IsBadFunc word (string_bytes why))
+valueless_param_said (Err e) word f spells levels none said = tt
+valueless_param_said (Ok why) word f spells levels none said = inr (f, spells, (λ all. none (types_of f.params) (f, spells, levels, refl, all)), said)
+
+-- whether the word is the type of a function with values was tested
+module _ (found : Option (Vec TypeTree Global)) (word : List ℕ) (tested : MatchOption found ((Ts : List TypeTree) → NamesParams word Ts → ⊥) (λ types. NamesParams word types.items)) where
+  pub none_named : (other : List ℕ) → found ≡ None → other ≡ word → (Ts : List TypeTree) → NamesParams other Ts → ⊥
+  none_named other is same Ts names = subst (λ f. MatchOption f ((Us : List TypeTree) → NamesParams word Us → ⊥) (λ types. NamesParams word types.items)) is tested Ts (subst (λ w. NamesParams w Ts) same names)
+
+  pub some_named : (types : Vec TypeTree Global) (rest : List (List ℕ)) → found ≡ Some types → rest ≡ word ∷ [] → MakeNone (codes "call" ∷ rest) → ⊥
+  some_named types rest is alone unknown = none_called rest word alone unknown types (subst (λ f. MatchOption f ((Us : List TypeTree) → NamesParams word Us → ⊥) (λ types. NamesParams word types.items)) is tested)

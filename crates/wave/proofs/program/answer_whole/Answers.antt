@@ -1,0 +1,21 @@
+use Rattle.std.proofs.Common.{◌≡◌, refl, inl, subst, ◌∙◌}
+use Rattle.wave.specs.Explained.{ShowsRefusal}
+use Rattle.wave.specs.Private.Answers.{IsOutcome}
+use Rattle.wave.proofs.Told.{told, shown, printed_so}
+use Rattle.wave.proofs.program.answer_whole.Goals as goal
+
+pub returns-in-Ok-Answered-clause-printed : goal.returns-in-Ok-Answered-clause-printed
+returns-in-Ok-Answered-clause-printed g c =
+    let (text, answer, input, answers, is) = subst (IsOutcome _ _) c.in-Ok-Answered.field-0-is c.in-Ok-Answered.ensures.outcome.0 in
+    (_, _, inl (refl, (text, answer, input, answers, c.as_str.ensures.value ∙ is), c.in-Ok-Answered.ensures.outcome.1), printed_so g.W.Write.contents c.args.output.now c.print.new.output _ _ _ _ c.at.ensures.status c.print.ensures)
+
+pub returns-in-Ok-Refused-clause-printed : goal.returns-in-Ok-Refused-clause-printed
+returns-in-Ok-Refused-clause-printed g c =
+    let h = subst (IsOutcome _ _) c.in-Ok-Refused.field-0-is c.in-Ok-Refused.ensures.outcome.0 in
+    told g.W.Write.contents _ _ _ _ _ _ _ _ _ c.in-Ok-Refused.ensures.outcome.1 h.0 h.1 c.refuse.ensures.told
+
+pub returns-in-Ok-Refused-clause-shown : goal.returns-in-Ok-Refused-clause-shown
+returns-in-Ok-Refused-clause-shown g c =
+    let h = subst (IsOutcome _ _) c.in-Ok-Refused.field-0-is c.in-Ok-Refused.ensures.outcome.0 in
+    shown g.W.Write.contents g.E.Write.contents c.args.request.now _ _ _ _ _ _ _ _ _ h.0 h.1 c.refuse.ensures.told
+    (subst (λ whole. c.refuse.result.status ≡ 1 → ShowsRefusal g.E.Write.contents c.args.request.now c.args.errors.now c.refuse.new.errors whole c.in-Ok-Refused.refusal c.refuse.result.shown) c.as_str-in-Ok-Refused.ensures.value c.refuse.ensures.shown)

@@ -1,0 +1,88 @@
+-- What is answered where each line of the input is a text of its own.
+use Rattle.std.specs.Prelude.{ℕ, ◌≡◌, ◌≢◌, ◌+◌, ◌⊎◌, List, [], ◌∷◌, ◌++◌, None, Ok, IfSome, IsUtf8, codes}
+use Rattle.std.specs.Fmt.{decimal}
+use Rattle.std.specs.Str.Lines.{lines}
+use Rattle.std.specs.declared.option.Option.{Option}
+use Rattle.wave_lex.specs.Errors.{Diagnostic}
+use Rattle.wave_grammar.specs.ParserPosition.{Place, TakesItem, TakesAny}
+use Rattle.wave_tree.specs.ParserState.{start_of}
+use Rattle.wave.specs.declared.request.Request.{Request}
+use Rattle.wave.specs.declared.request.Asked.TheVariants.{Lines}
+use Rattle.wave.specs.declared.input.Input.{Input}
+use Rattle.wave.specs.declared.input.Fault.{Fault}
+use Rattle.wave.specs.declared.input.Fault.TheVariants.{NotUtf8, InputFailed, OutOfMemory}
+use Rattle.wave.specs.declared.output.Output.{Output}
+use Rattle.wave.specs.declared.program.Ended.{Ended}
+use Rattle.wave.specs.Answers.{Answers, IsRefused, words_of_fault}
+use Rattle.wave.specs.Explained.{Explains}
+use Rattle.wave.specs.Lines.{line}
+use Rattle.wave.specs.ReadFaults.{IsReadToEnd, IsUnread}
+use Rattle.wave.specs.Requests.{AskFor}
+use Rattle.wave.specs.Written.{WritesWhole, WritesLess, Prints}
+
+-- nothing stands in the text but whitespace and comments
+abbrev pub IsBlank : List ℕ → Type 0
+IsBlank text = (behind : Place) × TakesItem (start_of text) None behind
+
+-- something else stands in it, a token or what is none
+abbrev pub HasItem : List ℕ → Type 0
+HasItem text = (behind : Place) × TakesAny (start_of text) behind
+
+-- what is shown of the refusal of the line of this number: the number, and what explains the refusal
+abbrev pub IsLineExplained : Request → ℕ → List ℕ → Diagnostic → List ℕ → Type 0
+IsLineExplained request number text refusal shown =
+    (explained : List ℕ) × Explains request text refusal explained × (shown ≡ codes "input line " ++ (decimal number ++ (codes ":\n" ++ explained)))
+
+-- what is printed of the line of this number, and what is shown of it: of a blank line nothing; the request's answer; or
+-- of a line on which it has none, the refusal that says so is shown
+abbrev pub IsLineAnswer : Request → ℕ → List ℕ → List ℕ → List ℕ → Type 0
+IsLineAnswer request number text said shown = IsUtf8 text × (
+    IsBlank text × (said ≡ []) × (shown ≡ [])
+    ⊎ Answers request text said × (shown ≡ [])
+    ⊎ ((refusal : Diagnostic) × HasItem text × IsRefused request text refusal × (said ≡ []) × IsLineExplained request number text refusal shown))
+
+-- so of each of these lines, of which the first has this number: a line is printed for each, in their order
+abbrev pub AreAnswered : Request → ℕ → List (List ℕ) → List ℕ → List ℕ → Type 0
+AreAnswered request number [] said shown = (said ≡ []) × (shown ≡ [])
+AreAnswered request number (text ∷ texts) said shown =
+    (answer : List ℕ) × (explained : List ℕ) × (answers : List ℕ) × (others : List ℕ)
+    × IsLineAnswer request number text answer explained × AreAnswered request (number + 1) texts answers others
+    × (said ≡ line answer ++ answers) × (shown ≡ explained ++ others)
+
+-- the status where all lines were answered: 1 where a refusal is shown
+abbrev pub IsStatusOf : List ℕ → ℕ → Type 0
+IsStatusOf shown status = (status ≡ 0) × (shown ≡ []) ⊎ (status ≡ 1) × (shown ≢ [])
+
+module _ {R : Type 0} where
+  -- why these lines aren't answered: the first is no text; the input was not read to its end; or there was no memory, and no read failed
+  abbrev pub IsLineFault : List (List ℕ) → Input R → Input R → Fault → Type 0
+  IsLineFault rest old new NotUtf8 = (bad : List ℕ) × (more : List (List ℕ)) × (rest ≡ bad ∷ more) × (IsUtf8 bad → ⊥) × (new.failures ≡ old.failures)
+  IsLineFault rest old new InputFailed = IsUnread old new
+  IsLineFault rest old new OutOfMemory = new.failures ≡ old.failures
+
+module _ {R W E : Type 0} (contents : W → Option (List ℕ)) (held : E → Option (List ℕ)) where
+  -- what was printed: the answers of all lines, and the status is theirs; or those before the lines that a fault keeps from being
+  -- answered, and its words, at status 3; or a beginning of the answers, as a write failed
+  abbrev pub EndsBefore : List (List ℕ) → Input R → Input R → Output W → Output W → List ℕ → List ℕ → ℕ → Type 0
+  EndsBefore rest old new before after said shown status =
+      (rest ≡ []) × IsReadToEnd old new × IsStatusOf shown status × WritesWhole contents before after said
+      ⊎ ((fault : Fault) × IsLineFault rest old new fault × Prints contents before after (said ++ line (words_of_fault fault)) 3 status)
+      ⊎ (status ≡ 3) × WritesLess contents before after said
+
+  -- the first lines of what the reader had left were answered, all unless a fault or a failed write ended it, and what explains refusals
+  -- was written too, or a beginning of it where a write there failed
+  pub record AnswersLines (request : Request) (left : Option (List ℕ)) (old new : Input R) (before after : Output W) (errors_before errors_after : Output E) (status : ℕ) : Type 0 where
+    pub texts : List (List ℕ)
+    pub rest : List (List ℕ)
+    pub said : List ℕ
+    pub shown : List ℕ
+    pub are_lines : IfSome left (λ bytes. lines bytes ≡ texts ++ rest)
+    pub answered : AreAnswered request 1 texts said shown
+    pub ended : EndsBefore rest old new before after said shown status
+    pub told : WritesWhole held errors_before errors_after shown ⊎ WritesLess held errors_before errors_after shown
+
+  -- the arguments ask for a request on each line, which was answered so
+  abbrev pub RunsByLines : List (List ℕ) → Option (List ℕ) → Input R → Input R → Output W → Output W → Output E → Output E → Ended → Type 0
+  RunsByLines words left old new before after errors_before errors_after ended =
+      (request : Request) × AskFor (Lines request) words
+      × AnswersLines request left old new before after errors_before errors_after ended.status × (ended.shown ≡ Ok tt)

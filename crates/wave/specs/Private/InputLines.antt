@@ -1,0 +1,53 @@
+-- The lines of an input that is read chunk by chunk.
+use Rattle.std.specs.Prelude.{ℕ, ◌≡◌, ◌+◌, ◌*◌, ◌⊎◌, ◌==◌, true, false, List, ◌∷◌, ◌++◌, length, slice_range, ⊤, Some, None}
+use Rattle.std.specs.declared.option.Option.{Option}
+use Rattle.std.specs.Io.KnownBytes.{IsAtEnd, prepend_known}
+use Rattle.std.specs.List.{All}
+use Rattle.std.specs.Str.Lines.{lines}
+use Rattle.wave.specs.Counts.{CountsOne}
+use Rattle.wave.specs.declared.input.Fault.{Fault}
+use Rattle.wave.specs.declared.input.Fault.TheVariants.{NotUtf8, InputFailed, OutOfMemory}
+use Rattle.wave.specs.declared.input.Input.{Input}
+use Rattle.wave.specs.declared.lines.Unread.{Unread}
+
+-- the known bytes begin with this line and its end, and lose them
+abbrev pub TakesLine : Option (List ℕ) → Option (List ℕ) → List ℕ → Type 0
+TakesLine None new text = ⊤
+TakesLine (Some xs) None text = ⊥
+TakesLine (Some xs) (Some ys) text = lines xs ≡ text ∷ lines ys
+
+-- the known bytes begin with these lines, and lose them
+abbrev pub TakesLines : Option (List ℕ) → Option (List ℕ) → List (List ℕ) → Type 0
+TakesLines None new texts = ⊤
+TakesLines (Some xs) None texts = ⊥
+TakesLines (Some xs) (Some ys) texts = lines xs ≡ texts ++ lines ys
+
+-- no byte is a line feed
+abbrev pub IsInOneLine : List ℕ → Type 0
+IsInOneLine bytes = All (λ b. (b == 10) ≡ false) bytes
+
+-- the bytes that were read and not taken yet
+abbrev pub unread_bytes : Unread → List ℕ
+unread_bytes u = slice_range u.chunk u.start u.end
+
+module _ {R : Type 0} where
+  -- the last read failed, or no call of the reader is left, which did not report its end; or there was no memory, and no read failed
+  abbrev pub IsCutOff : Input R → Input R → Fault → Type 0
+  IsCutOff old new NotUtf8 = ⊥
+  IsCutOff old new InputFailed =
+      CountsOne old.failures new.failures × (new.has_ended ≡ false)
+      ⊎ (new.reads_left ≡ 0) × (new.has_ended ≡ false) × (new.failures ≡ old.failures)
+  IsCutOff old new OutOfMemory = new.failures ≡ old.failures
+
+module _ {R : Type 0} (remaining : R → Option (List ℕ)) where
+  -- what the input has left, where that is known: what is unread, and then what the reader has left
+  abbrev pub left : Input R → Unread → Option (List ℕ)
+  left input unread = prepend_known (unread_bytes unread) (remaining input.reader)
+
+  -- where the reader has reported its end, it has nothing left
+  abbrev pub IsEndKnown : Input R → Type 0
+  IsEndKnown input = input.has_ended ≡ true → IsAtEnd (remaining input.reader)
+
+-- a bound of how many lines can still come
+abbrev pub most_lines : {R : Type 0} → Input R → Unread → ℕ
+most_lines input unread = input.reads_left * 65537 + length (unread_bytes unread)

@@ -1,0 +1,179 @@
+// What a request answers on each line of an input.
+ghost use Rattle.std.specs.Prelude.{ℕ, List, [], ◌≡◌, ◌≢◌, ◌+◌, ◌≤◌, ◌<◌, ◌^◌, ◌⊎◌, true, false, IfOk, IfErr, OnOk, MatchOption, MatchBool, if◌then◌else◌, string_bytes};
+ghost use Rattle.std.specs.Io.KnownBytes.{IsAtEnd};
+ghost use Rattle.wave_lex.specs.declared.error.ParserErrorKind.TheVariants as kind;
+ghost use Rattle.wave.specs.ByLines.{IsBlank, HasItem, IsLineExplained, IsLineAnswer, AnswersLines};
+ghost use Rattle.wave.specs.Lines.{line};
+ghost use Rattle.wave.specs.Private.ByLines.{IsUnansweredLine, IsNoNextAnswer};
+ghost use Rattle.wave.specs.Private.InputLines.{left, IsEndKnown, TakesLine, most_lines};
+ghost use Rattle.wave.specs.Private.Requests.{IsFit};
+ghost use Rattle.wave.specs.Written.{WritesWhole, WritesLess};
+
+use crate::answer::{Unanswered, answer};
+use crate::explained::explain_refusal;
+use crate::input::{Fault, Input};
+use crate::lines::Unread;
+use crate::output::Output;
+use crate::program::{line_of, report, write_whole};
+use crate::request::Request;
+use std::alloc::{AllocError, Global};
+use std::io::{Read, Write};
+use wasm_wave::parser::{Parser, ParserError, ParserErrorKind};
+
+/// What is written of a line.
+#[derive(Drop)]
+struct LineAnswer {
+    /// Its answer, or nothing, and a line feed.
+    printed: String,
+    /// What explains its refusal, or nothing.
+    shown: String,
+}
+
+/// Answers the request on each line of the input: prints the answer and a line feed, or a line feed
+/// for a line that is blank or refused, and shows a refusal. Gives the status to end with: 1 where a
+/// line was refused, else 0; 3 behind a fault, which is said in place of the lines that are left, and
+/// where a write failed. After a failed write to `errors` no more is written there.
+pub fn answer_lines<R: Read, W: Write, E: Write>(
+    alloc: Global,
+    request: &Request,
+    input: &mut Input<R>,
+    output: &mut Output<W>,
+    errors: &mut Output<E>,
+) -> u8
+    requires { IsFit request.now }
+    ensures answered { AnswersLines W.contents E.contents request.now (R.remaining input.old.reader)
+        input.old input.new output.old output.new errors.old errors.new result }
+    ensures counted { input.new.reads_left ≤ input.old.reads_left }
+{
+    if input.has_ended() {
+        return report(output, Fault::InputFailed);
+    }
+    let mut unread = Unread::new();
+    let mut number = 1;
+    let mut is_refused = false;
+    let mut is_shown = true;
+    'lines: loop {
+        let answer = match next_answer(alloc, request, number, input, &mut unread) {
+            Ok(Some(answer)) => answer,
+            Ok(None) => return status_of(is_refused),
+            Err(fault) => return report(output, fault),
+        };
+        number += 1;
+        let shown = answer.shown.as_str();
+        is_refused |= !shown.is_empty();
+        is_shown = show(errors, shown, is_shown);
+        if !write_whole(output, answer.printed.as_bytes()) {
+            return 3;
+        }
+    }
+}
+
+/// The status where all lines were answered.
+fn status_of(is_refused: bool) -> u8
+    ensures { result ≡ (if is_refused then 1 else 0) }
+{
+    if is_refused { 1 } else { 0 }
+}
+
+/// Writes what explains a refusal, unless a write there failed before. Whether none failed.
+fn show<E: Write>(errors: &mut Output<E>, shown: &str, is_shown: bool) -> bool
+    ensures whole { is_shown ≡ true → result ≡ true → WritesWhole E.contents errors.old errors.new shown.now }
+    ensures cut { is_shown ≡ true → result ≡ false → WritesLess E.contents errors.old errors.new shown.now }
+    ensures none { is_shown ≡ false → (errors.new ≡ errors.old) × (result ≡ false) }
+{
+    is_shown && write_whole(errors, shown.as_bytes())
+}
+
+/// What is written of the next line, which has this number; nothing where the input has no more.
+fn next_answer<R: Read>(
+    alloc: Global,
+    request: &Request,
+    number: u64,
+    input: &mut Input<R>,
+    unread: &mut Unread,
+) -> Result<Option<LineAnswer>, Fault>
+    requires fit { IsFit request.now }
+    requires known { IsEndKnown R.remaining input.old }
+    ensures answer { IfOk result (λ found. MatchOption found
+        (IsAtEnd (left R.remaining input.old unread.old) × (input.new.has_ended ≡ true))
+        (λ answer. (text : List ℕ) × (said : List ℕ)
+        × TakesLine (left R.remaining input.old unread.old) (left R.remaining input.new unread.new) text
+        × IsLineAnswer request.now number text said (string_bytes answer.shown)
+        × (string_bytes answer.printed ≡ line said)
+        × (most_lines input.new unread.new + 1 ≤ most_lines input.old unread.old))) }
+    ensures known { IsEndKnown R.remaining input.new }
+    ensures went_well { OnOk result (input.new.failures ≡ input.old.failures) }
+    ensures fault { IfErr result (IsNoNextAnswer
+        (left R.remaining input.old unread.old) (left R.remaining input.new unread.new) input.old input.new) }
+    ensures counted { input.new.reads_left ≤ input.old.reads_left }
+{
+    match unread.next_line(alloc, input)? {
+        Some(line) => Ok(Some(line_answer(alloc, request, number, line.as_slice())?)),
+        None => Ok(None),
+    }
+}
+
+/// What is written of the line of this number.
+fn line_answer(
+    alloc: Global,
+    request: &Request,
+    number: u64,
+    bytes: &[u8],
+) -> Result<LineAnswer, Fault>
+    requires { IsFit request.now }
+    ensures answer { IfOk result (λ answer. (said : List ℕ)
+        × IsLineAnswer request.now number bytes.now said (string_bytes answer.shown)
+        × (string_bytes answer.printed ≡ line said)) }
+    ensures fault { IfErr result (IsUnansweredLine bytes.now) }
+{
+    let Ok(text) = str::from_utf8(bytes) else {
+        return Err(Fault::NotUtf8);
+    };
+    if is_blank(text) {
+        return Ok(LineAnswer {
+            printed: line_of(String::new(alloc))?,
+            shown: String::new(alloc),
+        });
+    }
+    match answer(alloc, request, text) {
+        Ok(answer) => Ok(LineAnswer {
+            printed: line_of(answer)?,
+            shown: String::new(alloc),
+        }),
+        Err(Unanswered::Refused(refusal)) => Ok(refused_line(
+            alloc, request, number, &refusal, text,
+        )?),
+        Err(Unanswered::OutOfMemory) => Err(Fault::OutOfMemory),
+    }
+}
+
+/// What is written of the line of this number, which was refused; else out of memory, for that or as
+/// the refusal itself.
+fn refused_line(
+    alloc: Global,
+    request: &Request,
+    number: u64,
+    refusal: &ParserError,
+    text: &str,
+) -> Result<LineAnswer, AllocError>
+    ensures shown { IfOk result (λ answer. IsLineExplained request.now number text.now refusal.now (string_bytes answer.shown)) }
+    ensures printed { IfOk result (λ answer. string_bytes answer.printed ≡ line []) }
+    ensures told { OnOk result (refusal.now.kind ≢ kind.OutOfMemory) }
+{
+    if refusal.kind() == ParserErrorKind::OutOfMemory {
+        return Err(AllocError);
+    }
+    let explained = explain_refusal(alloc, request, refusal, text)?;
+    Ok(LineAnswer {
+        printed: line_of(String::new(alloc))?,
+        shown: format!(in alloc; "input line {number}:\n{explained}")?,
+    })
+}
+
+/// Whether nothing stands in the text but whitespace and comments.
+fn is_blank(text: &str) -> bool
+    ensures { MatchBool result (IsBlank text.now) (HasItem text.now) }
+{
+    let mut parser = Parser::new(text);
+    parser.finish().is_ok()
+}

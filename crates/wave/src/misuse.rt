@@ -1,0 +1,249 @@
+// What is said of arguments that ask for nothing.
+ghost use Rattle.std.specs.Prelude.{ℕ, List, [], ◌∷◌, ◌≡◌, ◌≢◌, ◌≤◌, ◌<◌, ◌++◌, IfOk, OnOk, MatchOption, codes, map, string_bytes};
+ghost use Rattle.wave_wasm.specs.Lists.{AllOf};
+ghost use Rattle.wave_wasm.specs.Types.{TypeTree};
+ghost use Rattle.wave_type.specs.TypeErrors.{type_error_text};
+ghost use Rattle.wave_type.specs.declared.error.TypeErrorKind.TheVariants as kind;
+ghost use Rattle.wasm_wave.specs.Places.{IsExplained};
+ghost use Rattle.wave.specs.Lines.{line};
+ghost use Rattle.wave.specs.Misuse.{edits, suggestions, IsHint, IsQuoted, IsBadType, IsBadFunc, IsNoRequestWord, IsMisuse, IsExplainedMisuse};
+ghost use Rattle.wave.specs.Requests.{MakeNone, AreUnknown};
+ghost use Rattle.wave.specs.Types.{NamesType, NamesParams};
+
+use crate::request::limit_of;
+use crate::types::{params_at, text_of};
+use std::alloc::{AllocError, Global};
+use strsim::levenshtein;
+use wasm_wave::explain::explain_at;
+use wasm_wave::value::{FuncType, Type, TypeError, TypeErrorKind};
+
+/// What is wrong with the arguments, which ask for nothing, and where help is.
+pub fn explain_misuse(alloc: Global, words: &[String]) -> Result<String, AllocError>
+    requires { AreUnknown (map string_bytes words.now) }
+    ensures { IfOk result (λ text. IsExplainedMisuse (map string_bytes words.now) (string_bytes text)) }
+{
+    if let Some((last, front)) = words.split_last() {
+        if last.as_str() == "--lines" {
+            return with_help(misuse(alloc, front)?);
+        }
+    }
+    with_help(misuse(alloc, words)?)
+}
+
+/// What is wrong, and where help is.
+fn with_help(why: String) -> Result<String, AllocError>
+    ensures { IfOk result (λ whole. string_bytes whole ≡ string_bytes why ++ line (codes "wave --help has the arguments")) }
+{
+    let mut whole = why;
+    whole.push_str("wave --help has the arguments\n")?;
+    Ok(whole)
+}
+
+/// What is wrong with the arguments, which make no request.
+fn misuse(alloc: Global, words: &[String]) -> Result<String, AllocError>
+    requires { MakeNone (map string_bytes words.now) }
+    ensures { IfOk result (λ why. IsMisuse (map string_bytes words.now) (string_bytes why)) }
+{
+    let Some((first, rest)) = words.split_first() else {
+        return String::from_str(alloc, "no command\n");
+    };
+    match first.as_str() {
+        "value" => value_misuse(alloc, rest),
+        "call" => call_misuse(alloc, rest),
+        "read" => read_misuse(alloc, rest),
+        command => other_misuse(alloc, command, rest),
+    }
+}
+
+/// What is wrong behind `value`.
+fn value_misuse(alloc: Global, rest: &[String]) -> Result<String, AllocError>
+    requires { MakeNone (codes "value" ∷ map string_bytes rest.now) }
+    ensures { IfOk result (λ why. IsMisuse (codes "value" ∷ map string_bytes rest.now) (string_bytes why)) }
+{
+    match rest {
+        [] => unreachable!(),
+        [limit] => no_limit(alloc, limit.as_str()),
+        [_, extra, ..] => too_many(alloc, extra.as_str()),
+    }
+}
+
+/// What is wrong behind `call`.
+fn call_misuse(alloc: Global, rest: &[String]) -> Result<String, AllocError>
+    requires { MakeNone (codes "call" ∷ map string_bytes rest.now) }
+    ensures { IfOk result (λ why. IsMisuse (codes "call" ∷ map string_bytes rest.now) (string_bytes why)) }
+{
+    match rest {
+        [] => unreachable!(),
+        [func] => match params_at(alloc, func.as_str())? {
+            Some(_) => unreachable!(),
+            None => bad_func(alloc, func.as_str()),
+        },
+        [_, extra, ..] => too_many(alloc, extra.as_str()),
+    }
+}
+
+/// What is wrong behind `read`.
+fn read_misuse(alloc: Global, rest: &[String]) -> Result<String, AllocError>
+    requires { MakeNone (codes "read" ∷ map string_bytes rest.now) }
+    ensures { IfOk result (λ why. IsMisuse (codes "read" ∷ map string_bytes rest.now) (string_bytes why)) }
+{
+    match rest {
+        [] => String::from_str(
+            alloc,
+            "no type: read takes the text of one, or the name of a sample\n",
+        ),
+        [ty] => bad_type(alloc, ty.as_str()),
+        [ty, limit] => match limit_of(limit.as_str()) {
+            Some(_) => bad_type(alloc, ty.as_str()),
+            None => no_limit(alloc, limit.as_str()),
+        },
+        [_, _, extra, ..] => too_many(alloc, extra.as_str()),
+    }
+}
+
+/// What is wrong with another command, or behind it.
+fn other_misuse(alloc: Global, command: &str, rest: &[String]) -> Result<String, AllocError>
+    requires { IsNoRequestWord command.now }
+    ensures { IfOk result (λ why. IsMisuse (command.now ∷ map string_bytes rest.now) (string_bytes why)) }
+{
+    match command {
+        "help" | "--help" | "-h" | "version" | "--version" | "-V" => match rest {
+            [] => String::from_str(alloc, "--lines stands behind value, call or read\n"),
+            [extra, ..] => too_many(alloc, extra.as_str()),
+        },
+        _ => unknown_command(alloc, command),
+    }
+}
+
+/// That the word is no command, and which is near.
+fn unknown_command(alloc: Global, word: &str) -> Result<String, AllocError>
+    ensures { IfOk result (λ why. (quoted : List ℕ) × (hint : List ℕ) × IsQuoted word.now quoted × IsHint word.now hint
+        × (string_bytes why ≡ codes "unknown command " ++ (quoted ++ line hint))) }
+{
+    let quoted = quoted(alloc, word)?;
+    let hint = hint(alloc, word)?;
+    format!(in alloc; "unknown command {quoted}{hint}\n")
+}
+
+/// What is said of the command that is near, or nothing.
+fn hint(alloc: Global, word: &str) -> Result<String, AllocError>
+    ensures { IfOk result (λ hint. IsHint word.now (string_bytes hint)) }
+{
+    match nearest(alloc, word)? {
+        Some(near) => format!(in alloc; "; did you mean \"{near}\"?"),
+        None => Ok(String::new(alloc)),
+    }
+}
+
+/// The nearest of the words to which a misspelled command is compared, at most two edits away.
+fn nearest(alloc: Global, word: &str) -> Result<Option<&'static str>, AllocError>
+    ensures { IfOk result (λ found. MatchOption found
+        (AllOf (λ other. 2 < edits word.now other) suggestions)
+        (λ near. (edits word.now near.now ≤ 2) × AllOf (λ other. edits word.now near.now ≤ edits word.now other) suggestions)) }
+{
+    let least = edits(alloc, word, "value")?;
+    let (near, least) = nearer(alloc, word, "value", least, "call")?;
+    let (near, least) = nearer(alloc, word, near, least, "read")?;
+    let (near, least) = nearer(alloc, word, near, least, "help")?;
+    let (near, least) = nearer(alloc, word, near, least, "version")?;
+    if least <= 2 { Ok(Some(near)) } else { Ok(None) }
+}
+
+/// The nearer of the two, the first where both are as near, with its edits.
+fn nearer(
+    alloc: Global,
+    word: &str,
+    near: &'static str,
+    least: usize,
+    other: &'static str,
+) -> Result<(&'static str, usize), AllocError>
+    requires { least ≡ edits word.now near.now }
+    ensures counted { IfOk result (λ found. found.1 ≡ edits word.now found.0.now) }
+    ensures nearer { IfOk result (λ found. (found.1 ≤ least) × (found.1 ≤ edits word.now other.now)) }
+{
+    let count = edits(alloc, word, other)?;
+    if count < least {
+        Ok((other, count))
+    } else {
+        Ok((near, least))
+    }
+}
+
+/// How many edits lead from one to the other.
+fn edits(alloc: Global, word: &str, other: &str) -> Result<usize, AllocError>
+    ensures { IfOk result (λ count. count ≡ edits word.now other.now) }
+{
+    levenshtein(alloc, word, other)
+}
+
+/// That the argument stands behind all that its command takes.
+fn too_many(alloc: Global, extra: &str) -> Result<String, AllocError>
+    ensures { IfOk result (λ why. (quoted : List ℕ) × IsQuoted extra.now quoted
+        × (string_bytes why ≡ codes "an argument too many: " ++ line quoted)) }
+{
+    let quoted = quoted(alloc, extra)?;
+    format!(in alloc; "an argument too many: {quoted}\n")
+}
+
+/// That the argument is no limit.
+fn no_limit(alloc: Global, word: &str) -> Result<String, AllocError>
+    ensures { IfOk result (λ why. (quoted : List ℕ) × IsQuoted word.now quoted
+        × (string_bytes why ≡ quoted ++ line (codes " is no number of levels: N is a whole number from 1 to 1000"))) }
+{
+    let quoted = quoted(alloc, word)?;
+    format!(in alloc; "{quoted} is no number of levels: N is a whole number from 1 to 1000\n")
+}
+
+/// The word in quotes.
+fn quoted(alloc: Global, word: &str) -> Result<String, AllocError>
+    ensures { IfOk result (λ quoted. IsQuoted word.now (string_bytes quoted)) }
+{
+    format!(in alloc; "{word:?}")
+}
+
+/// Why the word names no type, or none that has a value.
+fn bad_type(alloc: Global, word: &str) -> Result<String, AllocError>
+    requires { (T : TypeTree) → NamesType word.now T → ⊥ }
+    ensures { IfOk result (λ why. IsBadType word.now (string_bytes why)) }
+{
+    let text = text_of(word);
+    match Type::parse(alloc, text) {
+        Ok(_) => String::from_str(
+            alloc,
+            "argument 2 is a type without a value: f32 and f64 have none here, nor has what needs one of them\n",
+        ),
+        Err(error) => {
+            let shown = refused(alloc, &error, text)?;
+            format!(in alloc; "argument 2 is no type:\n{shown}")
+        }
+    }
+}
+
+/// Why the word is no type of a function, or one with a parameter whose type has no value.
+fn bad_func(alloc: Global, word: &str) -> Result<String, AllocError>
+    requires { (types : List TypeTree) → NamesParams word.now types → ⊥ }
+    ensures { IfOk result (λ why. IsBadFunc word.now (string_bytes why)) }
+{
+    match FuncType::parse(alloc, word) {
+        Ok(_) => String::from_str(
+            alloc,
+            "argument 2 has a parameter of a type without a value: f32 and f64 have none here, nor has what needs one of them\n",
+        ),
+        Err(error) => {
+            let shown = refused(alloc, &error, word)?;
+            format!(in alloc; "argument 2 is no type of a function:\n{shown}")
+        }
+    }
+}
+
+/// The refusal of the text, shown in it; out of memory, for that or as the refusal itself.
+fn refused(alloc: Global, error: &TypeError, text: &str) -> Result<String, AllocError>
+    ensures shown { IfOk result (λ shown. IsExplained text.now (type_error_text error.now) error.now.span (string_bytes shown)) }
+    ensures told { OnOk result (error.now.kind ≢ kind.OutOfMemory) }
+{
+    if error.kind() == TypeErrorKind::OutOfMemory {
+        return Err(AllocError);
+    }
+    let message = error.to_string(alloc)?;
+    explain_at(alloc, message.as_str(), error.span(), text)
+}
