@@ -39,7 +39,7 @@ def reverse(count):
 
 
 def cases(size):
-    """Each case of this size: 100, 1,000 or 10,000 are the sizes of docs/SPEED-TABLES.md."""
+    """Each case of this size: in docs/SPEED-TABLES.md 100 and 10,000 are those of the clock, 1,000 that of the instructions."""
     wide = f"{{{''.join(f'field-n{i}: {i}, ' for i in range(100))}}}"
     flags = f"{{{''.join(f'flag-n{i}, ' for i in range(0, 32, 2))}}}"
     yield "ascii", "string", quoted("plain ascii text without any escape", ", ", size)
@@ -58,9 +58,9 @@ def cases(size):
     yield "string", "string", quoted("plain ascii text, some \\n escapes \\u{e9} é", ", ", size)
     yield "variants", f"list<variant{{{named('case-n', '(u32)', 20)}}}>", listed("case-n7(7), case-n19(19)", size)
     yield "wide", f"list<record{{{named('field-n', ': u32', 100)}}}>", listed(wide, size // 50)
-    if size == 100:
+    if size <= 1000:
         yield "deep", "list<" * 89 + "u8" + ">" * 89, "[" * 89 + "7" + "]" * 89
-    else:
+    if size > 100:
         fields = min(size, 4000)
         yield "reverse", f"record{{{named('field-n', ': u32', fields)}}}", reverse(fields)
 
@@ -68,6 +68,17 @@ def cases(size):
 def calls_of(name):
     """The calls that are made on the case."""
     return ["call"] if name.startswith("call") else ["read", "untyped", "write"]
+
+
+def head_of(unit, ratio):
+    """The head of a table: for each call the figures of both programs and their ratio, of call-log those of `call` first."""
+    calls = "".join(f"{call:>24}" for call in ("read", "untyped", "write"))
+    return f"{unit:22}{calls}\n{'text':14}{'bytes':>8}" + f"{'Rust':>8}{'Rattle':>8}{ratio:>8}" * 3
+
+
+def row_of(name, length, triples):
+    """The row of a text, by the two figures of each call and their ratio."""
+    return f"{name:14}{length:>8}" + "".join(f"{figure:>8}" for triple in triples for figure in triple)
 
 
 def input_of(name, types, text):
