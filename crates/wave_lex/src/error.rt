@@ -6,6 +6,7 @@ ghost use Rattle.wave_lex.specs.Errors.{plainly, with_detail, refused_by, kept, 
 ghost use Rattle.wave_lex.specs.Shared.Errors.{detail_cause, detail_text, error_with};
 
 use crate::lex::Span;
+use std::alloc::AllocError;
 use std::fmt;
 use std::marker::Model;
 use thiserror::Error;
@@ -253,6 +254,19 @@ impl fmt::Display for ParserError {
                 None => write!(f, "{kind} at {start}..{end}"),
             },
         }
+    }
+}
+
+/// Out of memory, at 0..0, so that `?` takes what allocates beside what reads.
+impl From<AllocError> for ParserError {
+    ghost use Rattle.std.specs.Prelude.{None};
+    ghost use Rattle.wave_lex.specs.Errors.{Says};
+    ghost use Rattle.wave_lex.specs.declared.error.ParserErrorKind.TheVariants.{OutOfMemory};
+
+    ghost from_gives = { λ _ r. Says r OutOfMemory (record { start = 0; end = 0 }) None };
+
+    fn from(_: AllocError) -> ParserError {
+        ParserError::new(ParserErrorKind::OutOfMemory, 0..0)
     }
 }
 

@@ -69,6 +69,7 @@ fn refusal(rt: HostRuntime, told: &str) -> Result<ParserError, AllocError> {
             WasmValueError::UnsupportedType(String::from_str(rt.alloc(), "f64")?),
         )),
         "memory" => Ok(ParserError::with_cause(0..1, WasmValueError::Memory(AllocError))),
+        "from memory" => Ok(ParserError::from(AllocError)),
         "token" => Ok(ParserError::with_static(ParserErrorKind::UnexpectedToken, 4..7, "String")),
         _ => Ok(ParserError::new(ParserErrorKind::TrailingCharacters, 2..3)),
     }
@@ -132,6 +133,10 @@ fn refusals(rt: HostRuntime) -> Result<(), Fail> {
             (
                 "memory",
                 "out of memory at 0..1: out of memory, 0..1, no detail, no cause",
+            ),
+            (
+                "from memory",
+                "out of memory at 0..0: out of memory, 0..0, no detail, no cause",
             ),
         ],
     )?;
