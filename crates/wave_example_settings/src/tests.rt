@@ -6,5 +6,6 @@ mod conversions;
 mod docs;
 mod explained;
 mod flags;
+mod levels;
 mod readme;
 mod settings;
