@@ -84,12 +84,12 @@ tuple_tokens (token.multiline text ∷ behind) n ts h = absurd (cc h.1)
 tuple_tokens (_ ∷ behind) n ts h = absurd h
 
 -- parameters are `()` or a tuple's tokens
-params_tokens : (n : ℕ) (tokens : List Token) (params : MaybeTree) → SpellsParams n tokens params → (tokens ≡ paren_open ∷ paren_close ∷ []) ⊎ ((t : Tree) × Takes (suc n) tokens t [])
+pub params_tokens : (n : ℕ) (tokens : List Token) (params : MaybeTree) → SpellsParams n tokens params → (tokens ≡ paren_open ∷ paren_close ∷ []) ⊎ ((t : Tree) × Takes (suc n) tokens t [])
 params_tokens n tokens params (inl h) = inl h.0
 params_tokens n tokens params (inr (front, items, is, some, all, e)) = inr (form.tuple (form.trees items), subst (λ z. Takes (suc n) z (form.tuple (form.trees items)) []) (sym is) (items, some, all, refl))
 
 -- they begin with `(`
-opens : (n : ℕ) (tokens : List Token) (params : MaybeTree) → SpellsParams n tokens params → (more : List Token) × (tokens ≡ paren_open ∷ more)
+pub opens : (n : ℕ) (tokens : List Token) (params : MaybeTree) → SpellsParams n tokens params → (more : List Token) × (tokens ≡ paren_open ∷ more)
 opens n tokens params (inl h) = (paren_close ∷ [], h.0)
 opens n tokens params (inr (front, items, is, some, all, e)) = (front, is)
 
@@ -100,21 +100,21 @@ no_empty zero more t rest (a ∷ items, some, (behind, h, further), e) = h
 no_empty (suc n) more t rest (a ∷ items, some, (behind, h, further), e) = h
 
 -- nor is `(` one
-no_alone : (n : ℕ) (t : Tree) (rest : List Token) → Takes (suc n) (paren_open ∷ []) t rest → ⊥
+pub no_alone : (n : ℕ) (t : Tree) (rest : List Token) → Takes (suc n) (paren_open ∷ []) t rest → ⊥
 no_alone n t rest ([], some, all, e) = absurd (omega (arith, some))
 no_alone zero t rest (a ∷ items, some, (behind, h, further), e) = h
 no_alone (suc n) t rest (a ∷ items, some, (behind, h, further), e) = h
 
 -- ---- names
 
-one_name : (s : List ℕ) (j k : ℕ) → IsName s j → IsName s k → j ≡ k
+pub one_name : (s : List ℕ) (j k : ℕ) → IsName s j → IsName s k → j ≡ k
 one_name s j k h l = let a = h.1 k l.0 in let b = l.1 j h.0 in omega (arith, a, b)
 
-paren_class : (c : lex.Token) (text : List ℕ) → paren_open ≡ token_of c text → c ≡ ParenOpen
+pub paren_class : (c : lex.Token) (text : List ℕ) → paren_open ≡ token_of c text → c ≡ ParenOpen
 paren_class ParenOpen text e = refl
 paren_class _ text e = absurd (cc)
 
-close_class : (c : lex.Token) (text : List ℕ) → paren_close ≡ token_of c text → c ≡ ParenClose
+pub close_class : (c : lex.Token) (text : List ℕ) → paren_close ≡ token_of c text → c ≡ ParenClose
 close_class ParenClose text e = refl
 close_class _ text e = absurd (cc)
 

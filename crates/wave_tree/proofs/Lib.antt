@@ -32,3 +32,5 @@ pub mod ClassList
 pub mod RefusalPlaces
 pub mod OpenForms
 pub mod PlacedTokens
+pub mod ParamTokens
+pub mod ExpectedWords

@@ -13,7 +13,7 @@ use Rattle.wave_grammar.specs.ParserPosition.{token_of}
 use Rattle.wave_tree.specs.declared.expected.Expected.{Expected}
 use Rattle.wave_tree.specs.Private.Moves.{innermost, stack_of, may_stand}
 use Rattle.wave_tree.specs.Private.Prefixes.{IsAfter, MayEnd}
-use Rattle.wave_tree.specs.Expected.{Placed, token_at, TakesPlaced, but_last, open_after, open_brackets, IsExpected}
+use Rattle.wave_tree.specs.Expected.{Placed, token_at, TakesPlaced, but_last, open_after, open_brackets, MayFollow, AreAValue, IsExpectedFrom}
 use Rattle.wave_tree.proofs.MayStand.{may_follow, may_end}
 
 -- what is left after the last was taken
@@ -56,11 +56,11 @@ pub token_ends : (l m k : Lexed) (c d : lex.Token) (at : ℕ) → NextIs l m (So
 token_ends l m k c d at h past next = subst (λ z. at < z.end) (next_one l m k (Some (Ok c)) (Some (Ok d)) h next).0 past
 
 -- the tokens before the place that were read so far, up to where the lexer stands
-pub record IsReadTo (source : List ℕ) (at n : ℕ) (lexer : Lexed) (a : Automaton) (spans : List (Range ℕ)) : Type 0 where
+pub record IsReadTo (first : Lexed) (at n : ℕ) (lexer : Lexed) (a : Automaton) (spans : List (Range ℕ)) : Type 0 where
   pub tokens : List Placed
-  pub taken : TakesPlaced (record { source = source; start = 0; end = 0 }) tokens lexer
+  pub taken : TakesPlaced first tokens lexer
   pub before : lexer.end ≤ at
-  pub after : IsAfter n (map (token_at source) tokens) a.due a.forms.items a.names
+  pub after : IsAfter n (map (token_at first.source) tokens) a.due a.forms.items a.names
   pub levels : a.levels ≡ n
   pub spans_are : spans ≡ open_brackets tokens
 
@@ -70,31 +70,31 @@ taken_source l m [] e = ap (λ (z : Lexed). z.source) (sym e)
 taken_source l m (p ∷ ps) (k, (g, j, passes, is), at, more) = taken_source k m ps more ∙ passes.source
 
 -- one more token was read
-pub read_more : (source : List ℕ) (at n : ℕ) (l m : Lexed) (a b : Automaton) (old new : List (Range ℕ)) (c : lex.Token) (place : Range ℕ) (text : List ℕ) → IsReadTo source at n l a old → NextIs l m (Some (Ok c)) → m.end ≤ at →
+pub read_more : (first : Lexed) (at n : ℕ) (l m : Lexed) (a b : Automaton) (old new : List (Range ℕ)) (c : lex.Token) (place : Range ℕ) (text : List ℕ) → IsReadTo first at n l a old → NextIs l m (Some (Ok c)) → m.end ≤ at →
     place ≡ span m.start m.end → new ≡ open_after old (c, place) → text ≡ slice_range m.source m.start m.end →
-    ((tokens : List Token) → IsAfter a.levels tokens a.due a.forms.items a.names → IsAfter a.levels (tokens ++ token_of c text ∷ []) b.due b.forms.items b.names) → b.levels ≡ a.levels → IsReadTo source at n m b new
-read_more source at n l m a b old new c place text h next before is_place is_new is_text reads same_levels =
+    ((tokens : List Token) → IsAfter a.levels tokens a.due a.forms.items a.names → IsAfter a.levels (tokens ++ token_of c text ∷ []) b.due b.forms.items b.names) → b.levels ≡ a.levels → IsReadTo first at n m b new
+read_more first at n l m a b old new c place text h next before is_place is_new is_text reads same_levels =
     let p : Placed = (c, span m.start m.end) in
-    let taken = taken_more (record { source = source; start = 0; end = 0 }) l m h.tokens c h.taken next in
-    let same_source : m.source ≡ source = taken_source (record { source = source; start = 0; end = 0 }) m (h.tokens ++ p ∷ []) taken in
-    let same_token : token_of c text ≡ token_at source p = ap (token_of c) (is_text ∙ ap (λ (s : List ℕ). slice_range s m.start m.end) same_source) in
-    let now = subst (λ k. IsAfter k (map (token_at source) h.tokens ++ token_of c text ∷ []) b.due b.forms.items b.names) h.levels
-    (reads (map (token_at source) h.tokens) (subst (λ k. IsAfter k (map (token_at source) h.tokens) a.due a.forms.items a.names) (sym h.levels) h.after)) in
+    let taken = taken_more first l m h.tokens c h.taken next in
+    let same_source : m.source ≡ first.source = taken_source first m (h.tokens ++ p ∷ []) taken in
+    let same_token : token_of c text ≡ token_at first.source p = ap (token_of c) (is_text ∙ ap (λ (s : List ℕ). slice_range s m.start m.end) same_source) in
+    let now = subst (λ k. IsAfter k (map (token_at first.source) h.tokens ++ token_of c text ∷ []) b.due b.forms.items b.names) h.levels
+    (reads (map (token_at first.source) h.tokens) (subst (λ k. IsAfter k (map (token_at first.source) h.tokens) a.due a.forms.items a.names) (sym h.levels) h.after)) in
     record {
       tokens = h.tokens ++ p ∷ [];
       taken = taken;
       before = before;
-      after = subst (λ ts. IsAfter n ts b.due b.forms.items b.names) (ap (λ t. map (token_at source) h.tokens ++ t ∷ []) same_token ∙ sym (map-append (token_at source) h.tokens (p ∷ []))) now;
+      after = subst (λ ts. IsAfter n ts b.due b.forms.items b.names) (ap (λ t. map (token_at first.source) h.tokens ++ t ∷ []) same_token ∙ sym (map-append (token_at first.source) h.tokens (p ∷ []))) now;
       levels = same_levels ∙ h.levels;
       spans_are = is_new ∙ (ap (λ r. open_after old (c, r)) is_place ∙ (ap (λ z. open_after z p) h.spans_are ∙ sym (open_more h.tokens p)));
     }
 
 -- all were read
-pub is_expected : (source : List ℕ) (at n : ℕ) (l : Lexed) (a : Automaton) (spans : List (Range ℕ)) (e : Expected) → IsReadTo source at n l a spans → ((c : lex.Token) (next : Lexed) → NextIs l next (Some (Ok c)) → at < next.end) →
+pub is_expected : (first : Lexed) (at n : ℕ) (l : Lexed) (a : Automaton) (spans : List (Range ℕ)) (e : Expected) → IsReadTo first at n l a spans → ((c : lex.Token) (next : Lexed) → NextIs l next (Some (Ok c)) → at < next.end) →
     ((c : lex.Token) → Contains e.classes.items c ↔ (may_stand a.due (innermost (stack_of a.forms.items)) (a.levels - length (stack_of a.forms.items)) c ≡ true)) → (IsTrue e.may_end ↔ MayEnd a.due a.forms.items) → e.open_brackets.items ≡ spans →
-    IsExpected source at n e
-is_expected source at n l a spans e h all classes ends brackets =
-    let tokens = map (token_at source) h.tokens in
+    IsExpectedFrom first at (MayFollow n) (AreAValue n) e
+is_expected first at n l a spans e h all classes ends brackets =
+    let tokens = map (token_at first.source) h.tokens in
     record {
       before = h.tokens;
       stand = record { last = l; taken = h.taken; before = h.before; all = all };

@@ -39,7 +39,7 @@ token_moves l m c (g, k, p, t) =
     (omega arith, omega arith)
 
 -- tokens end no earlier than they begin
-placed_end : (l m : Lexed) (ps : List Placed) → TakesPlaced l ps m → l.end ≤ m.end
+pub placed_end : (l m : Lexed) (ps : List Placed) → TakesPlaced l ps m → l.end ≤ m.end
 placed_end l m [] e = let same : l.end ≡ m.end = ap (λ (z : Lexed). z.end) e in omega arith
 placed_end l m (p ∷ ps) (k, next, at, more) =
     let (a, b) = token_moves l k p.0 next in
@@ -47,7 +47,7 @@ placed_end l m (p ∷ ps) (k, next, at, more) =
     omega arith
 
 -- no token ends by the place
-abbrev NoneBy : Lexed → ℕ → Type 0
+abbrev pub NoneBy : Lexed → ℕ → Type 0
 NoneBy l at = (c : lex.Token) (next : Lexed) → NextIs l next (Some (Ok c)) → at < next.end
 
 -- the tokens that end by a place, as many as there are, are these alone

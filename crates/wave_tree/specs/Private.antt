@@ -11,3 +11,5 @@ pub mod SyntaxErrors
 pub mod TokenRoles
 pub mod Moves
 pub mod Prefixes
+pub mod CallFronts
+pub mod Separators

@@ -1,14 +1,17 @@
 //! What may stand at a place of a text: in place of a token that is refused, or at the end.
 ghost use Rattle.std.specs.Prelude.{◌≡◌, ◌↔◌, ◌≤◌, ◌<◌, ◌+◌, ℕ, Some, Ok, IfOk, IsTrue, MatchOption, Contains};
 ghost use Rattle.wave_lex.specs.Tokenization.{Lexed, NextIs};
-ghost use Rattle.wave_tree.specs.Expected.{IsExpected, open_after};
+ghost use Rattle.wave_tree.specs.Expected.{IsExpected, IsExpectedFrom, MayFollow, AreAValue, open_after};
 
 use crate::expected::automaton::Automaton;
+pub use crate::expected::call::expected_in_call_at;
 use std::alloc::{AllocError, Global};
 use wave_lex::lex::{Lexer, Span, Token};
 
 mod automaton;
+mod call;
 mod moves;
+mod words;
 
 /// What may stand at a place of a text.
 #[derive(Drop)]
@@ -28,72 +31,6 @@ impl Expected {
     {
         self.classes.contains(&class)
     }
-
-    /// What may stand there, for people: `',' or '}'`; `a value or ']'`, where a value may, of which
-    /// the first token isn't told; `a label, another key or '}'`, where a key may; `the end`, where the
-    /// text may end; `nothing`, where the tokens before begin no value.
-    pub fn words(&self, alloc: Global) -> Result<String, AllocError> {
-        let mut words = Vec::new(alloc);
-        if self.contains(Token::BracketOpen) {
-            words.push("a value")?;
-        } else {
-            for (class, word) in LABEL_AND_KEYS {
-                self.add_word(&mut words, class, word)?;
-            }
-        }
-        for (class, word) in MARKS {
-            self.add_word(&mut words, class, word)?;
-        }
-        if self.may_end {
-            words.push("the end")?;
-        }
-        if words.is_empty() {
-            words.push("nothing")?;
-        }
-        joined(alloc, words.as_slice())
-    }
-
-    /// Adds the word of a class that may stand there.
-    fn add_word(
-        &self,
-        words: &mut Vec<&'static str>,
-        class: Token,
-        word: &'static str,
-    ) -> Result<(), AllocError> {
-        if self.contains(class) {
-            words.push(word)?;
-        }
-        Ok(())
-    }
-}
-
-/// What is told of a label, and of the other keys by one of them, where no value may stand.
-const LABEL_AND_KEYS: [(Token, &str); 3] = [
-    (Token::LabelOrKeyword, "a label"),
-    (Token::Number, "another key"),
-    (Token::ParenOpen, "'('"),
-];
-
-/// What is told of the marks that begin no value.
-const MARKS: [(Token, &str); 5] = [
-    (Token::Colon, "':'"),
-    (Token::Comma, "','"),
-    (Token::ParenClose, "')'"),
-    (Token::BracketClose, "']'"),
-    (Token::BraceClose, "'}'"),
-];
-
-/// The words, with `or` before the last and a comma before each other one.
-fn joined(alloc: Global, words: &[&str]) -> Result<String, AllocError> {
-    let mut text = String::new(alloc);
-    for (index, word) in words.iter().enumerate() {
-        if index > 0 {
-            let last = words.len() - index == 1;
-            text.push_str(if last { " or " } else { ", " })?;
-        }
-        text.push_str(word)?;
-    }
-    Ok(text)
 }
 
 /// The next token, where it ends at or before the place `at`.
@@ -128,6 +65,31 @@ fn note_bracket(spans: &mut Vec<Span>, class: Token, span: Span) -> Result<(), A
     Ok(())
 }
 
+/// What may stand at the place `at`, where a value of at most `levels` levels is read from where the
+/// lexer stands.
+fn expected_from(
+    alloc: Global,
+    first: &Lexer,
+    at: usize,
+    levels: u32,
+) -> Result<Expected, AllocError>
+    requires { first.now.end ≤ at }
+    ensures { IfOk result (IsExpectedFrom first.now at (MayFollow levels) (AreAValue levels)) }
+{
+    let mut lexer = first.clone();
+    let mut automaton = Automaton::new(alloc, levels);
+    let mut open_brackets = Vec::new(alloc);
+    while let Some(class) = next_before(&mut lexer, at) {
+        note_bracket(&mut open_brackets, class, lexer.span())?;
+        automaton.read(alloc, class, lexer.slice())?;
+    }
+    Ok(Expected {
+        classes: automaton.classes(alloc)?,
+        may_end: automaton.may_end(),
+        open_brackets,
+    })
+}
+
 /// What may stand at the byte place `at` of the source, where a value of at most `levels` levels is
 /// read: after the tokens that end at or before `at`, up to the first that doesn't or to what is no
 /// token. At the start of a syntax refusal's span it is what the reader might have read there in place
@@ -144,16 +106,5 @@ pub fn expected_at(
 ) -> Result<Expected, AllocError>
     ensures { IfOk result (IsExpected source.now at levels) }
 {
-    let mut lexer = Lexer::new(source);
-    let mut automaton = Automaton::new(alloc, levels);
-    let mut open_brackets = Vec::new(alloc);
-    while let Some(class) = next_before(&mut lexer, at) {
-        note_bracket(&mut open_brackets, class, lexer.span())?;
-        automaton.read(alloc, class, lexer.slice())?;
-    }
-    Ok(Expected {
-        classes: automaton.classes(alloc)?,
-        may_end: automaton.may_end(),
-        open_brackets,
-    })
+    expected_from(alloc, &Lexer::new(source), at, levels)
 }

@@ -14,7 +14,7 @@ use std::borrow::CowStr;
 use std::marker::Model;
 use wave_wasm::wasm::WasmValue;
 
-mod call;
+pub(crate) mod call;
 mod display;
 
 /// A value that was parsed without a type: its source, and the node of its tree, whose spans are byte

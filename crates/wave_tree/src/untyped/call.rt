@@ -45,7 +45,7 @@ pub fn parse_raw_func_call<'source>(
 }
 
 /// The lexer after the function name at the start of the text.
-fn name_at<'source>(source: &'source str) -> Result<FuncNameLexer<'source>, ParserError>
+pub(crate) fn name_at<'source>(source: &'source str) -> Result<FuncNameLexer<'source>, ParserError>
     ensures named { IfOk result (λ l. (k : ℕ) × IsName source.now k × (l ≡ record { source = source.now; start = 0; end = k })) }
     ensures refused { IfErr result (NameFault source.now) }
 {

@@ -1,10 +1,10 @@
 use Rattle.std.proofs.Common.{length}
 use Rattle.wave_lex.specs.Tokenization.{remainder_of}
 use Rattle.wave_tree.proofs.PlacedTokens.{IsReadTo}
-use Rattle.wave_tree.proofs.expected.expected_at.Given as goal
+use Rattle.wave_tree.proofs.expected.expected_from.Given as goal
 
 abbrev pub invariant-loop-class : goal.invariant-loop-class
-invariant-loop-class l = IsReadTo l.source l.at l.levels l.lexer l.automaton l.open_brackets.items
+invariant-loop-class l = IsReadTo l.first l.at l.levels l.lexer l.automaton l.open_brackets.items
 
 abbrev pub decreases-loop-class : goal.decreases-loop-class
 decreases-loop-class l = length (remainder_of l.lexer)
