@@ -2,7 +2,7 @@
 //! are open there.
 use std::alloc::Global;
 use std::test::Fail;
-use wasm_wave::expected::{Expected, expected_at};
+use wasm_wave::expected::{Expected, expected_at, expected_in_call_at};
 use wasm_wave::from_str;
 use wasm_wave::value::{Type, Value};
 
@@ -62,6 +62,39 @@ const OTHER: &[Row] = &[
     ("[12 3", 2, 100, "a value or ']'", &[0]),
 ];
 
+/// What may stand in a call, by rows without levels.
+type CallRow = (&'static str, usize, &'static str, &'static [usize]);
+
+/// What may stand in a call behind its name.
+const CALLS: &[CallRow] = &[
+    ("f", 1, "'('", &[]),
+    ("foo(", 3, "'('", &[]),
+    ("f(", 1, "'('", &[]),
+    ("f(", 2, "a value or ')'", &[1]),
+    ("f ( ", 4, "a value or ')'", &[2]),
+    ("f()", 3, "the end", &[]),
+    ("f() 1", 4, "the end", &[]),
+    ("f(1", 3, "',' or ')'", &[1]),
+    ("f(1, ", 5, "a value or ')'", &[1]),
+    ("f(1,)", 5, "the end", &[]),
+    ("f(ok", 4, "'(', ',' or ')'", &[1]),
+    ("f(some", 6, "'('", &[1]),
+    ("f([1, {a: 2", 11, "',' or '}'", &[1, 2, 6]),
+    ("a:b/c.d@1.0.0(", 14, "a value or ')'", &[13]),
+];
+
+/// The same after tokens that begin no parameters.
+const NO_CALLS: &[CallRow] = &[
+    ("f 1", 3, "nothing", &[]),
+    ("f [", 3, "nothing", &[2]),
+    ("f() ()", 6, "nothing", &[]),
+    ("f(()", 4, "nothing", &[1]),
+    ("f(1 2", 5, "nothing", &[1]),
+];
+
+/// Texts and places by which no function name ends.
+const NO_NAMES: &[(&str, usize)] = &[("", 0), (" f()", 4), ("1", 1), ("foo(", 2), ("(1)", 3)];
+
 /// Whether the open brackets begin there.
 fn begin_at(expected: &Expected, starts: &[usize]) -> bool {
     let spans = expected.open_brackets.as_slice();
@@ -87,6 +120,63 @@ fn wrong(alloc: Global, rows: &[Row]) -> Result<String, Fail> {
         }
     }
     Ok(String::new(alloc))
+}
+
+/// What may stand at the place of the call, in words; nothing where no name ends by it.
+fn told_in_call(alloc: Global, text: &str, at: usize) -> Result<Option<String>, Fail> {
+    match expected_in_call_at(alloc, text, at)? {
+        Some(expected) => Ok(Some(expected.words(alloc)?)),
+        None => Ok(None),
+    }
+}
+
+/// The first row of a call that is answered otherwise, with the words; nothing where there is none.
+fn wrong_call(alloc: Global, rows: &[CallRow]) -> Result<String, Fail> {
+    for row in rows {
+        let (text, at, words, starts) = *row;
+        let Some(expected) = expected_in_call_at(alloc, text, at)? else {
+            return Ok(format!(in alloc; "{text} has no name by {at}")?);
+        };
+        let told = expected.words(alloc)?;
+        if told.as_str() != words || !begin_at(&expected, starts) {
+            return Ok(format!(in alloc; "{text} gives {told} at {at}")?);
+        }
+    }
+    Ok(String::new(alloc))
+}
+
+#[test]
+fn in_a_call(rt: HostRuntime) -> Result<(), Fail> {
+    let wrong = wrong_call(rt.alloc(), CALLS)?;
+    assert!(rt; wrong.as_str() == "");
+    let wrong = wrong_call(rt.alloc(), NO_CALLS)?;
+    assert!(rt; wrong.as_str() == "");
+    Ok(())
+}
+
+#[test]
+fn without_a_name(rt: HostRuntime) -> Result<(), Fail> {
+    for row in NO_NAMES {
+        let (text, at) = *row;
+        if told_in_call(rt.alloc(), text, at)?.is_some() {
+            return Err(Fail::new(format_args!("{text} has a name by {at}")));
+        }
+    }
+    Ok(())
+}
+
+#[test]
+fn within_the_levels_of_a_call(rt: HostRuntime) -> Result<(), Fail> {
+    let mut text = String::from_str(rt.alloc(), "f(")?;
+    for _ in 0..99 {
+        text.push_str("[")?;
+    }
+    let told = told_in_call(rt.alloc(), text.as_str(), 101)?;
+    assert!(rt; told.as_deref() == Some("a value or ']'"));
+    text.push_str("[")?;
+    let told = told_in_call(rt.alloc(), text.as_str(), 102)?;
+    assert!(rt; told.as_deref() == Some("']'"));
+    Ok(())
 }
 
 #[test]
