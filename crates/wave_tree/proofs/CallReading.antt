@@ -22,7 +22,7 @@ use Rattle.wave_grammar.specs.NodeTree.{NodeTree, type_of}
 use Rattle.wave_grammar.specs.ParserPosition as place
 use Rattle.wave_grammar.specs.ParserPosition.{Place, TakesToken, TakesTokens, token_of, text_at}
 use Rattle.wave_grammar.specs.PrefixAutomaton as due
-use Rattle.wave_lex.specs.Errors.{Diagnostic, Says, Refusal}
+use Rattle.wave_lex.specs.Errors.{Diagnostic, Says, Refusal, LiesInText}
 use Rattle.wave_wasm.specs.Types.{TypeTree}
 use Rattle.wave_grammar.specs.NodeParams.{RefusesNone}
 use Rattle.wave_grammar.specs.ErrorSpans.{IsTypeKind, HasParamsKind}
@@ -31,11 +31,13 @@ use Rattle.wave_tree.specs.ParserLaws.{AreNext}
 use Rattle.wave_tree.specs.ParsedNodes.{IsSound, TakesClass}
 use Rattle.wave_tree.specs.Private.ParsedNodes.{IsOfItems}
 use Rattle.wave_tree.specs.ParserState.{IsTrailing}
-use Rattle.wave_tree.specs.UntypedCall.{IsTupleTaken, AreParamsTaken, RefusesTuple, IsCalledOf, IsNoCall, NameFault, RefusesCall, behind_name}
+use Rattle.wave_tree.specs.UntypedCall.{IsTupleTaken, AreParamsTaken, RefusesTuple, IsCalledOf, IsNoCall, NameFault, RefusesCall, IsParamsOf, RefusesParamsAt, behind_name}
+use Rattle.wave_tree.specs.Private.UntypedCall.{CallStandsIn, params_place}
 use Rattle.wave_grammar.proofs.Unambiguity.Trees.{one_tree}
 use Rattle.wave_tree.proofs.ParserSound.{read_have_tree, refused_have_none, token_one}
 use Rattle.wave_tree.proofs.ParserSteps.{expected}
 use Rattle.wave_grammar.proofs.Slices.{taken_is}
+use Rattle.wave_grammar.proofs.ErrorSpans.Nodes.{node_in_text}
 use Rattle.wave_tree.proofs.TextReading.{AllOf, all_from, cut_from, all_are_next, all_taken, nothing_there}
 use Rattle.wave_grammar.proofs.ByKind.Tuples.{tuple_nodes, no_word}
 use Rattle.wave_grammar.proofs.ByKind.Leaves.{tree_is}
@@ -263,3 +265,15 @@ none_kind Full Ts at e (inr (inr refused)) = inl (subst IsTypeKind (sym refused.
 pub all_kind : {X : Type 0} (Full : TypeTree → Type 0) (Ts : List TypeTree) (at : Range ℕ) (r : Result X Diagnostic) → IfErr r (RefusesNone Full Ts at) → IfErr r HasParamsKind
 all_kind Full Ts at (Ok x) h = tt
 all_kind Full Ts at (Err e) h = none_kind Full Ts at e h
+
+-- ---- out of memory at the parameters
+
+-- out of memory is a refusal of the parameters
+pub memory_refuses : (Full : TypeTree → Type 0) (Ts : List TypeTree) (source : List ℕ) (name : Range ℕ) (params : Option NodeTree) (e : Diagnostic) → IsParamsOf source params → e.kind ≡ because.OutOfMemory → RefusesParamsAt Full Ts source name params e
+memory_refuses Full Ts source name None e h memory = inl memory
+memory_refuses Full Ts source name (Some n) e h memory = λ t is. let inner = tuple_nodes source n t is h.1 in inr (inner.items, inner.shape, inl memory)
+
+-- the parameters stand in the text, and so does the name
+pub params_in_text : (source : List ℕ) (name : Range ℕ) (params : Option NodeTree) (e : Diagnostic) → CallStandsIn source name params → e.span ≡ params_place name params → LiesInText source e.span
+params_in_text source name None e h at = subst (LiesInText source) (sym at) (h.0.ordered, h.0.last.0)
+params_in_text source name (Some n) e h at = subst (LiesInText source) (sym at) (node_in_text source n (inl h.1.0))

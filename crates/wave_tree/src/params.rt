@@ -23,6 +23,35 @@ use wave_lex::error::{ParserError, ParserErrorKind};
 use wave_lex::lex::Span;
 use wave_wasm::wasm::{WasmType, WasmTypeKind, WasmValue};
 
+/// The type of a parameter, as it is or by a reference.
+pub(crate) trait ParamType<T: WasmType> {
+    ghost use Rattle.std.specs.Prelude.{◌≡◌};
+    ghost use Rattle.wave_wasm.specs.Types.{TypeTree};
+
+    /// What the type means.
+    ghost shown: { Self → TypeTree };
+
+    /// The type.
+    fn as_type(&self) -> &T
+        ensures { T.tree result.now ≡ shown self.now };
+}
+
+impl<T: WasmType> ParamType<T> for T {
+    ghost shown = { λ ty. T.tree ty };
+
+    fn as_type(&self) -> &T {
+        self
+    }
+}
+
+impl<T: WasmType> ParamType<T> for &T {
+    ghost shown = { λ ty. T.tree ty.now };
+
+    fn as_type(&self) -> &T {
+        *self
+    }
+}
+
 impl Node {
     /// The values of the items of a tuple node, which was parsed from `src`, at the types in their
     /// places. Each type that is left has to be an option and reads as `none`, else the refusal is
@@ -46,17 +75,38 @@ impl Node {
         ensures within { IfErr result (λ e. LiesInText src.now e.span) }
         ensures caused { IfErr result (λ e. e.kind ≡ WasmValueError → IsCausedIn self.now e) }
     {
+        self.read_params(alloc, types, src)
+    }
+
+    /// The same of types that are had as they are or by references.
+    pub(crate) fn read_params<V: WasmValue, P: ParamType<V::Type>>(
+        &self,
+        alloc: Global,
+        types: &[P],
+        src: &str,
+    ) -> Result<Vec<V>, ParserError>
+        requires { IsParsedFrom src.now self.now }
+        ensures count { IfOk result (λ vs. length vs.items ≡ length types.now) }
+        ensures values { (t : SpannedTree) → IsNodeOf src.now self.now t
+            → IfOk result (λ vs. GivesParams V.tree V.is_of (map P.shown types.now) self.now t vs.items) }
+        ensures refused { (t : SpannedTree) → IsNodeOf src.now self.now t
+            → IfErr result (RefusesParams V.is_full (map P.shown types.now) self.now t) }
+        ensures form { type_of self.now ≢ Tuple → IsErrAnd result (RefusedAs InvalidType self.now) }
+        ensures kind { IfErr result HasParamsKind }
+        ensures within { IfErr result (λ e. LiesInText src.now e.span) }
+        ensures caused { IfErr result (λ e. e.kind ≡ WasmValueError → IsCausedIn self.now e) }
+    {
         let nodes = self.as_tuple()?;
         let mut vals = Vec::new(alloc);
         for i in 0..nodes.len() {
             if i >= types.len() {
                 return Err(nodes[i].too_many());
             }
-            let val = nodes[i].to_wasm_value(alloc, &types[i], src)?;
+            let val = nodes[i].to_wasm_value(alloc, types[i].as_type(), src)?;
             self.push(&mut vals, val)?;
         }
         let left = &types[nodes.len()..];
-        if !are_options(left) {
+        if !are_options::<V::Type, P>(left) {
             return Err(self.missing());
         }
         push_omitted(alloc, left, self.span(), &mut vals)?;
@@ -88,11 +138,11 @@ impl Node {
 }
 
 /// Whether all types are options.
-pub(crate) fn are_options<T: WasmType>(types: &[T]) -> bool
-    ensures { MatchBool result (AllOf IsOption (map T.tree types.now)) (SomeOf IsNoOption (map T.tree types.now)) }
+fn are_options<T: WasmType, P: ParamType<T>>(types: &[P]) -> bool
+    ensures { MatchBool result (AllOf IsOption (map P.shown types.now)) (SomeOf IsNoOption (map P.shown types.now)) }
 {
     for ty in types {
-        if !is_option(ty.kind()) {
+        if !is_option(ty.as_type().kind()) {
             return false;
         }
     }
@@ -107,20 +157,20 @@ fn is_option(kind: WasmTypeKind) -> bool
 }
 
 /// Adds `none` for each of the types, which are options. A constructor's refusal stands at `at`.
-pub(crate) fn push_omitted<V: WasmValue>(
+fn push_omitted<V: WasmValue, P: ParamType<V::Type>>(
     alloc: Global,
-    types: &[V::Type],
+    types: &[P],
     at: Span,
     vals: &mut Vec<V>,
 ) -> Result<(), ParserError>
-    requires { AllOf IsOption (map V.Type.tree types.now) }
+    requires { AllOf IsOption (map P.shown types.now) }
     ensures values { IfOk result (λ _. (others : List V) × (vals.new.items ≡ vals.old.items ++ others)
-        × AreOmitted V.tree V.is_of (map V.Type.tree types.now) others) }
-    ensures refused { IfErr result (RefusesOmitted V.is_full (map V.Type.tree types.now) at) }
+        × AreOmitted V.tree V.is_of (map P.shown types.now) others) }
+    ensures refused { IfErr result (RefusesOmitted V.is_full (map P.shown types.now) at) }
     ensures within { IfErr result (IsAtPlace at) }
 {
     for ty in types {
-        let val = match V::make_option(alloc, ty, None) {
+        let val = match V::make_option(alloc, ty.as_type(), None) {
             Ok(val) => val,
             Err(cause) => return Err(ParserError::with_cause(at.start..at.end, cause)),
         };
@@ -131,17 +181,17 @@ pub(crate) fn push_omitted<V: WasmValue>(
 
 /// `none` for each of the types, which have to be options, where a call of the name at `at` has
 /// nothing between its parentheses.
-pub fn omitted_params<V: WasmValue>(
+pub(crate) fn omitted_params<V: WasmValue, P: ParamType<V::Type>>(
     alloc: Global,
-    types: &[V::Type],
+    types: &[P],
     at: Span,
 ) -> Result<Vec<V>, ParserError>
     ensures count { IfOk result (λ vs. length vs.items ≡ length types.now) }
-    ensures values { IfOk result (λ vs. AreOmitted V.tree V.is_of (map V.Type.tree types.now) vs.items) }
-    ensures refused { IfErr result (RefusesNone V.is_full (map V.Type.tree types.now) at) }
+    ensures values { IfOk result (λ vs. AreOmitted V.tree V.is_of (map P.shown types.now) vs.items) }
+    ensures refused { IfErr result (RefusesNone V.is_full (map P.shown types.now) at) }
     ensures within { IfErr result (IsAtPlace at) }
 {
-    if !are_options(types) {
+    if !are_options::<V::Type, P>(types) {
         return Err(none_given(alloc, types.len(), at));
     }
     let mut vals = Vec::new(alloc);

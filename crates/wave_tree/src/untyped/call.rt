@@ -3,15 +3,15 @@ ghost use Rattle.std.specs.Prelude.{◌≡◌, ℕ, Some, length, IfOk, IfErr, o
 ghost use Rattle.std.specs.Fmt.{DisplaysOnOk};
 ghost use Rattle.wave_grammar.specs.SpannedTree.{slice};
 ghost use Rattle.wave_grammar.specs.ErrorSpans.{HasParamsKind, IsCausedInParams};
-ghost use Rattle.wave_lex.specs.declared.error.ParserErrorKind.TheVariants.{WasmValueError};
+ghost use Rattle.wave_lex.specs.declared.error.ParserErrorKind.TheVariants.{OutOfMemory, WasmValueError};
 ghost use Rattle.wave_lex.specs.Errors.{LiesInText};
 ghost use Rattle.wave_lex.specs.FunctionName.{IsName};
 ghost use Rattle.wave_tree.specs.UntypedCall.{IsParamsOf, IsCalledOf, NameFault, RefusesCall, MemoryAtName, GivesParamsAt, RefusesParamsAt, call_shown};
-ghost use Rattle.wave_tree.specs.Private.UntypedCall.{CallStandsIn};
+ghost use Rattle.wave_tree.specs.Private.UntypedCall.{CallStandsIn, params_place};
 ghost use Rattle.wave_tree.specs.DisplayKeeps.{IsCallKeptByDisplay};
 
 use crate::ast::Node;
-use crate::params::omitted_params;
+use crate::params::{ParamType, omitted_params};
 use crate::parser::{ParserError, ParserErrorKind};
 use crate::tokens::Tokens;
 use crate::untyped::display::write_node;
@@ -20,7 +20,7 @@ use std::borrow::CowStr;
 use std::fmt;
 use std::marker::Model;
 use wave_lex::lex::{FuncNameLexer, Span};
-use wave_wasm::wasm::WasmValue;
+use wave_wasm::wasm::{WasmFunc, WasmValue};
 
 /// The call that the whole text is: a function name at its start, and parameters in parentheses, each
 /// of at most 100 levels. The empty text is `UnexpectedEnd` at 0..0, and one that begins with no name
@@ -171,9 +171,58 @@ impl<'source> UntypedFuncCall<'source> {
         ensures within { IfErr result (λ e. LiesInText self.now.source e.span) }
         ensures caused { IfErr result (λ e. e.kind ≡ WasmValueError → IsCausedInParams self.now.name self.now.params e) }
     {
+        self.read_params(alloc, types)
+    }
+
+    /// The values of the parameters at the types that the function has for them, as by
+    /// `to_wasm_params`. Out of memory for the list of these types stands at the node of the
+    /// parameters, or at the name where nothing stands between the parentheses.
+    pub fn to_func_params<V: WasmValue, F: WasmFunc<Type = V::Type>>(
+        &self,
+        alloc: Global,
+        func: &F,
+    ) -> Result<Vec<V>, ParserError>
+        ensures count { IfOk result (λ vs. length vs.items ≡ length (F.func func.now).params) }
+        ensures values { IfOk result (λ vs. GivesParamsAt V.tree V.is_of (F.func func.now).params self.now.source self.now.params vs.items) }
+        ensures refused { IfErr result (RefusesParamsAt V.is_full (F.func func.now).params self.now.source self.now.name self.now.params) }
+        ensures kind { IfErr result HasParamsKind }
+        ensures within { IfErr result (λ e. LiesInText self.now.source e.span) }
+        ensures caused { IfErr result (λ e. e.kind ≡ WasmValueError → IsCausedInParams self.now.name self.now.params e) }
+    {
+        match func.params(alloc) {
+            Ok(types) => self.read_params(alloc, types.as_slice()),
+            Err(_) => Err(self.out_of_memory()),
+        }
+    }
+
+    /// The same of types that are had as they are or by references.
+    fn read_params<V: WasmValue, P: ParamType<V::Type>>(
+        &self,
+        alloc: Global,
+        types: &[P],
+    ) -> Result<Vec<V>, ParserError>
+        ensures count { IfOk result (λ vs. length vs.items ≡ length types.now) }
+        ensures values { IfOk result (λ vs. GivesParamsAt V.tree V.is_of (map P.shown types.now) self.now.source self.now.params vs.items) }
+        ensures refused { IfErr result (RefusesParamsAt V.is_full (map P.shown types.now) self.now.source self.now.name self.now.params) }
+        ensures kind { IfErr result HasParamsKind }
+        ensures within { IfErr result (λ e. LiesInText self.now.source e.span) }
+        ensures caused { IfErr result (λ e. e.kind ≡ WasmValueError → IsCausedInParams self.now.name self.now.params e) }
+    {
         match &self.params {
-            Some(params) => params.to_wasm_params(alloc, types, self.source.as_str()),
+            Some(params) => params.read_params(alloc, types, self.source.as_str()),
             None => omitted_params(alloc, types, self.name.start..self.name.end),
+        }
+    }
+
+    /// A refusal for lack of memory, at the parameters or else at the name.
+    fn out_of_memory(&self) -> ParserError
+        ensures kind { result.kind ≡ OutOfMemory }
+        ensures span { result.span ≡ params_place self.now.name self.now.params }
+        ensures stands { CallStandsIn self.now.source self.now.name self.now.params }
+    {
+        match &self.params {
+            Some(params) => params.out_of_memory(),
+            None => ParserError::new(ParserErrorKind::OutOfMemory, self.name.start..self.name.end),
         }
     }
 

@@ -7,7 +7,7 @@ use Rattle.wave_lex.specs.Errors.{LiesInText}
 use Rattle.wave_grammar.specs.ErrorSpans.{IsCausedInParams}
 use Rattle.wave_grammar.proofs.ErrorSpans.Nodes.{all_at_text, all_at_cause}
 use Rattle.wave_tree.proofs.CallReading.{all_kind}
-use Rattle.wave_tree.proofs.untyped.call.UntypedFuncCall.to_wasm_params.Goals as goal
+use Rattle.wave_tree.proofs.untyped.call.UntypedFuncCall.read_params.Goals as goal
 
 pub returns-in-None-clause-within : goal.returns-in-None-clause-within
 returns-in-None-clause-within g c =
@@ -21,4 +21,4 @@ returns-in-None-clause-caused g c =
 
 pub returns-in-None-clause-kind : goal.returns-in-None-clause-kind
 returns-in-None-clause-kind g c =
-    all_kind g.V.WasmValue.is_full (map g.V.Type.WasmType.tree c.args.types.now) c.self.inside.name c.omitted_params.result c.omitted_params.ensures.refused
+    all_kind g.V.WasmValue.is_full (map g.P.ParamType.shown c.args.types.now) c.self.inside.name c.omitted_params.result c.omitted_params.ensures.refused
