@@ -4,3 +4,5 @@ mod Shown
 mod OneExplanation
 mod Examples
 mod Steps
+mod Told
+mod Escapes

@@ -16,6 +16,7 @@ use Rattle.wave_tree.specs.Untyped.{Untyped, IsUntypedTaken}
 use Rattle.wasm_wave.specs.Places.{IsPlaceNear, IsMarked}
 use Rattle.wasm_wave.specs.Shown.{shown_lines}
 use Rattle.wasm_wave.specs.Paths.{Step, IsPartAt, shown_first, path_text}
+use Rattle.wasm_wave.specs.EscapeMarks.{IsSyntaxMark}
 
 -- the kinds that tell a fault of a value at its type
 abbrev pub is_of_type : ParserErrorKind → Bool
@@ -39,19 +40,21 @@ IsFront source u = (behind : Place) × IsUntypedTaken 1000 (start_of source) beh
 abbrev pub expected_line : List ℕ → List ℕ → List ℕ
 expected_line text more = codes "  = expected " ++ (shown_first 60 text ++ (more ++ codes "\n"))
 
--- the path leads from the value that begins the source, where one of type T is due, to the deepest part that holds the span, and the
--- first line says which type is due there
-pub record TellsPart (source : List ℕ) (span : Range ℕ) (T : TypeTree) (path lines : List ℕ) : Type 0 where
-  pub value : Untyped
-  pub front : IsFront source value
+-- the path leads from the node, where a value of type T is due, to the deepest part that holds the span, and the first line says which
+-- type is due there
+pub record TellsPart (source : List ℕ) (span : Range ℕ) (n : NodeTree) (T : TypeTree) (path lines : List ℕ) : Type 0 where
   pub steps : List Step
   pub part : NodeTree
   pub due : TypeTree
-  pub is_part : IsPartAt source span value.node T steps part due
+  pub is_part : IsPartAt source span n T steps part due
   pub path_is : path ≡ path_text steps
   pub more : List ℕ
   pub hints : List ℕ
   pub lines_are : lines ≡ expected_line (type_text due) more ++ hints
+
+-- so they do from the value that begins the source
+abbrev pub TellsPartOfValue : List ℕ → Range ℕ → TypeTree → List ℕ → List ℕ → Type 0
+TellsPartOfValue source span T path lines = (u : Untyped) × IsFront source u × TellsPart source span u.node T path lines
 
 -- what is marked is the span, or a name within it
 abbrev pub IsWithin : Range ℕ → Range ℕ → Type 0
@@ -81,15 +84,19 @@ pub record IsBlock (source message : List ℕ) (mark : Range ℕ) (path lines te
   pub text_is : text ≡ heading_with_path message line column path ++ (shown_lines front rest marked ++ lines)
 
 -- the text explains the refusal of the source, read without a type: a block without a path
-abbrev pub IsUntypedExplained : List ℕ → Diagnostic → List ℕ → Type 0
-IsUntypedExplained source e text = (lines : List ℕ) × IsBlock source (error_text e) e.span [] lines text
+pub record IsUntypedExplained (source : List ℕ) (e : Diagnostic) (text : List ℕ) : Type 0 where
+  pub mark : Range ℕ
+  pub is_mark : IsSyntaxMark source e mark
+  pub lines : List ℕ
+  pub block : IsBlock source (error_text e) mark [] lines text
 
 -- the text explains the refusal of the source at the type T: a block with the path to the part that is wrong and the type that is due
 -- there, or without a path where no part is looked for
 pub record IsValueExplained (source : List ℕ) (T : TypeTree) (e : Diagnostic) (text : List ℕ) : Type 0 where
   pub mark : Range ℕ
-  pub within : IsWithin e.span mark
   pub path : List ℕ
   pub lines : List ℕ
-  pub told : TellsPart source e.span T path lines ⊎ (path ≡ []) × HasNoPart e.kind source
+  pub told :
+      TellsPartOfValue source e.span T path lines × IsWithin e.span mark
+      ⊎ (path ≡ []) × HasNoPart e.kind source × IsSyntaxMark source e mark
   pub block : IsBlock source (error_text e) mark path lines text

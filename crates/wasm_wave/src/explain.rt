@@ -14,13 +14,17 @@ use unicode_width::UnicodeWidthStr;
 use wave_lex::error::ParserError;
 use wave_lex::lex::Span;
 
+mod call;
 mod due;
+mod escape;
 mod hints;
 mod names;
+mod params;
 mod path;
 mod syntax;
 mod value;
 
+pub use call::{explain_call, explain_untyped_call};
 pub use value::{explain_untyped, explain_value};
 
 /// How many scalars of a line are shown before the place, and how many from there on.

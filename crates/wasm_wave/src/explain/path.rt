@@ -435,7 +435,7 @@ fn type_alone<T: WasmType>(ty: &T) -> Option<&T>
 }
 
 /// The first of the first `count` nodes that holds the span.
-fn item_at<'a>(nodes: &'a [Node], count: usize, span: &Span) -> Option<(usize, &'a Node)>
+pub(crate) fn item_at<'a>(nodes: &'a [Node], count: usize, span: &Span) -> Option<(usize, &'a Node)>
     ensures none { IfNone result (NoneHolds nodes.now count span.now) }
     ensures some { IfSome result (λ found. (found.0 < count) × (slice_get nodes.now found.0 ≡ Some found.1.now) × LiesInNode found.1.now span.now) }
 {

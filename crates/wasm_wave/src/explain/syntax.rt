@@ -1,12 +1,23 @@
 //! How a fault of syntax may be mended.
+use super::escape::unknown_escape;
 use super::hints::{ESCAPES, line, push_hint};
 use super::is_invisible;
 use crate::ast::{Node, NodeType};
-use crate::expected::expected_at;
+use crate::expected::{Expected, expected_at};
 use crate::parser::MAX_LEVELS;
 use crate::place::place_of;
 use std::alloc::{AllocError, Global};
 use wave_lex::error::{ParserError, ParserErrorKind};
+use wave_lex::lex::{FuncNameLexer, Span};
+
+/// What a text is read as.
+#[derive(Clone, Copy, PartialEq, Eq)]
+pub(crate) enum Reading {
+    /// A value.
+    Value,
+    /// A call.
+    Call,
+}
 
 /// The lines beside a refusal of a text that has no value to be looked at: what might have stood there,
 /// and a hint.
@@ -14,14 +25,16 @@ pub(crate) fn syntax_lines(
     alloc: Global,
     error: &ParserError,
     source: &str,
+    reading: Reading,
 ) -> Result<String, AllocError> {
-    let hint = syntax_hint(alloc, error, source)?;
+    let at = error.span().start;
+    let hint = syntax_hint(alloc, error, source, reading)?;
     let mut lines = match error.kind() {
         ParserErrorKind::UnexpectedToken | ParserErrorKind::UnexpectedEnd => {
-            expected_line(alloc, source, error.span().start)?
+            expected_line(alloc, source, at, reading)?
         }
         ParserErrorKind::InvalidToken if hint.is_empty() => {
-            expected_line(alloc, source, error.span().start)?
+            expected_line(alloc, source, at, reading)?
         }
         _ => String::new(alloc),
     };
@@ -29,9 +42,16 @@ pub(crate) fn syntax_lines(
     Ok(lines)
 }
 
-/// The line that says what might have stood at the place, where what stands before it begins a value.
-fn expected_line(alloc: Global, source: &str, at: usize) -> Result<String, AllocError> {
-    let expected = expected_at(alloc, source, at, MAX_LEVELS)?;
+/// The line that says what might have stood at the place, where what stands before it begins such a text.
+fn expected_line(
+    alloc: Global,
+    source: &str,
+    at: usize,
+    reading: Reading,
+) -> Result<String, AllocError> {
+    let Some(expected) = expected_in(alloc, source, at, reading)? else {
+        return line(alloc, "");
+    };
     if expected.classes.is_empty() && !expected.may_end {
         return line(alloc, "");
     }
@@ -41,10 +61,34 @@ fn expected_line(alloc: Global, source: &str, at: usize) -> Result<String, Alloc
     Ok(lines)
 }
 
+/// What might have stood at the place; nothing is told in a call.
+fn expected_in(
+    alloc: Global,
+    source: &str,
+    at: usize,
+    reading: Reading,
+) -> Result<Option<Expected>, AllocError> {
+    match reading {
+        Reading::Value => Ok(Some(expected_at(alloc, source, at, MAX_LEVELS)?)),
+        Reading::Call => Ok(None),
+    }
+}
+
 /// How what was refused may be mended.
-fn syntax_hint(alloc: Global, error: &ParserError, source: &str) -> Result<String, AllocError> {
+fn syntax_hint(
+    alloc: Global,
+    error: &ParserError,
+    source: &str,
+    reading: Reading,
+) -> Result<String, AllocError> {
+    if reading == Reading::Call {
+        let hint = call_hint(error, source);
+        if !hint.is_empty() {
+            return line(alloc, hint);
+        }
+    }
     match error.kind() {
-        ParserErrorKind::UnexpectedEnd => unclosed(alloc, source),
+        ParserErrorKind::UnexpectedEnd => unclosed(alloc, source, reading),
         ParserErrorKind::EmptyTuple => line(alloc, "a tuple has at least one item"),
         ParserErrorKind::DuplicateFlag => line(alloc, "a flag stands once"),
         ParserErrorKind::OutOfMemory => line(alloc, ""),
@@ -53,13 +97,47 @@ fn syntax_hint(alloc: Global, error: &ParserError, source: &str) -> Result<Strin
     }
 }
 
+// ---- calls
+
+/// What helps with a text that is no call by its beginning, or that goes on behind one.
+fn call_hint(error: &ParserError, source: &str) -> &'static str {
+    match error.kind() {
+        ParserErrorKind::UnexpectedEnd | ParserErrorKind::InvalidToken
+            if name_end(source).is_none() => { "a call begins with the function's name" }
+        ParserErrorKind::TrailingCharacters if begins_line(source, error.span().start) => {
+            "there is one call a text"
+        }
+        _ => "",
+    }
+}
+
+/// Where the function name at the start of the text ends.
+fn name_end(source: &str) -> Option<usize> {
+    let mut names = FuncNameLexer::new(source);
+    match names.next() {
+        Some(Ok(_)) => Some(names.span().end),
+        _ => None,
+    }
+}
+
+/// Whether nothing but blanks stands before the place on its line, which isn't the first.
+fn begins_line(source: &str, at: usize) -> bool {
+    let place = place_of(source, at);
+    place.line > 1 && place.front.trim().is_empty()
+}
+
 // ---- the end
 
 /// The last bracket that is open at the end of the text.
-fn unclosed(alloc: Global, source: &str) -> Result<String, AllocError> {
-    let expected = expected_at(alloc, source, source.len(), MAX_LEVELS)?;
+fn unclosed(alloc: Global, source: &str, reading: Reading) -> Result<String, AllocError> {
+    let start = match reading {
+        Reading::Value => 0,
+        Reading::Call => name_end(source).unwrap_or(0),
+    };
+    let text = source.get(start..source.len()).unwrap_or("");
+    let expected = expected_at(alloc, text, text.len(), MAX_LEVELS)?;
     match expected.open_brackets.last() {
-        Some(bracket) => open_bracket(alloc, source, bracket.start),
+        Some(bracket) => open_bracket(alloc, source, bracket.start.saturating_add(start)),
         None => line(alloc, ""),
     }
 }
@@ -133,32 +211,15 @@ fn invisible_name(scalar: char) -> &'static str {
     }
 }
 
-/// What is wrong between quotes.
-#[derive(Clone, Copy)]
-enum QuoteFault {
-    /// The line ends before the closing quote.
-    Unclosed,
-    /// No escape has this scalar behind the backslash.
-    Escape(char),
-    /// All escapes begin as escapes do, and the quote is closed.
-    Other,
-}
-
 /// What helps where a string or a char isn't one.
 fn quoted(alloc: Global, source: &str, at: usize, quote: char) -> Result<String, AllocError> {
-    let text = source.get(at.saturating_add(1)..source.len()).unwrap_or("");
-    match quote_fault(text, quote) {
-        QuoteFault::Escape(scalar) => unknown_escape(alloc, scalar),
-        QuoteFault::Unclosed if quote == '"' => {
-            line(
-                alloc,
-                "the string isn't closed on its line; a string of more lines stands in \"\"\"",
-            )
-        }
-        QuoteFault::Other if quote == '"' => {
-            line(alloc, "\\u{..} has one to six hexadecimal digits in braces")
-        }
-        _ => line(
+    match unknown_escape(source, at) {
+        Some(mark) => escape_hint(alloc, source, mark),
+        None if quote == '"' => line(
+            alloc,
+            "the string isn't closed on its line; a string of more lines stands in \"\"\"",
+        ),
+        None => line(
             alloc,
             "a char is one character in single quotes; a string stands in double quotes",
         ),
@@ -166,36 +227,19 @@ fn quoted(alloc: Global, source: &str, at: usize, quote: char) -> Result<String,
 }
 
 /// The lines of an escape that there isn't.
-fn unknown_escape(alloc: Global, scalar: char) -> Result<String, AllocError> {
-    let mut name = String::new(alloc);
-    name.push('\\')?;
-    name.push(scalar)?;
+fn escape_hint(alloc: Global, source: &str, mark: Span) -> Result<String, AllocError> {
+    let name = source.get(mark.start..mark.end).unwrap_or("");
+    let behind = source.get(mark.end..source.len()).unwrap_or("");
+    if name == "\\u" && behind.starts_with('{') {
+        return line(
+            alloc,
+            "\\u{..} has one to six hexadecimal digits in braces, the number of a character",
+        );
+    }
     let mut lines = String::new(alloc);
-    push_hint(&mut lines, "unknown escape ", name.as_str(), "")?;
+    push_hint(&mut lines, "unknown escape ", name, "")?;
     push_hint(&mut lines, ESCAPES, "", "")?;
     Ok(lines)
-}
-
-/// The first fault behind the opening quote.
-fn quote_fault(text: &str, quote: char) -> QuoteFault {
-    let mut behind = ' ';
-    for scalar in text.chars() {
-        if behind == '\\' {
-            if !matches!(scalar, '\'' | '"' | '\\' | 't' | 'n' | 'r' | 'u') {
-                return QuoteFault::Escape(scalar);
-            }
-            behind = if scalar == 'u' { 'u' } else { ' ' };
-        } else if behind == 'u' && scalar != '{' {
-            return QuoteFault::Escape('u');
-        } else if scalar == quote {
-            return QuoteFault::Other;
-        } else if scalar == '\n' {
-            return QuoteFault::Unclosed;
-        } else {
-            behind = if scalar == '\\' { '\\' } else { ' ' };
-        }
-    }
-    QuoteFault::Unclosed
 }
 
 // ---- words

@@ -1,15 +1,18 @@
 //! A refusal of a text at a type, as a person is shown it.
-ghost use Rattle.std.specs.Prelude.{◌≡◌, ◌⊎◌, ◌++◌, [], IfOk, IfSome, IfNone};
+ghost use Rattle.std.specs.Prelude.{ℕ, ◌≡◌, ◌⊎◌, ◌++◌, List, [], IfOk, IfSome, IfNone};
 ghost use Rattle.std.specs.String.{string_bytes};
 ghost use Rattle.wave_wasm.specs.Types.{TypeTree};
 ghost use Rattle.wave_lex.specs.Errors.{error_text};
+ghost use Rattle.wave_grammar.specs.TypedReading.{IsValueOf};
 ghost use Rattle.wasm_wave.specs.ValueExplained.{is_of_type, HasNoPart, IsFront, TellsPart, IsWithin, IsBlock, IsUntypedExplained, IsValueExplained, heading_with_path, before_path};
 
 use super::due::push_expected;
+use super::escape::syntax_mark;
 use super::hints::hints_of;
 use super::path::part_at;
-use super::syntax::syntax_lines;
+use super::syntax::{Reading, syntax_lines};
 use super::{marked_of, shown_lines};
+use crate::ast::Node;
 use crate::parser::{MAX_LEVELS, Parser};
 use crate::place::{Place, place_of};
 use crate::untyped::UntypedValue;
@@ -65,7 +68,8 @@ fn explain_part<T: WasmType>(
 {
     let mut path = String::new(alloc);
     let mut lines = String::new(alloc);
-    let mark = tell_part(alloc, error, source, value, ty, &mut path, &mut lines)?;
+    let node = value.node();
+    let mark = tell_part(alloc, error, source, node, ty, &mut path, &mut lines)?;
     let message = error.to_string(alloc)?;
     block(
         alloc,
@@ -79,7 +83,8 @@ fn explain_part<T: WasmType>(
 
 /// The refusal of a text that is read without a type, as by `UntypedValue::parse`: what `explain` shows,
 /// and beside it what might have stood there and hints how to mend it, on at most three lines that begin
-/// with `=`:
+/// with `=`. In a string or a char an escape that there isn't is marked, with its place, and not the
+/// quote where no token begins:
 ///
 /// ```text
 /// unexpected token: Number at 3..4
@@ -97,12 +102,24 @@ pub fn explain_untyped(
 ) -> Result<String, AllocError>
     ensures { IfOk result (λ text. IsUntypedExplained source.now error.now (string_bytes text)) }
 {
-    let lines = syntax_lines(alloc, error, source)?;
+    explain_syntax(alloc, error, source, Reading::Value)
+}
+
+/// The refusal of a text that is read without a type, as a value or as a call.
+pub(crate) fn explain_syntax(
+    alloc: Global,
+    error: &ParserError,
+    source: &str,
+    reading: Reading,
+) -> Result<String, AllocError>
+    ensures { IfOk result (λ text. IsUntypedExplained source.now error.now (string_bytes text)) }
+{
+    let lines = syntax_lines(alloc, error, source, reading)?;
     let message = error.to_string(alloc)?;
     block(
         alloc,
         message.as_str(),
-        error.span(),
+        syntax_mark(error, source),
         source,
         "",
         lines.as_str(),
@@ -140,7 +157,7 @@ fn untyped(
 }
 
 /// Whether the kind tells a fault of a value at its type.
-fn is_of_type(kind: ParserErrorKind) -> bool
+pub(crate) fn is_of_type(kind: ParserErrorKind) -> bool
     ensures { result ≡ is_of_type kind }
 {
     matches!(
@@ -154,25 +171,25 @@ fn is_of_type(kind: ParserErrorKind) -> bool
     )
 }
 
-/// Adds the path to the part of the value that is wrong, and the lines that say what is due there; what is
-/// to be marked.
-fn tell_part<T: WasmType>(
+/// Adds the path from the node to the part of it that is wrong, and the lines that say what is due there;
+/// what is to be marked.
+pub(crate) fn tell_part<T: WasmType>(
     alloc: Global,
     error: &ParserError,
     source: &str,
-    value: &UntypedValue<'_>,
+    node: &Node,
     ty: &T,
     path: &mut String,
     lines: &mut String,
 ) -> Result<Span, AllocError>
-    requires path { string_bytes path.old ≡ [] }
     requires lines { string_bytes lines.old ≡ [] }
-    requires front { IsFront source.now value.now }
-    ensures told { IfOk result (λ _. TellsPart source.now error.now.span (T.tree ty.now) (string_bytes path.new) (string_bytes lines.new)) }
+    requires value { IsValueOf source.now node.now }
+    ensures told { IfOk result (λ _. (way : List ℕ) × (string_bytes path.new ≡ string_bytes path.old ++ way)
+        × TellsPart source.now error.now.span node.now (T.tree ty.now) way (string_bytes lines.new)) }
     ensures within { IfOk result (λ mark. IsWithin error.now.span mark) }
 {
     let span = error.span();
-    let part = part_at(alloc, source, value.node(), ty, &span, path)?;
+    let part = part_at(alloc, source, node, ty, &span, path)?;
     push_expected(alloc, lines, error, part.0, part.1)?;
     let hints = hints_of(alloc, error, source, part.0, part.1)?;
     lines.push_str(hints.lines.as_str())?;
@@ -191,7 +208,7 @@ fn within(span: Span, mark: Option<Span>) -> Span
 }
 
 /// The message, the place and the path, the line with the mark, and the lines.
-fn block(
+pub(crate) fn block(
     alloc: Global,
     message: &str,
     mark: Span,

@@ -1,11 +1,14 @@
 //! Worked rows of refusals at types, as a person is shown them: the path, the type that is due, the names
 //! that there are, and hints.
 use crate::rows::types::type_of;
-use std::alloc::Global;
+use std::alloc::{AllocError, Global};
 use std::test::Fail;
-use wasm_wave::explain::explain_value;
+use wasm_wave::explain::{explain_call, explain_untyped_call, explain_value};
 use wasm_wave::from_str;
-use wasm_wave::value::{Type, Value};
+use wasm_wave::parser::ParserError;
+use wasm_wave::untyped::UntypedFuncCall;
+use wasm_wave::value::{FuncType, Type, Value};
+use wasm_wave::wasm::WasmFunc;
 
 /// A type, a text, and the block that is shown.
 const PATHS: [(&str, &str, &str); 14] = [
@@ -419,9 +422,370 @@ const HINTS: [(&str, &str, &str); 38] = [
     ),
 ];
 
+/// A type, a text with an escape that there isn't, and the block that is shown.
+const ESCAPES: [(&str, &str, &str); 6] = [
+    (
+        "string",
+        "\"tw\\qo\"",
+        "invalid token at 0..1
+ --> line 1, column 4
+  | \"tw\\qo\"
+  |    ^^
+  = unknown escape \\q
+  = escapes are \\', \\\", \\\\, \\t, \\n, \\r and \\u{..}, the number of a character in hexadecimal
+",
+    ),
+    (
+        "list<string>",
+        "[\"a\",\n \"\\n\\ü\"]",
+        "invalid token at 7..8
+ --> line 2, column 5
+  |  \"\\n\\ü\"]
+  |     ^^
+  = unknown escape \\ü
+  = escapes are \\', \\\", \\\\, \\t, \\n, \\r and \\u{..}, the number of a character in hexadecimal
+",
+    ),
+    (
+        "char",
+        "'\\q'",
+        "invalid token at 0..1
+ --> line 1, column 2
+  | '\\q'
+  |  ^^
+  = unknown escape \\q
+  = escapes are \\', \\\", \\\\, \\t, \\n, \\r and \\u{..}, the number of a character in hexadecimal
+",
+    ),
+    (
+        "string",
+        "\"\\u{zz}\"",
+        "invalid token at 0..1
+ --> line 1, column 2
+  | \"\\u{zz}\"
+  |  ^^
+  = \\u{..} has one to six hexadecimal digits in braces, the number of a character
+",
+    ),
+    (
+        "string",
+        "\"a\\n",
+        "invalid token at 0..1
+ --> line 1, column 1
+  | \"a\\n
+  | ^
+  = the string isn't closed on its line; a string of more lines stands in \"\"\"
+",
+    ),
+    (
+        "string",
+        "\"\"\"\n a\\q\n \"\"\"",
+        "invalid character escape at 6..7
+ --> line 2, column 3
+  |  a\\q
+  |   ^
+  = expected string, text in double quotes
+  = escapes are \\', \\\", \\\\, \\t, \\n, \\r and \\u{..}, the number of a character in hexadecimal
+",
+    ),
+];
+
+/// A function's type, a call, and the block that is shown.
+const CALLS: [(&str, &str, &str); 9] = [
+    (
+        "func(a: u8, b: record { servers: list<record { port: u16 }> })",
+        "f(1, {servers: [{port: 1}, {port: 80800}]})",
+        "invalid value at 34..39
+ --> line 1, column 35, at parameter b.servers[1].port
+  | f(1, {servers: [{port: 1}, {port: 80800}]})
+  |                                   ^^^^^
+  = expected u16, a whole number from 0 to 65535
+",
+    ),
+    (
+        "func(a: u8, b: string) -> bool",
+        "f(1,\n  2)",
+        "invalid value type at 7..8
+ --> line 2, column 3, at parameter b
+  |   2)
+  |   ^
+  = expected string, found a number
+  = a string stands in double quotes
+",
+    ),
+    (
+        "func(a: option<u8>)",
+        "ns:pkg/face.method(300)",
+        "invalid value at 19..22
+ --> line 1, column 20, at parameter a
+  | ns:pkg/face.method(300)
+  |                    ^^^
+  = expected u8, a whole number from 0 to 255
+",
+    ),
+    (
+        "func(a: record { host: string }, b: record { port: option<u16> })",
+        "f({host: \"a\"}, {prot: 1})",
+        "invalid value at 15..24
+ --> line 1, column 17, at parameter b
+  | f({host: \"a\"}, {prot: 1})
+  |                 ^^^^
+  = expected record { port: option<u16> }
+  = unknown field \"prot\"; did you mean \"port\"?
+  = fields: port
+",
+    ),
+    (
+        "func(a: u8, b: option<string>, c: list<u8>, d: char)",
+        "f(1)",
+        "invalid params: missing required param(s) at 3..4
+ --> line 1, column 4
+  | f(1)
+  |    ^
+  = parameter \"c\" of type list<u8> is missing
+  = the parameters are (a: u8, b: option<string>, c: list<u8>, d: char)
+",
+    ),
+    (
+        "func(first-parameter: list<u8>, second-parameter: list<string>, third: u8)",
+        "f()",
+        "invalid params: no params provided, but 3 required at 0..1
+ --> line 1, column 1
+  | f()
+  | ^
+  = parameter \"first-parameter\" of type list<u8> is missing
+  = the parameters are (first-parameter: list<u8>, second-parameter: list<string>, …
+",
+    ),
+    (
+        "func(a: u8, b: u8)",
+        "f(1, 2, 3)",
+        "invalid params: more param(s) than expected at 8..9
+ --> line 1, column 9
+  | f(1, 2, 3)
+  |         ^
+  = the function has 2 parameters
+  = the parameters are (a: u8, b: u8)
+",
+    ),
+    (
+        "func()",
+        "f(1)",
+        "invalid params: more param(s) than expected at 2..3
+ --> line 1, column 3
+  | f(1)
+  |   ^
+  = the function has no parameters
+",
+    ),
+    (
+        "func(a: u8)",
+        "f(1",
+        "unexpected end of input at 3..3
+ --> line 1, column 4
+  | f(1
+  |    ^
+  = the ( of line 1, column 2 is not closed
+",
+    ),
+];
+
+/// What is no call, and the block that is shown.
+const NO_CALLS: [(&str, &str); 6] = [
+    (
+        "f(\"\\q\")",
+        "invalid token at 2..3
+ --> line 1, column 4
+  | f(\"\\q\")
+  |    ^^
+  = unknown escape \\q
+  = escapes are \\', \\\", \\\\, \\t, \\n, \\r and \\u{..}, the number of a character in hexadecimal
+",
+    ),
+    (
+        "",
+        "unexpected end of input at 0..0
+ --> line 1, column 1
+  | 
+  | ^
+  = a call begins with the function's name
+",
+    ),
+    (
+        "(1)",
+        "invalid token at 0..1
+ --> line 1, column 1
+  | (1)
+  | ^
+  = a call begins with the function's name
+",
+    ),
+    (
+        "f(1)\n  g(2)",
+        "trailing characters after value at 7..8
+ --> line 2, column 3
+  |   g(2)
+  |   ^
+  = there is one call a text
+",
+    ),
+    (
+        "ns:pkg/face@1.0.0([{a: 1}",
+        "unexpected end of input at 25..25
+ --> line 1, column 26
+  | ns:pkg/face@1.0.0([{a: 1}
+  |                          ^
+  = the [ of line 1, column 19 is not closed
+",
+    ),
+    (
+        "f(None)",
+        "unexpected token: LabelOrKeyword at 3..6
+ --> line 1, column 4
+  | f(None)
+  |    ^^^
+  = a keyword has small letters: none
+",
+    ),
+];
+
+#[test]
+fn calls(rt: HostRuntime) -> Result<(), Fail> {
+    let alloc = rt.alloc();
+    let mut found = String::new(alloc);
+    for (func, call, due) in &CALLS {
+        let func = FuncType::parse(alloc, func)?;
+        let block = explained_call(alloc, &func, call)?;
+        if block.as_str() != *due {
+            found.push_str(block.as_str())?;
+        }
+    }
+    assert_eq!(rt; found.as_str(), "");
+    Ok(())
+}
+
+#[test]
+fn no_calls(rt: HostRuntime) -> Result<(), Fail> {
+    let alloc = rt.alloc();
+    let mut found = String::new(alloc);
+    for (call, due) in &NO_CALLS {
+        let block = match UntypedFuncCall::parse(alloc, call) {
+            Ok(_) => String::new(alloc),
+            Err(error) => explain_untyped_call(alloc, &error, call)?,
+        };
+        if block.as_str() != *due {
+            found.push_str(block.as_str())?;
+        }
+    }
+    assert_eq!(rt; found.as_str(), "");
+    Ok(())
+}
+
+#[test]
+fn unnamed_parameters(rt: HostRuntime) -> Result<(), Fail> {
+    let func = Unnamed {
+        first: Type::U8,
+        second: Type::STRING,
+    };
+    let block = explained_call(rt.alloc(), &func, "f(1, 2)")?;
+    assert_eq!(rt;
+        block.as_str(),
+        "invalid value type at 5..6
+ --> line 1, column 6, at parameter 2
+  | f(1, 2)
+  |      ^
+  = expected string, found a number
+  = a string stands in double quotes
+"
+    );
+    let block = explained_call(rt.alloc(), &func, "f(1)")?;
+    assert_eq!(rt;
+        block.as_str(),
+        "invalid params: missing required param(s) at 3..4
+ --> line 1, column 4
+  | f(1)
+  |    ^
+  = parameter 2 of type string is missing
+  = the parameters are (u8, string)
+"
+    );
+    Ok(())
+}
+
+/// A function of two parameters that have no names.
+#[derive(Drop)]
+struct Unnamed {
+    first: Type,
+    second: Type,
+}
+
+impl WasmFunc for Unnamed {
+    ghost use Rattle.std.specs.Prelude.{[], ◌∷◌};
+
+    type Type = Type;
+
+    ghost func = { λ f. record { params = f.first ∷ f.second ∷ []; param_names = []; results = []; result_names = [] } };
+
+    fn params(&self, alloc: Global) -> Result<Vec<&Type>, AllocError> {
+        Ok(Vec::from_array(alloc, [&self.first, &self.second])?)
+    }
+
+    fn param_names(&self, alloc: Global) -> Result<Vec<&str>, AllocError> {
+        Ok(Vec::new(alloc))
+    }
+
+    fn results(&self, alloc: Global) -> Result<Vec<&Type>, AllocError> {
+        Ok(Vec::new(alloc))
+    }
+
+    fn result_names(&self, alloc: Global) -> Result<Vec<&str>, AllocError> {
+        Ok(Vec::new(alloc))
+    }
+}
+
+/// The block that is shown of the refusal of the call at the function's type; nothing where it is taken.
+fn explained_call<F: WasmFunc<Type = Type>>(
+    alloc: Global,
+    func: &F,
+    text: &str,
+) -> Result<String, Fail> {
+    match arguments(alloc, func, text) {
+        Ok(_) => Ok(String::new(alloc)),
+        Err(error) => Ok(explain_call(alloc, &error, text, func)?),
+    }
+}
+
+/// The values of the parameters.
+fn arguments<F: WasmFunc<Type = Type>>(
+    alloc: Global,
+    func: &F,
+    text: &str,
+) -> Result<Vec<Value>, ParserError> {
+    let call = UntypedFuncCall::parse(alloc, text)?;
+    let types = types_of(alloc, func)?;
+    call.to_wasm_params(alloc, types.as_slice())
+}
+
+/// The types of the parameters.
+fn types_of<F: WasmFunc<Type = Type>>(alloc: Global, func: &F) -> Result<Vec<Type>, AllocError> {
+    let mut types = Vec::new(alloc);
+    for ty in &func.params(alloc)? {
+        let ty: &Type = *ty;
+        types.push(ty.clone()?)?;
+    }
+    Ok(types)
+}
+
 #[test]
 fn paths(rt: HostRuntime) -> Result<(), Fail> {
     let found = wrong_blocks(rt.alloc(), &PATHS)?;
+    assert_eq!(rt; found.as_str(), "");
+    Ok(())
+}
+
+#[test]
+fn escapes(rt: HostRuntime) -> Result<(), Fail> {
+    let found = wrong_blocks(rt.alloc(), &ESCAPES)?;
     assert_eq!(rt; found.as_str(), "");
     Ok(())
 }

@@ -1,0 +1,17 @@
+use Rattle.std.proofs.Common.{◌≡◌, ◌⊎◌, [], sym, subst, string_bytes, ◌∙◌}
+use Rattle.wasm_wave.specs.EscapeMarks.{IsSyntaxMark}
+use Rattle.wasm_wave.specs.ValueExplained.{IsBlock, IsWithin}
+use Rattle.wasm_wave.specs.CallExplained.{TellsParameter, HasNoParameter}
+use Rattle.wasm_wave.proofs.Steps.{ok_so}
+use Rattle.wasm_wave.proofs.Told.{params_again}
+use Rattle.wasm_wave.proofs.explain.call.explain_params.Goals as goal
+
+pub returns : goal.returns
+returns g c =
+    ok_so c.block.result (λ text block. record {
+      mark = c.in_ok-mark.mark;
+      path = c.as_str-2.result.now;
+      lines = c.as_str-3.result.now;
+      told = params_again c.args.source.now (g.F.WasmFunc.func c.args.func.now) c.args.error.now _ _ _ _ _ (sym c.as_str-2.ensures.value) (sym c.as_str-3.ensures.value) c.in_ok-mark.ensures;
+      block = subst (λ m. IsBlock c.args.source.now m c.in_ok-mark.mark c.as_str-2.result.now c.as_str-3.result.now (string_bytes text)) (c.as_str.ensures.value ∙ c.in_ok-message.ensures.ok) block;
+    }) c.block.ensures

@@ -1,0 +1,13 @@
+use Rattle.std.proofs.Common.{[], subst, string_bytes, ◌∙◌}
+use Rattle.wasm_wave.specs.ValueExplained.{IsBlock}
+use Rattle.wasm_wave.proofs.Steps.{ok_so}
+use Rattle.wasm_wave.proofs.explain.value.explain_syntax.Goals as goal
+
+pub returns : goal.returns
+returns c =
+    ok_so c.block.result (λ text block. record {
+      mark = c.syntax_mark.result;
+      is_mark = c.syntax_mark.ensures;
+      lines = c.as_str-2.result.now;
+      block = subst (λ m. IsBlock c.args.source.now m c.syntax_mark.result [] c.as_str-2.result.now (string_bytes text)) (c.as_str.ensures.value ∙ c.in_ok-message.ensures.ok) block;
+    }) c.block.ensures
