@@ -5,8 +5,8 @@ use std::alloc::AllocError;
 use std::test::Fail;
 use wasm_wave::parser::{ParserError, parse_raw_func_call};
 use wasm_wave::untyped::UntypedFuncCall;
-use wasm_wave::value::{Type, Value};
-use wasm_wave::wasm::{DisplayFuncArgs, DisplayFuncResults};
+use wasm_wave::value::{FuncType, Type, Value};
+use wasm_wave::wasm::{DisplayFuncArgs, DisplayFuncResults, WasmFunc, WasmValue};
 
 /// How the call is displayed, or why it is refused.
 fn shown(
@@ -44,6 +44,15 @@ fn parameter_count(rt: HostRuntime, text: &str) -> Result<String, AllocError> {
 /// The parameters of the call at the types.
 fn params(rt: HostRuntime, types: &[Type], text: &str) -> Result<Vec<Value>, ParserError> {
     UntypedFuncCall::parse(rt.alloc(), text)?.to_wasm_params(rt.alloc(), types)
+}
+
+/// The parameters of the call at those of the function, by what any function and any value promise.
+fn params_of<V: WasmValue, F: WasmFunc<Type = V::Type>>(
+    rt: HostRuntime,
+    func: &F,
+    text: &str,
+) -> Result<Vec<V>, ParserError> {
+    UntypedFuncCall::parse(rt.alloc(), text)?.to_func_params(rt.alloc(), func)
 }
 
 /// The values of the node of the call's parameters at the types; none where it has no node.
@@ -191,6 +200,36 @@ const PARAMETERS: &[Row] = &[
     ("results", &["u16"], "f(1)", "(1) -> 1"),
     ("results", &["u16", "u16"], "f(1, 2)", "(1, 2) -> (1, 2)"),
 ];
+
+/// A function, the text of a call and its arguments or the refusal.
+const FUNCTIONS: &[(&str, &str, &str)] = &[
+    ("func(a: u8, b: option<u8>)", "f(1)", "(1, none)"),
+    ("func(a: u8) -> u8", "f(1)", "(1)"),
+    ("func()", "f()", "()"),
+    (
+        "func(a: u8, b: u8)",
+        "f(1)",
+        "invalid params: missing required param(s) at 3..4",
+    ),
+    (
+        "func(a: u8)",
+        "f()",
+        "invalid params: no params provided, but 1 required at 0..1",
+    ),
+];
+
+#[test]
+fn parameters_of_a_function(rt: HostRuntime) -> Result<(), Fail> {
+    for row in FUNCTIONS {
+        let (func, text, expected) = *row;
+        let func = FuncType::parse(rt.alloc(), func)?;
+        let found = arguments(rt, params_of::<Value, FuncType>(rt, &func, text))?;
+        if found.as_str() != expected {
+            return Err(Fail::new(format_args!("{text} gives {found}")));
+        }
+    }
+    Ok(())
+}
 
 #[test]
 fn displays_and_parameters(rt: HostRuntime) -> Result<(), Fail> {
