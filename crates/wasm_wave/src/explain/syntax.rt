@@ -3,7 +3,7 @@ use super::escape::unknown_escape;
 use super::hints::{ESCAPES, line, push_hint};
 use super::is_invisible;
 use crate::ast::{Node, NodeType};
-use crate::expected::{Expected, expected_at};
+use crate::expected::{Expected, expected_at, expected_in_call_at};
 use crate::parser::MAX_LEVELS;
 use crate::place::place_of;
 use std::alloc::{AllocError, Global};
@@ -61,7 +61,7 @@ fn expected_line(
     Ok(lines)
 }
 
-/// What might have stood at the place; nothing is told in a call.
+/// What might have stood at the place; none where a call has no name before it.
 fn expected_in(
     alloc: Global,
     source: &str,
@@ -70,7 +70,7 @@ fn expected_in(
 ) -> Result<Option<Expected>, AllocError> {
     match reading {
         Reading::Value => Ok(Some(expected_at(alloc, source, at, MAX_LEVELS)?)),
-        Reading::Call => Ok(None),
+        Reading::Call => expected_in_call_at(alloc, source, at),
     }
 }
 
@@ -130,14 +130,11 @@ fn begins_line(source: &str, at: usize) -> bool {
 
 /// The last bracket that is open at the end of the text.
 fn unclosed(alloc: Global, source: &str, reading: Reading) -> Result<String, AllocError> {
-    let start = match reading {
-        Reading::Value => 0,
-        Reading::Call => name_end(source).unwrap_or(0),
+    let Some(expected) = expected_in(alloc, source, source.len(), reading)? else {
+        return line(alloc, "");
     };
-    let text = source.get(start..source.len()).unwrap_or("");
-    let expected = expected_at(alloc, text, text.len(), MAX_LEVELS)?;
     match expected.open_brackets.last() {
-        Some(bracket) => open_bracket(alloc, source, bracket.start.saturating_add(start)),
+        Some(bracket) => open_bracket(alloc, source, bracket.start),
         None => line(alloc, ""),
     }
 }

@@ -585,6 +585,7 @@ const CALLS: [(&str, &str, &str); 9] = [
  --> line 1, column 4
   | f(1
   |    ^
+  = expected ',' or ')'
   = the ( of line 1, column 2 is not closed
 ",
     ),
@@ -635,6 +636,7 @@ const NO_CALLS: [(&str, &str); 6] = [
  --> line 1, column 26
   | ns:pkg/face@1.0.0([{a: 1}
   |                          ^
+  = expected ',' or ']'
   = the [ of line 1, column 19 is not closed
 ",
     ),
@@ -644,6 +646,7 @@ const NO_CALLS: [(&str, &str); 6] = [
  --> line 1, column 4
   | f(None)
   |    ^^^
+  = expected '(', ',' or ')'
   = a keyword has small letters: none
 ",
     ),
@@ -761,19 +764,7 @@ fn arguments<F: WasmFunc<Type = Type>>(
     func: &F,
     text: &str,
 ) -> Result<Vec<Value>, ParserError> {
-    let call = UntypedFuncCall::parse(alloc, text)?;
-    let types = types_of(alloc, func)?;
-    call.to_wasm_params(alloc, types.as_slice())
-}
-
-/// The types of the parameters.
-fn types_of<F: WasmFunc<Type = Type>>(alloc: Global, func: &F) -> Result<Vec<Type>, AllocError> {
-    let mut types = Vec::new(alloc);
-    for ty in &func.params(alloc)? {
-        let ty: &Type = *ty;
-        types.push(ty.clone()?)?;
-    }
-    Ok(types)
+    UntypedFuncCall::parse(alloc, text)?.to_func_params(alloc, func)
 }
 
 #[test]
