@@ -5,4 +5,5 @@ mod OneExplanation
 mod Examples
 mod Steps
 mod Told
+mod Expecting
 mod Escapes

@@ -1,5 +1,5 @@
 -- What is told of a part, and which parameter it is.
-use Rattle.std.proofs.Common.{ℕ, ◌+◌, ◌≡◌, ◌<◌, ◌≤◌, ◌⊎◌, inl, inr, List, [], ◌++◌, Option, Some, option_map, false, length, get_or, Bor, Result, Ok, Err, is_ok, IfOk, if◌then◌else◌, refl, subst, ap, sym, ◌∙◌, append_assoc, arith}
+use Rattle.std.proofs.Common.{ℕ, ◌+◌, ◌≡◌, ◌<◌, ◌≤◌, ◌⊎◌, inl, inr, List, [], ◌++◌, Some, option_map, false, length, get_or, Bor, Result, Ok, Err, is_ok, IfOk, if◌then◌else◌, refl, subst, ap, sym, ◌∙◌, append_assoc, arith}
 use Rattle.std.specs.Prelude.{slice_get}
 use Rattle.std.specs.Fmt.{decimal}
 use Rattle.std.specs.declared.ops.Range.{Range}
@@ -14,8 +14,8 @@ use Rattle.wave_grammar.specs.NodeTree.{NodeTree}
 use Rattle.wave_grammar.specs.ErrorSpans.{LiesInNode}
 use Rattle.wave_tree.specs.UntypedCall.{Called, IsCalledOf, IsNoCall}
 use Rattle.wasm_wave.specs.EscapeMarks.{IsSyntaxMark}
-use Rattle.wasm_wave.specs.ValueExplained.{is_of_type, TellsPart, IsWithin}
-use Rattle.wasm_wave.specs.CallExplained.{name_or_number, Gives, TellsParameter, HasNoParameter}
+use Rattle.wasm_wave.specs.ValueExplained.{is_of_type, TellsPart, IsWithin, IsUnexpected}
+use Rattle.wasm_wave.specs.CallExplained.{name_or_number, Gives, TellsParameter, HasNoParameter, TellsExpectedInCall}
 
 -- the same is told of an equal node, by an equal path and equal lines
 pub told_again : (source : List ℕ) (span : Range ℕ) (n k : NodeTree) (T : TypeTree) (way path lines others : List ℕ) → n ≡ k → way ≡ path → lines ≡ others → TellsPart source span n T way lines → TellsPart source span k T path others
@@ -74,7 +74,7 @@ module _ {S : Type 0} (tree : S → TypeTree) where
 abbrev pub Tells : List ℕ → Func → Diagnostic → Range ℕ → List ℕ → List ℕ → Type 0
 Tells source f e mark path lines =
     TellsParameter source f e.span path lines × IsWithin e.span mark
-    ⊎ (path ≡ []) × HasNoParameter e.kind source f.params e.span × IsSyntaxMark source e mark
+    ⊎ (path ≡ []) × HasNoParameter e.kind source f.params e.span × IsSyntaxMark source e mark × (IsUnexpected e.kind → TellsExpectedInCall source e.span.start lines)
 
 -- the same is told by an equal path and equal lines
 pub params_again : (source : List ℕ) (f : Func) (e : Diagnostic) (mark : Range ℕ) (path lines other others : List ℕ) → path ≡ other → lines ≡ others → Tells source f e mark path lines → Tells source f e mark other others

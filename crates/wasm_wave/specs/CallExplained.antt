@@ -8,9 +8,11 @@ use Rattle.wave_lex.specs.Errors.{Diagnostic, error_text}
 use Rattle.wave_lex.specs.declared.error.ParserErrorKind.{ParserErrorKind}
 use Rattle.wave_grammar.specs.NodeTree.{NodeTree, children_of}
 use Rattle.wave_grammar.specs.ErrorSpans.{LiesInNode}
+use Rattle.wave_tree.specs.declared.expected.Expected.{Expected}
+use Rattle.wave_tree.specs.Expected.{IsExpectedInCall, IsWithoutName}
 use Rattle.wave_tree.specs.UntypedCall.{Called, IsCalledOf, IsNoCall}
 use Rattle.wasm_wave.specs.EscapeMarks.{IsSyntaxMark}
-use Rattle.wasm_wave.specs.ValueExplained.{is_of_type, TellsPart, IsWithin, IsBlock}
+use Rattle.wasm_wave.specs.ValueExplained.{is_of_type, TellsPart, IsWithin, IsBlock, IsUnexpected, TellsExpected, IsSyntaxExplained}
 
 -- the call gives the value of this node to the parameter at index i
 abbrev pub Gives : Called → ℕ → NodeTree → Type 0
@@ -50,6 +52,14 @@ abbrev pub HasNoParameter : ParserErrorKind → List ℕ → List TypeTree → R
 HasNoParameter k source types span =
     (is_of_type k ≡ false) ⊎ IsNoCall source ⊎ ((call : Called) × IsCalledOf source call × NoValueHolds call types span)
 
+-- behind the name of a call the first line says what may stand at this place
+abbrev pub TellsExpectedInCall : List ℕ → ℕ → List ℕ → Type 0
+TellsExpectedInCall source at lines = IsWithoutName source at ⊎ ((x : Expected) × IsExpectedInCall source at x × TellsExpected x lines)
+
+-- the text explains the refusal of the source, which is read as a call without types
+abbrev pub IsUntypedCallExplained : List ℕ → Diagnostic → List ℕ → Type 0
+IsUntypedCallExplained source e text = IsSyntaxExplained TellsExpectedInCall source e text
+
 -- the text explains the refusal of the source, a call of the function f: a block with the path to the part of a parameter that is wrong
 -- and the type that is due there, or without a path where no parameter is told
 pub record IsCallExplained (source : List ℕ) (f : Func) (e : Diagnostic) (text : List ℕ) : Type 0 where
@@ -59,4 +69,5 @@ pub record IsCallExplained (source : List ℕ) (f : Func) (e : Diagnostic) (text
   pub told :
       TellsParameter source f e.span path lines × IsWithin e.span mark
       ⊎ (path ≡ []) × HasNoParameter e.kind source f.params e.span × IsSyntaxMark source e mark
+      × (IsUnexpected e.kind → TellsExpectedInCall source e.span.start lines)
   pub block : IsBlock source (error_text e) mark path lines text

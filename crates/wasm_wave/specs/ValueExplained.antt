@@ -11,6 +11,8 @@ use Rattle.wave_grammar.specs.NodeTree.{NodeTree}
 use Rattle.wave_grammar.specs.ParserPosition.{Place}
 use Rattle.wave_grammar.specs.PrefixAutomaton as due_first
 use Rattle.wave_grammar.specs.SyntaxErrors.{IsSyntaxError}
+use Rattle.wave_tree.specs.declared.expected.Expected.{Expected}
+use Rattle.wave_tree.specs.Expected.{IsExpected, expected_words}
 use Rattle.wave_tree.specs.ParserState.{start_of}
 use Rattle.wave_tree.specs.Untyped.{Untyped, IsUntypedTaken}
 use Rattle.wasm_wave.specs.Places.{IsPlaceNear, IsMarked}
@@ -83,12 +85,34 @@ pub record IsBlock (source message : List ℕ) (mark : Range ℕ) (path lines te
   pub is_marked : IsMarked rest (mark.end - there) marked
   pub text_is : text ≡ heading_with_path message line column path ++ (shown_lines front rest marked ++ lines)
 
--- the text explains the refusal of the source, read without a type: a block without a path
-pub record IsUntypedExplained (source : List ℕ) (e : Diagnostic) (text : List ℕ) : Type 0 where
+-- ---- without a type
+
+-- a token is refused, or the end, where something else may stand
+abbrev pub IsUnexpected : ParserErrorKind → Type 0
+IsUnexpected k = (k ≡ kind.UnexpectedToken) ⊎ (k ≡ kind.UnexpectedEnd)
+
+-- the first line says what may stand there; nothing is said where nothing may
+abbrev pub TellsExpected : Expected → List ℕ → Type 0
+TellsExpected x lines =
+    (x.classes.items ≡ []) × (x.may_end ≡ false) ⊎ ((more : List ℕ) × (lines ≡ expected_line (expected_words x.classes.items x.may_end) [] ++ more))
+
+-- so it does of this place of a source in which a value of at most 1000 levels is read
+abbrev pub TellsExpectedAt : List ℕ → ℕ → List ℕ → Type 0
+TellsExpectedAt source at lines = (x : Expected) × IsExpected source at 1000 x × TellsExpected x lines
+
+-- the text explains the refusal of the source: a block without a path, whose lines tell what may stand where a token or the end is refused
+pub record IsSyntaxExplained (Tells : List ℕ → ℕ → List ℕ → Type 0) (source : List ℕ) (e : Diagnostic) (text : List ℕ) : Type 0 where
   pub mark : Range ℕ
   pub is_mark : IsSyntaxMark source e mark
   pub lines : List ℕ
+  pub told : IsUnexpected e.kind → Tells source e.span.start lines
   pub block : IsBlock source (error_text e) mark [] lines text
+
+-- so it does where a value is read without a type
+abbrev pub IsUntypedExplained : List ℕ → Diagnostic → List ℕ → Type 0
+IsUntypedExplained source e text = IsSyntaxExplained TellsExpectedAt source e text
+
+-- ---- at a type
 
 -- the text explains the refusal of the source at the type T: a block with the path to the part that is wrong and the type that is due
 -- there, or without a path where no part is looked for
@@ -98,5 +122,5 @@ pub record IsValueExplained (source : List ℕ) (T : TypeTree) (e : Diagnostic) 
   pub lines : List ℕ
   pub told :
       TellsPartOfValue source e.span T path lines × IsWithin e.span mark
-      ⊎ (path ≡ []) × HasNoPart e.kind source × IsSyntaxMark source e mark
+      ⊎ (path ≡ []) × HasNoPart e.kind source × IsSyntaxMark source e mark × (IsUnexpected e.kind → TellsExpectedAt source e.span.start lines)
   pub block : IsBlock source (error_text e) mark path lines text

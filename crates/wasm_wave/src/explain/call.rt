@@ -1,5 +1,5 @@
 //! A refusal of a call, as a person is shown it.
-ghost use Rattle.std.specs.Prelude.{ℕ, ◌≡◌, ◌⊎◌, ◌<◌, ◌+◌, ◌^◌, ◌++◌, [], false, IfOk, IfSome, IfNone};
+ghost use Rattle.std.specs.Prelude.{ℕ, ◌≡◌, ◌⊎◌, ◌<◌, ◌+◌, ◌^◌, ◌++◌, [], false, true, IfOk, IfSome, IfNone};
 ghost use Rattle.std.specs.Fmt.{decimal};
 ghost use Rattle.std.specs.String.{string_bytes};
 ghost use Rattle.wave_wasm.specs.Borrowed.{texts};
@@ -9,8 +9,8 @@ ghost use Rattle.wave_grammar.specs.ErrorSpans.{LiesInNode};
 ghost use Rattle.wave_grammar.specs.TypedReading.{IsValueOf};
 ghost use Rattle.wave_tree.specs.UntypedCall.{IsCalledOf, IsNoCall};
 ghost use Rattle.wasm_wave.specs.EscapeMarks.{IsSyntaxMark};
-ghost use Rattle.wasm_wave.specs.ValueExplained.{is_of_type, IsWithin, IsUntypedExplained};
-ghost use Rattle.wasm_wave.specs.CallExplained.{Gives, parameter_text, TellsParameter, HasNoParameter, IsCallExplained};
+ghost use Rattle.wasm_wave.specs.ValueExplained.{is_of_type, IsWithin, IsUnexpected};
+ghost use Rattle.wasm_wave.specs.CallExplained.{Gives, parameter_text, TellsParameter, HasNoParameter, TellsExpectedInCall, IsCallExplained, IsUntypedCallExplained};
 
 use super::params::params_lines;
 use super::path::item_at;
@@ -76,7 +76,7 @@ pub fn explain_untyped_call(
     error: &ParserError,
     source: &str,
 ) -> Result<String, AllocError>
-    ensures { IfOk result (λ text. IsUntypedExplained source.now error.now (string_bytes text)) }
+    ensures { IfOk result (λ text. IsUntypedCallExplained source.now error.now (string_bytes text)) }
 {
     explain_syntax(alloc, error, source, Reading::Call)
 }
@@ -89,7 +89,8 @@ fn explain_params<F: WasmFunc>(
     call: &UntypedFuncCall<'_>,
     func: &F,
 ) -> Result<String, AllocError>
-    requires { IsCalledOf source.now call.now }
+    requires call { IsCalledOf source.now call.now }
+    requires kind { IsUnexpected error.now.kind → ⊥ }
     ensures { IfOk result (λ text. IsCallExplained source.now (F.func func.now) error.now (string_bytes text)) }
 {
     let mut path = String::new(alloc);
@@ -126,6 +127,7 @@ fn called(
     source: &str,
 ) -> Result<Option<UntypedFuncCall<'_>>, AllocError>
     ensures call { IfOk result (λ r. IfSome r (IsCalledOf source.now)) }
+    ensures kind { IfOk result (λ r. IfSome r (λ _. IsUnexpected kind → ⊥)) }
     ensures none { IfOk result (λ r. IfNone r ((is_of_type kind ≡ false) ⊎ IsNoCall source.now)) }
 {
     if !is_of_params(kind) {
@@ -142,7 +144,8 @@ fn called(
 
 /// Whether the kind tells a fault of the parameters of a call.
 fn is_of_params(kind: ParserErrorKind) -> bool
-    ensures { result ≡ false → is_of_type kind ≡ false }
+    ensures other { result ≡ false → is_of_type kind ≡ false }
+    ensures typed { result ≡ true → IsUnexpected kind → ⊥ }
 {
     kind == ParserErrorKind::InvalidParams || is_of_type(kind)
 }
@@ -161,8 +164,10 @@ fn tell_params<F: WasmFunc>(
     requires path { string_bytes path.old ≡ [] }
     requires lines { string_bytes lines.old ≡ [] }
     requires call { IsCalledOf source.now call.now }
+    requires kind { IsUnexpected error.now.kind → ⊥ }
     ensures { IfOk result (λ mark. TellsParameter source.now (F.func func.now) error.now.span (string_bytes path.new) (string_bytes lines.new) × IsWithin error.now.span mark
-        ⊎ (string_bytes path.new ≡ []) × HasNoParameter error.now.kind source.now (F.func func.now).params error.now.span × IsSyntaxMark source.now error.now mark) }
+        ⊎ (string_bytes path.new ≡ []) × HasNoParameter error.now.kind source.now (F.func func.now).params error.now.span × IsSyntaxMark source.now error.now mark
+        × (IsUnexpected error.now.kind → TellsExpectedInCall source.now error.now.span.start (string_bytes lines.new))) }
 {
     let types = func.params(alloc)?;
     let names = func.param_names(alloc)?;

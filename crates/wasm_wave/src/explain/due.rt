@@ -28,8 +28,8 @@ pub(crate) fn push_expected<T: WasmType>(
     push_line(lines, text.as_str(), more(error, node, ty.kind()))
 }
 
-/// Adds the line of a type's text, and more on it.
-fn push_line(lines: &mut String, text: &str, more: &str) -> Result<(), AllocError>
+/// Adds the line of what is expected, and more on it.
+pub(crate) fn push_line(lines: &mut String, text: &str, more: &str) -> Result<(), AllocError>
     ensures { IfOk result (λ _. string_bytes lines.new ≡ string_bytes lines.old ++ expected_line text.now more.now) }
 {
     lines.push_str("  = expected ")?;

@@ -1,4 +1,10 @@
 //! How a fault of syntax may be mended.
+ghost use Rattle.std.specs.Prelude.{IfOk};
+ghost use Rattle.std.specs.String.{string_bytes};
+ghost use Rattle.wasm_wave.specs.ValueExplained.{IsUnexpected, TellsExpected};
+ghost use Rattle.wasm_wave.specs.Private.Readings.{MayStandAs, TellsAs};
+
+use super::due::push_line;
 use super::escape::unknown_escape;
 use super::hints::{ESCAPES, line, push_hint};
 use super::is_invisible;
@@ -26,20 +32,35 @@ pub(crate) fn syntax_lines(
     error: &ParserError,
     source: &str,
     reading: Reading,
-) -> Result<String, AllocError> {
-    let at = error.span().start;
+) -> Result<String, AllocError>
+    ensures { IfOk result (λ lines. IsUnexpected error.now.kind → TellsAs reading source.now error.now.span.start (string_bytes lines)) }
+{
     let hint = syntax_hint(alloc, error, source, reading)?;
-    let mut lines = match error.kind() {
-        ParserErrorKind::UnexpectedToken | ParserErrorKind::UnexpectedEnd => {
-            expected_line(alloc, source, at, reading)?
-        }
-        ParserErrorKind::InvalidToken if hint.is_empty() => {
-            expected_line(alloc, source, at, reading)?
-        }
-        _ => String::new(alloc),
-    };
+    let mut lines = first_line(alloc, error, source, reading, hint.is_empty())?;
     lines.push_str(hint.as_str())?;
     Ok(lines)
+}
+
+/// The first line, which says what might have stood at an unexpected token or end, and at what is no token
+/// where no hint is at hand; nothing beside other refusals.
+fn first_line(
+    alloc: Global,
+    error: &ParserError,
+    source: &str,
+    reading: Reading,
+    has_no_hint: bool,
+) -> Result<String, AllocError>
+    ensures { IfOk result (λ lines. IsUnexpected error.now.kind → TellsAs reading source.now error.now.span.start (string_bytes lines)) }
+{
+    match error.kind() {
+        ParserErrorKind::UnexpectedToken | ParserErrorKind::UnexpectedEnd => {
+            expected_line(alloc, source, error.span().start, reading)
+        }
+        ParserErrorKind::InvalidToken if has_no_hint => {
+            expected_line(alloc, source, error.span().start, reading)
+        }
+        _ => Ok(String::new(alloc)),
+    }
 }
 
 /// The line that says what might have stood at the place, where what stands before it begins such a text.
@@ -48,16 +69,24 @@ fn expected_line(
     source: &str,
     at: usize,
     reading: Reading,
-) -> Result<String, AllocError> {
-    let Some(expected) = expected_in(alloc, source, at, reading)? else {
-        return line(alloc, "");
-    };
-    if expected.classes.is_empty() && !expected.may_end {
-        return line(alloc, "");
+) -> Result<String, AllocError>
+    ensures { IfOk result (λ lines. TellsAs reading source.now at (string_bytes lines)) }
+{
+    match expected_in(alloc, source, at, reading)? {
+        Some(expected) => line_of(alloc, &expected),
+        None => Ok(String::new(alloc)),
     }
-    let words = expected.words(alloc)?;
+}
+
+/// The line that says what may stand there, where anything may.
+fn line_of(alloc: Global, expected: &Expected) -> Result<String, AllocError>
+    ensures { IfOk result (λ lines. TellsExpected expected.now (string_bytes lines)) }
+{
     let mut lines = String::new(alloc);
-    push_hint(&mut lines, "expected ", words.as_str(), "")?;
+    if !expected.classes.is_empty() || expected.may_end {
+        let words = expected.words(alloc)?;
+        push_line(&mut lines, words.as_str(), "")?;
+    }
     Ok(lines)
 }
 
@@ -67,7 +96,9 @@ fn expected_in(
     source: &str,
     at: usize,
     reading: Reading,
-) -> Result<Option<Expected>, AllocError> {
+) -> Result<Option<Expected>, AllocError>
+    ensures { IfOk result (MayStandAs reading source.now at) }
+{
     match reading {
         Reading::Value => Ok(Some(expected_at(alloc, source, at, MAX_LEVELS)?)),
         Reading::Call => expected_in_call_at(alloc, source, at),

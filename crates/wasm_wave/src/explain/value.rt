@@ -4,7 +4,8 @@ ghost use Rattle.std.specs.String.{string_bytes};
 ghost use Rattle.wave_wasm.specs.Types.{TypeTree};
 ghost use Rattle.wave_lex.specs.Errors.{error_text};
 ghost use Rattle.wave_grammar.specs.TypedReading.{IsValueOf};
-ghost use Rattle.wasm_wave.specs.ValueExplained.{is_of_type, HasNoPart, IsFront, TellsPart, IsWithin, IsBlock, IsUntypedExplained, IsValueExplained, heading_with_path, before_path};
+ghost use Rattle.wasm_wave.specs.ValueExplained.{is_of_type, HasNoPart, IsFront, TellsPart, IsWithin, IsBlock, IsUntypedExplained, IsSyntaxExplained, IsValueExplained, heading_with_path, before_path};
+ghost use Rattle.wasm_wave.specs.Private.Readings.{TellsAs};
 
 use super::due::push_expected;
 use super::escape::syntax_mark;
@@ -112,7 +113,7 @@ pub(crate) fn explain_syntax(
     source: &str,
     reading: Reading,
 ) -> Result<String, AllocError>
-    ensures { IfOk result (λ text. IsUntypedExplained source.now error.now (string_bytes text)) }
+    ensures { IfOk result (λ text. IsSyntaxExplained (TellsAs reading) source.now error.now (string_bytes text)) }
 {
     let lines = syntax_lines(alloc, error, source, reading)?;
     let message = error.to_string(alloc)?;

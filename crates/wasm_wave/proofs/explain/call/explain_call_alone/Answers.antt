@@ -9,6 +9,6 @@ returns g c =
       mark = told.mark;
       path = [];
       lines = told.lines;
-      told = inr (refl, no_parameter _ _ _ _ c.requires, told.is_mark);
+      told = inr (refl, no_parameter _ _ _ _ c.requires, told.is_mark, told.told);
       block = told.block;
     }) c.explain_untyped_call.ensures

@@ -1,7 +1,5 @@
-use Rattle.std.proofs.Common.{◌≡◌, ◌⊎◌, [], sym, subst, string_bytes, ◌∙◌}
-use Rattle.wasm_wave.specs.EscapeMarks.{IsSyntaxMark}
-use Rattle.wasm_wave.specs.ValueExplained.{IsBlock, IsWithin}
-use Rattle.wasm_wave.specs.CallExplained.{TellsParameter, HasNoParameter}
+use Rattle.std.proofs.Common.{sym, subst, string_bytes, ◌∙◌}
+use Rattle.wasm_wave.specs.ValueExplained.{IsBlock}
 use Rattle.wasm_wave.proofs.Steps.{ok_so}
 use Rattle.wasm_wave.proofs.Told.{params_again}
 use Rattle.wasm_wave.proofs.explain.call.explain_params.Goals as goal

@@ -34,4 +34,4 @@ returns-in-Some g c =
 pub returns : goal.returns
 returns g c =
     let many = as_many g.F.Type.WasmType.tree _ c.in_ok-types.types.items c.len.result (c.len.ensures ∙ c.in_ok-types.types.ok.0) c.in_ok-types.ensures in
-    inr (c.requires.path, none_told _ _ _ _ _ _ _ _ c.kind.ensures c.span-span.ensures c.requires.call many c.in-None.ensures.none, inl c.span-span.ensures)
+    inr (c.requires.path, none_told _ _ _ _ _ _ _ _ c.kind.ensures c.span-span.ensures c.requires.call many c.in-None.ensures.none, inl c.span-span.ensures, λ unexpected. absurd (c.requires.kind unexpected))

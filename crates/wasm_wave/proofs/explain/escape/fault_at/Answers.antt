@@ -1,4 +1,4 @@
-use Rattle.std.proofs.Common.{◌≡◌, Some, None, arith, subst, sym, ap, ◌∙◌, drop}
+use Rattle.std.proofs.Common.{Some, None, arith, subst, sym, ap, ◌∙◌}
 use Rattle.std.specs.Prelude.{slice_get}
 use Rattle.std.proofs.lemmas.List.{length-drop}
 use Rattle.wave_lex.specs.Strings.{UnescapesTo}

@@ -8,6 +8,6 @@ returns c =
       mark = told.mark;
       path = [];
       lines = told.lines;
-      told = inr (refl, c.requires, told.is_mark);
+      told = inr (refl, c.requires, told.is_mark, told.told);
       block = told.block;
     }) c.explain_untyped.ensures

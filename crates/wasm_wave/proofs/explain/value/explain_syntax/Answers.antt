@@ -1,5 +1,6 @@
-use Rattle.std.proofs.Common.{[], subst, string_bytes, ◌∙◌}
+use Rattle.std.proofs.Common.{[], sym, subst, string_bytes, ◌∙◌}
 use Rattle.wasm_wave.specs.ValueExplained.{IsBlock}
+use Rattle.wasm_wave.specs.Private.Readings.{TellsAs}
 use Rattle.wasm_wave.proofs.Steps.{ok_so}
 use Rattle.wasm_wave.proofs.explain.value.explain_syntax.Goals as goal
 
@@ -9,5 +10,6 @@ returns c =
       mark = c.syntax_mark.result;
       is_mark = c.syntax_mark.ensures;
       lines = c.as_str-2.result.now;
+      told = λ unexpected. subst (TellsAs c.args.reading c.args.source.now c.args.error.now.span.start) (sym c.as_str-2.ensures.value) (c.in_ok-lines.ensures unexpected);
       block = subst (λ m. IsBlock c.args.source.now m c.syntax_mark.result [] c.as_str-2.result.now (string_bytes text)) (c.as_str.ensures.value ∙ c.in_ok-message.ensures.ok) block;
     }) c.block.ensures
