@@ -1,8 +1,7 @@
 -- Which types have a value, and what the parts say of the whole.
-use Rattle.std.proofs.Common.{ℕ, zero, suc, ◌≡◌, ◌<◌, ◌≤◌, ◌+◌, ◌||◌, ◌&&◌, ◌↔◌, ◌⊎◌, rules, Bool, true, false, IsTrue, List, [], ◌∷◌, ◌++◌, append_assoc, Bor, length, drop, get_or, Option, Result, Ok, Err, IfOk, refl, arith, sym, ap, subst, ◌∙◌, inl, inr}
+use Rattle.std.proofs.Common.{ℕ, zero, suc, ◌≡◌, ◌<◌, ◌≤◌, ◌+◌, ◌||◌, ◌&&◌, ◌↔◌, ◌⊎◌, rules, Bool, true, false, IsTrue, List, [], ◌∷◌, Bor, length, drop, get_or, Option, Result, Ok, Err, IfOk, refl, arith, sym, ap, subst, ◌∙◌, inl, inr}
 use Rattle.std.specs.List.{list_all, list_any}
 use Rattle.std.specs.Prelude.{pos}
-use Rattle.std.proofs.lemmas.List.{append-nil}
 use Rattle.wave_wasm.specs.Borrowed.{shown_all}
 use Rattle.wave_wasm.specs.Lists.{AllOf}
 use Rattle.wave_wasm.specs.Names.{ArePicked}
@@ -198,41 +197,31 @@ variant_by T parts k e =
     let f = formed_as kinds.Variant T (sym k) in
     ap inhabited f.1 ∙ (cases_decide f.0 ∙ ap (list_any (λ (c : List ℕ × Option TypeTree). payload_inhabited (maybe_type c.1))) (sym (e ∙ ap variant_parts f.1)))
 
--- ---- a loop that copies types while each has a value
+-- ---- a loop that tests types while each has a value
 
--- what was copied, and what is left, are all the types; what was copied has values
-abbrev pub Copied : List TypeTree → List (Bor TypeTree) → List (Bor TypeTree) → Type 0
-Copied done left all = (done ++ shown_all (λ (T : TypeTree). T) left ≡ shown_all (λ (T : TypeTree). T) all) × AllOf HasValue done
+-- each type has a value where each that is left has one, and only there
+abbrev pub Tested : List (Bor TypeTree) → List TypeTree → Type 0
+Tested left all = AllOf HasValue (shown_all (λ (T : TypeTree). T) left) ↔ AllOf HasValue all
 
-all_more : (done : List TypeTree) (T : TypeTree) → AllOf HasValue done → HasValue T → AllOf HasValue (done ++ T ∷ [])
-all_more [] T all has = (has, tt)
-all_more (U ∷ done) T all has = (all.0, all_more done T all.1 has)
+-- none was tested yet
+pub none_tested : (items : List (Bor TypeTree)) (all : List TypeTree) → shown_all (λ (T : TypeTree). T) items ≡ all → Tested items all
+none_tested items all same = subst (λ Ts. AllOf HasValue (shown_all (λ (T : TypeTree). T) items) ↔ AllOf HasValue Ts) same (λ have. have, λ have. have)
 
-has_there : (done : List TypeTree) (T : TypeTree) (more : List TypeTree) → AllOf HasValue (done ++ T ∷ more) → HasValue T
-has_there [] T more all = all.0
-has_there (U ∷ done) T more all = has_there done T more all.1
+module _ (items : List (Bor TypeTree)) (all : List TypeTree) (i : ℕ) (tested : Tested (drop i items) all) where
+  next_left : (x : Bor TypeTree) → i < length items → x ≡ get_or items i x → shown_all (λ (T : TypeTree). T) (drop i items) ≡ x.now ∷ shown_all (λ (T : TypeTree). T) (drop (i + 1) items)
+  next_left x less is = at_item (shown_all (λ (T : TypeTree). T)) items i x less is
 
--- nothing was copied yet
-pub none_copied : (done : List TypeTree) (items all : List (Bor TypeTree)) → done ≡ [] → items ≡ all → Copied done items all
-none_copied done items all none same =
-    (ap (λ d. d ++ shown_all (λ (T : TypeTree). T) items) none ∙ ap (λ ts. shown_all (λ (T : TypeTree). T) ts) same, subst (AllOf HasValue) (sym none) tt)
-
-module _ (done : List TypeTree) (items all : List (Bor TypeTree)) (i : ℕ) (copied : Copied done (drop i items) all) where
-  next_left : (x : Bor TypeTree) → i < length items → x ≡ get_or items i x → done ++ x.now ∷ shown_all (λ (T : TypeTree). T) (drop (i + 1) items) ≡ shown_all (λ (T : TypeTree). T) all
-  next_left x less is = sym (at_item (λ ts. done ++ shown_all (λ (T : TypeTree). T) ts) items i x less is) ∙ copied.0
-
-  -- one type more
-  pub one_copied : (x : Bor TypeTree) (now : List TypeTree) (T : TypeTree) → i < length items → x ≡ get_or items i x → now ≡ done ++ T ∷ [] → T ≡ x.now → HasValue x.now → Copied now (drop (i + 1) items) all
-  one_copied x now T less is pushed same has =
-      let grown : now ≡ done ++ x.now ∷ [] = pushed ∙ ap (λ (U : TypeTree). done ++ U ∷ []) same in (
-        ap (λ d. d ++ shown_all (λ (T : TypeTree). T) (drop (i + 1) items)) grown ∙ (append_assoc done (x.now ∷ []) (shown_all (λ (T : TypeTree). T) (drop (i + 1) items)) ∙ next_left x less is),
-        subst (AllOf HasValue) (sym grown) (all_more done x.now copied.1 has),
-      )
-
-  -- all were copied
-  pub all_copied : length items ≤ i → (done ≡ shown_all (λ (T : TypeTree). T) all) × AllOf HasValue done
-  all_copied least = (sym (append-nil done) ∙ (sym (at_end (λ ts. done ++ shown_all (λ (T : TypeTree). T) ts) items i least) ∙ copied.0), copied.1)
+  -- one type more has a value
+  pub one_tested : (x : Bor TypeTree) → i < length items → x ≡ get_or items i x → HasValue x.now → Tested (drop (i + 1) items) all
+  one_tested x less is has = (
+    λ more. tested.0 (subst (AllOf HasValue) (sym (next_left x less is)) (has, more)),
+    λ have. (subst (AllOf HasValue) (next_left x less is) (tested.1 have)).1,
+  )
 
   -- the next one has no value
-  pub none_next : (x : Bor TypeTree) → i < length items → x ≡ get_or items i x → (HasValue x.now → ⊥) → AllOf HasValue (shown_all (λ (T : TypeTree). T) all) → ⊥
-  none_next x less is none have = none (has_there done x.now (shown_all (λ (T : TypeTree). T) (drop (i + 1) items)) (subst (AllOf HasValue) (sym (next_left x less is)) have))
+  pub none_next : (x : Bor TypeTree) → i < length items → x ≡ get_or items i x → (HasValue x.now → ⊥) → AllOf HasValue all → ⊥
+  none_next x less is none have = none (subst (AllOf HasValue) (next_left x less is) (tested.1 have)).0
+
+  -- all have values
+  pub all_tested : length items ≤ i → AllOf HasValue all
+  all_tested least = tested.0 (subst (AllOf HasValue) (sym (at_end (shown_all (λ (T : TypeTree). T)) items i least)) tt)

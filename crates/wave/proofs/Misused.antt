@@ -1,20 +1,19 @@
 -- What is said of arguments that ask for nothing, by how many there are.
 use Rattle.std.proofs.Common.{ℕ, suc, zero, ◌≡◌, ◌≢◌, ◌≤◌, ◌<◌, ◌⊎◌, ◌∙◌, List, [], ◌∷◌, ◌++◌, String, Global, Result, Ok, Err, IfOk, Option, Some, None, MatchOption, string_bytes, map, get_or, length, refl, inl, inr, sym, ap, subst, arith, codes}
-use Rattle.std.specs.declared.vec.Vec.{Vec}
 use Rattle.wave_wasm.specs.Types.{TypeTree}
 use Rattle.wave.specs.declared.request.Request.TheVariants.{Value, Call, CallAt, Read}
 use Rattle.wave.specs.declared.request.Asked.TheVariants.{Whole, Lines}
 use Rattle.wave.specs.Lines.{line}
 use Rattle.wave.specs.Misuse.{IsCommand, IsQuoted, IsMisuse, IsExplainedMisuse, IsTypeExplained, IsBadType, IsBadFunc}
 use Rattle.wave_type.specs.FunctionSpelling.{IsFunctionOf, levels_of_function}
-use Rattle.wave_type.specs.FunctionType.{FunctionType, types_of}
+use Rattle.wave_type.specs.FunctionType.{FunctionType}
 use Rattle.wave_type.specs.TypeErrors.{TypeRefusal, type_error_text}
 use Rattle.wave_type.specs.TypeItems.{IsTypeFault}
 use Rattle.wave_type.specs.declared.error.TypeErrorKind.TheVariants as kind
 use Rattle.wave_type.specs.TypeSpelling.{IsTypeOf, IsNoType, levels_of}
 use Rattle.wasm_wave.specs.Places.{IsExplained}
 use Rattle.wave.specs.Requests.{IsLimitWord, MakeNone, AreUnknown}
-use Rattle.wave.specs.Types.{text_of, NamesType, NamesParams}
+use Rattle.wave.specs.Types.{text_of, NamesType, NamesFunction}
 
 -- the text at a place
 pub text_at : (words : List (String Global)) (i : ℕ) (x : String Global) (t : List ℕ) → i < length words → x ≡ get_or words i x → t ≡ string_bytes x → get_or (map string_bytes words) i [] ≡ t
@@ -83,8 +82,8 @@ func_said (Err e) rest word is told = tt
 func_said (Ok why) rest word is told = inr (inr (inr (inr (inr (inr (inl (word, ap (λ r. codes "call" ∷ r) is, told)))))))
 
 -- what `call` or `read` takes is none, where no request is made
-pub none_called : (rest : List (List ℕ)) (word : List ℕ) → rest ≡ word ∷ [] → MakeNone (codes "call" ∷ rest) → (types : Vec TypeTree Global) → NamesParams word types.items → ⊥
-none_called rest word is unknown types names = unknown (CallAt types) (word, ap (λ r. codes "call" ∷ r) is, names)
+pub none_called : (rest : List (List ℕ)) (word : List ℕ) → rest ≡ word ∷ [] → MakeNone (codes "call" ∷ rest) → (f : FunctionType) → NamesFunction word f → ⊥
+none_called rest word is unknown f names = unknown (CallAt f) (word, ap (λ r. codes "call" ∷ r) is, names)
 
 pub none_read : (rest : List (List ℕ)) (word : List ℕ) → rest ≡ word ∷ [] → MakeNone (codes "read" ∷ rest) → (T : TypeTree) → NamesType word T → ⊥
 none_read rest word is unknown T names = unknown (Read T 100) (word, inl (ap (λ r. codes "read" ∷ r) is, refl), names)
@@ -132,15 +131,15 @@ type_refused_said (Err x) word text e shown is other none fault explained said =
 type_refused_said (Ok why) word text e shown is other none fault explained said = inl (shown, subst (λ s. IsTypeExplained s shown) is (e, other, none, fault, explained), said)
 
 -- a parameter whose type is without a value
-pub valueless_param_said : {E : Type 0} (r : Result (String Global) E) (word : List ℕ) (f : FunctionType) → IsFunctionOf word f → levels_of_function f ≤ 100 → ((Ts : List TypeTree) → NamesParams word Ts → ⊥)
+pub valueless_param_said : {E : Type 0} (r : Result (String Global) E) (word : List ℕ) (f : FunctionType) → IsFunctionOf word f → levels_of_function f ≤ 100 → ((g : FunctionType) → NamesFunction word g → ⊥)
     → IfOk r (λ why. string_bytes why ≡ line (codes "argument 2 has a parameter of a type without a value: f32 and f64 have none here, nor has what needs one of them")) → IfOk r (λ why. IsBadFunc word (string_bytes why))
 valueless_param_said (Err e) word f spells levels none said = tt
-valueless_param_said (Ok why) word f spells levels none said = inr (f, spells, (λ all. none (types_of f.params) (f, spells, levels, refl, all)), said)
+valueless_param_said (Ok why) word f spells levels none said = inr (f, spells, (λ all. none f (spells, levels, all)), said)
 
 -- whether the word is the type of a function with values was tested
-module _ (found : Option (Vec TypeTree Global)) (word : List ℕ) (tested : MatchOption found ((Ts : List TypeTree) → NamesParams word Ts → ⊥) (λ types. NamesParams word types.items)) where
-  pub none_named : (other : List ℕ) → found ≡ None → other ≡ word → (Ts : List TypeTree) → NamesParams other Ts → ⊥
-  none_named other is same Ts names = subst (λ f. MatchOption f ((Us : List TypeTree) → NamesParams word Us → ⊥) (λ types. NamesParams word types.items)) is tested Ts (subst (λ w. NamesParams w Ts) same names)
+module _ (found : Option FunctionType) (word : List ℕ) (tested : MatchOption found ((f : FunctionType) → NamesFunction word f → ⊥) (NamesFunction word)) where
+  pub none_named : (other : List ℕ) → found ≡ None → other ≡ word → (f : FunctionType) → NamesFunction other f → ⊥
+  none_named other is same f names = subst (λ o. MatchOption o ((g : FunctionType) → NamesFunction word g → ⊥) (NamesFunction word)) is tested f (subst (λ w. NamesFunction w f) same names)
 
-  pub some_named : (types : Vec TypeTree Global) (rest : List (List ℕ)) → found ≡ Some types → rest ≡ word ∷ [] → MakeNone (codes "call" ∷ rest) → ⊥
-  some_named types rest is alone unknown = none_called rest word alone unknown types (subst (λ f. MatchOption f ((Us : List TypeTree) → NamesParams word Us → ⊥) (λ types. NamesParams word types.items)) is tested)
+  pub some_named : (f : FunctionType) (rest : List (List ℕ)) → found ≡ Some f → rest ≡ word ∷ [] → MakeNone (codes "call" ∷ rest) → ⊥
+  some_named f rest is alone unknown = none_called rest word alone unknown f (subst (λ o. MatchOption o ((g : FunctionType) → NamesFunction word g → ⊥) (NamesFunction word)) is tested)

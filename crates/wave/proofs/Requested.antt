@@ -1,8 +1,8 @@
 -- What arguments ask for, by how many there are.
 use Rattle.std.proofs.Common.{ℕ, ◌≡◌, ◌≤◌, ◌<◌, ◌∙◌, List, [], ◌∷◌, String, Global, Result, Ok, Err, IfErr, string_bytes, map, get_or, length, refl, inl, inr, sym, ap, subst, arith, codes}
 use Rattle.wave.specs.declared.request.Request.TheVariants.{Value, Call, CallAt, Read}
-use Rattle.wave_wasm.specs.Types.{TypeTree}
-use Rattle.wave.specs.Types.{NamesParams}
+use Rattle.wave_type.specs.FunctionType.{FunctionType}
+use Rattle.wave.specs.Types.{NamesFunction}
 use Rattle.wave.specs.Requests.{IsLimitWord, HaveType, MakeNone}
 
 -- the text of the only word
@@ -49,11 +49,11 @@ second_is : (a b first second : List ℕ) → a ∷ b ∷ [] ≡ first ∷ secon
 second_is a b first second is = ap (λ words. get_or words 1 []) is
 
 -- `call` with the text of no type of a function whose parameters have values
-pub unknown_call : (a b : List ℕ) → a ≡ codes "call" → ((Ts : List TypeTree) → NamesParams b Ts → ⊥) → MakeNone (a ∷ b ∷ [])
+pub unknown_call : (a b : List ℕ) → a ≡ codes "call" → ((f : FunctionType) → NamesFunction b f → ⊥) → MakeNone (a ∷ b ∷ [])
 unknown_call a b call none (Value n) (inl (is, hundred)) = absurd (omega (arith, ap length is))
 unknown_call a b call none (Value n) (inr (l, is, limit)) = let wrong : 99 ≡ 118 = ap (λ t. get_or t 0 0) (sym call ∙ first_is a b (codes "value") (l ∷ []) is) in absurd (omega (arith, wrong))
 unknown_call a b call none Call is = absurd (omega (arith, ap length is))
-unknown_call a b call none (CallAt types) (w, is, names) = none types.items (subst (λ word. NamesParams word types.items) (sym (second_is a b (codes "call") w is)) names)
+unknown_call a b call none (CallAt f) (w, is, names) = none f (subst (λ word. NamesFunction word f) (sym (second_is a b (codes "call") w is)) names)
 unknown_call a b call none (Read T n) (w, inl (is, hundred), names) = let wrong : 99 ≡ 114 = ap (λ t. get_or t 0 0) (sym call ∙ first_is a b (codes "read") (w ∷ []) is) in absurd (omega (arith, wrong))
 unknown_call a b call none (Read T n) (w, inr (l, is, limit), names) = absurd (omega (arith, ap length is))
 
@@ -63,7 +63,7 @@ unknown_none (w ∷ more) none request asked = absurd (omega (arith, none))
 unknown_none [] none (Value n) (inl (is, hundred)) = absurd (omega (arith, ap length is))
 unknown_none [] none (Value n) (inr (l, is, limit)) = absurd (omega (arith, ap length is))
 unknown_none [] none Call is = absurd (omega (arith, ap length is))
-unknown_none [] none (CallAt types) (w, is, names) = absurd (omega (arith, ap length is))
+unknown_none [] none (CallAt f) (w, is, names) = absurd (omega (arith, ap length is))
 unknown_none [] none (Read T n) (w, inl (is, hundred), names) = absurd (omega (arith, ap length is))
 unknown_none [] none (Read T n) (w, inr (l, is, limit), names) = absurd (omega (arith, ap length is))
 
@@ -76,6 +76,6 @@ unknown_many (a ∷ b ∷ d ∷ []) many request asked = absurd (omega (arith, m
 unknown_many (a ∷ b ∷ d ∷ e ∷ more) many (Value n) (inl (is, hundred)) = absurd (omega (arith, ap length is))
 unknown_many (a ∷ b ∷ d ∷ e ∷ more) many (Value n) (inr (l, is, limit)) = absurd (omega (arith, ap length is))
 unknown_many (a ∷ b ∷ d ∷ e ∷ more) many Call is = absurd (omega (arith, ap length is))
-unknown_many (a ∷ b ∷ d ∷ e ∷ more) many (CallAt types) (w, is, names) = absurd (omega (arith, ap length is))
+unknown_many (a ∷ b ∷ d ∷ e ∷ more) many (CallAt f) (w, is, names) = absurd (omega (arith, ap length is))
 unknown_many (a ∷ b ∷ d ∷ e ∷ more) many (Read T n) (w, inl (is, hundred), names) = absurd (omega (arith, ap length is))
 unknown_many (a ∷ b ∷ d ∷ e ∷ more) many (Read T n) (w, inr (l, is, limit), names) = absurd (omega (arith, ap length is))

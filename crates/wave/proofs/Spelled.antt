@@ -1,7 +1,6 @@
 -- In types that a text spells no name stands twice, and a text spells one type, and one list of parameters.
-use Rattle.std.proofs.Common.{ℕ, ◌≡◌, ◌≢◌, ◌≤◌, ◌↔◌, ◌∙◌, Bool, false, IsTrue, List, [], ◌∷◌, Option, Some, None, Result, Ok, Err, IfOk, MatchOption, Global, drop, inl, inr, refl, sym, ap, subst, arith, codes}
+use Rattle.std.proofs.Common.{ℕ, ◌≡◌, ◌≢◌, ◌≤◌, ◌↔◌, ◌∙◌, Bool, true, false, IsTrue, List, [], ◌∷◌, Some, None, drop, inl, inr, refl, sym, ap, subst, arith, codes}
 use Rattle.std.specs.Prelude.{max}
-use Rattle.std.specs.declared.vec.Vec.{Vec}
 use Rattle.wave_wasm.specs.Lists.{AllOf}
 use Rattle.wave_wasm.specs.Names.{AreDistinct}
 use Rattle.wave_wasm.specs.Types as type
@@ -16,7 +15,7 @@ use Rattle.wave_type.proofs.SpelledNames.{function_text_good}
 use Rattle.wave_type.proofs.TypeComplete.{one_spelling, fields_all, read_complete, name_stands, paren}
 use Rattle.wave_type.proofs.TypeLists.{field_list-fields_of}
 use Rattle.wave_type.proofs.TypeTokens.{one_cut}
-use Rattle.wave.specs.Types.{HasValue, NamesType, NamesParams, text_of}
+use Rattle.wave.specs.Types.{HasValue, NamesType, NamesFunction, text_of}
 
 mutual
   spelled : (T : TypeTree) (ts rest : Tokens) → Spells T ts rest → HasDistinctNames T
@@ -121,25 +120,25 @@ all_distinct : (Ts : List TypeTree) → AllOf Good Ts → AllOf HasDistinctNames
 all_distinct [] good = tt
 all_distinct (T ∷ Ts) good = (good.0.1, all_distinct Ts good.1)
 
--- no name stands twice in the types of parameters that a word names
-pub params_distinct : (word : List ℕ) (Ts : List TypeTree) → NamesParams word Ts → AllOf HasDistinctNames Ts
-params_distinct word Ts (f, spells, within, types, have) = all_distinct Ts (subst (AllOf Good) types (function_text_good word f spells).0.2)
+-- no name stands twice in the types of the parameters of a function that a word names
+pub params_distinct : (word : List ℕ) (f : FunctionType) → NamesFunction word f → AllOf HasDistinctNames (types_of f.params)
+params_distinct word f (spells, within, have) = all_distinct (types_of f.params) (function_text_good word f spells).0.2
 
 module _ (word : List ℕ) where
   -- the text spells no function
-  pub params_none : (kind : TypeErrorKind) → kind ≢ OutOfMemory → IsNoFunction word kind → (Ts : List TypeTree) → NamesParams word Ts → ⊥
-  params_none kind other (inl memory) Ts h = other memory
-  params_none kind other (inr none) Ts (f, spells, within, types, have) = let deep = none f spells in absurd (omega (arith, deep, within))
+  pub function_none : (kind : TypeErrorKind) → kind ≢ OutOfMemory → IsNoFunction word kind → (f : FunctionType) → NamesFunction word f → ⊥
+  function_none kind other (inl memory) f h = other memory
+  function_none kind other (inr none) f (spells, within, have) = let deep = none f spells in absurd (omega (arith, deep, within))
 
   -- the text spells a function, of whose parameters one has no value
-  pub params_empty : (f : FunctionType) → IsFunctionOf word f → (AllOf HasValue (types_of f.params) → ⊥) → (Ts : List TypeTree) → NamesParams word Ts → ⊥
-  params_empty f spells none Ts (g, others, within, types, have) =
-      none (subst (AllOf HasValue) (sym (ap types_of (one_params word f g spells others) ∙ types)) have)
+  pub function_empty : (f : FunctionType) → IsFunctionOf word f → (AllOf HasValue (types_of f.params) → ⊥) → (g : FunctionType) → NamesFunction word g → ⊥
+  function_empty f spells none g (others, within, have) = none (subst (AllOf HasValue) (sym (ap types_of (one_params word f g spells others))) have)
 
-  -- what is answered of the types of a function's parameters
-  pub params_answered : {E : Type 0} (f : FunctionType) (Ts : List TypeTree) (r : Result (Option (Vec TypeTree Global)) E) → IsFunctionOf word f → levels_of_function f ≤ 100 → Ts ≡ types_of f.params
-      → IfOk r (λ found. MatchOption found (AllOf HasValue Ts → ⊥) (λ all. (all.items ≡ Ts) × AllOf HasValue all.items))
-      → IfOk r (λ found. MatchOption found ((Us : List TypeTree) → NamesParams word Us → ⊥) (λ all. NamesParams word all.items))
-  params_answered f Ts (Ok (Some all)) spells within are told = (f, spells, within, sym (told.0 ∙ are), told.1)
-  params_answered f Ts (Ok None) spells within are told = params_empty f spells (λ have. told (subst (AllOf HasValue) (sym are) have))
-  params_answered f Ts (Err e) spells within are told = tt
+  module _ (f : FunctionType) (b : Bool) (spells : IsFunctionOf word f) (tested : IsTrue b ↔ AllOf HasValue (types_of f.params)) where
+    -- the test of the types of its parameters says that each has a value
+    pub function_named : levels_of_function f ≤ 100 → b ≡ true → NamesFunction word f
+    function_named within is = (spells, within, tested.0 is)
+
+    -- it says that one has none
+    pub function_untested : b ≡ false → (g : FunctionType) → NamesFunction word g → ⊥
+    function_untested is = function_empty f spells (λ have. absurd (cc (sym is ∙ tested.1 have)))

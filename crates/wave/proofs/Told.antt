@@ -34,7 +34,7 @@ is_limit words front n (inr (word, is, limit)) = limit.2
 pub is_fit : (words : List (List ℕ)) (request : Request) → AreWordsOf request words → IsFit request
 is_fit words (Value n) asked = is_limit words _ n asked
 is_fit words Call asked = tt
-is_fit words (CallAt types) (word, is, names) = params_distinct word types.items names
+is_fit words (CallAt f) (word, is, names) = params_distinct word f names
 is_fit words (Read T n) (word, tells, names) = (is_limit words _ n tells, named_distinct word T names)
 
 module _ (words : List (List ℕ)) (found : Option Asked) (asked : Asked) (request : Request) (made : MatchOption found (AreUnknown words) (λ a. AskFor a words)) (is : found ≡ Some asked) where

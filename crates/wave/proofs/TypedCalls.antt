@@ -2,8 +2,6 @@
 use Rattle.std.proofs.Common.{ℕ, ◌≡◌, ◌≢◌, ◌∙◌, ◌++◌, List, [], ◌∷◌, Option, Some, None, inl, inr, map, drop, refl, sym, ap, subst, arith}
 use Rattle.std.specs.Prelude.{◌↔◌}
 use Rattle.std.specs.declared.ops.Range.{Range}
-use Rattle.std.specs.declared.vec.Vec.{Vec}
-use Rattle.std.specs.declared.alloc.Global.{Global}
 use Rattle.wave_wasm.specs.Lists.{AllOf, SomeOf}
 use Rattle.wave_wasm.specs.Text.{arguments_text}
 use Rattle.wave_wasm.specs.Types.{TypeTree, HasDistinctNames}
@@ -11,6 +9,7 @@ use Rattle.wave_wasm.specs.Values.{Value}
 use Rattle.wave_lex.specs.Errors.{Diagnostic}
 use Rattle.wave_lex.specs.declared.error.ParserErrorKind.TheVariants as kind
 use Rattle.wave_type.proofs.TypeReading.{map_self}
+use Rattle.wave_type.specs.FunctionType.{FunctionType, types_of}
 use Rattle.wave_value.specs.FullTypes.{IsFull}
 use Rattle.wave_value.specs.TypedValue.{TypedValue, IsAt}
 use Rattle.wave_grammar.specs.Token.{Token, CutsInto, paren_close}
@@ -162,23 +161,23 @@ same_tokens s name other params others call again =
 pub at_types : (P : List TypeTree → Type 0) (slice Ts : List TypeTree) → slice ≡ Ts → P (map (λ T. T) slice) → P Ts
 at_types P slice Ts is holds = subst P (map_self slice ∙ is) holds
 
-module _ (types : Vec TypeTree Global) (s : List ℕ) where
+module _ (f : FunctionType) (s : List ℕ) where
   -- a refusal of the parameters states a fault of the call, which has no values at the types; or it is out of memory
-  pub refused_at : (u : Called) (e : Diagnostic) → AllOf HasDistinctNames types.items → IsCalledOf s u → RefusesParamsAt IsFull types.items u.source u.name u.params e → e.kind ≢ kind.OutOfMemory → IsRefused (CallAt types) s e
+  pub refused_at : (u : Called) (e : Diagnostic) → AllOf HasDistinctNames (types_of f.params) → IsCalledOf s u → RefusesParamsAt IsFull (types_of f.params) u.source u.name u.params e → e.kind ≢ kind.OutOfMemory → IsRefused (CallAt f) s e
   refused_at u e distinct of refuses other =
       let it = items_of of.call.tokens of.params of.call.spelled in
-      let (fault, none) = blamed types.items u.source u.name u.params of.params it.items e distinct distinct other (means_at s u of) it.are refuses in (
-        inr (u, of, subst (λ (source : List ℕ). HasParamsFault types.items source u.name u.params e) of.source fault),
+      let (fault, none) = blamed (types_of f.params) u.source u.name u.params of.params it.items e distinct distinct other (means_at s u of) it.are refuses in (
+        inr (u, of, subst (λ (source : List ℕ). HasParamsFault (types_of f.params) source u.name u.params e) of.source fault),
         λ answer (name, vs, (params, call, are), same).
-            none vs ((it.by types.items vs).0 (subst (λ (z : List Token). Params types.items z vs) (same_tokens s (slice s u.name) name of.params params of.call call) are)),
+            none vs ((it.by (types_of f.params) vs).0 (subst (λ (z : List Token). Params (types_of f.params) z vs) (same_tokens s (slice s u.name) name of.params params of.call call) are)),
       )
 
   -- a refusal of the text states a fault of it, which is no call; or it is out of memory
-  pub is_no_call_at : (e : Diagnostic) → RefusesCall s e → e.kind ≢ kind.OutOfMemory → IsRefused (CallAt types) s e
+  pub is_no_call_at : (e : Diagnostic) → RefusesCall s e → e.kind ≢ kind.OutOfMemory → IsRefused (CallAt f) s e
   is_no_call_at e fault other =
       let told = fault other in
       (inl told.0, λ answer (name, vs, (params, call, are), same). told.1 name params call)
 
   -- the name and the canonical parameters are the answer
-  pub answered_at : (u : Called) (vs : List TypedValue) (answer : List ℕ) → AllOf HasDistinctNames types.items → IsCalledOf s u → AreValuesAt types.items u vs → answer ≡ slice s u.name ++ arguments_text (values_of vs) → Answers (CallAt types) s answer
-  answered_at u vs answer distinct of gives same = (slice s u.name, values_of vs, read_at types.items s u vs distinct of gives, same)
+  pub answered_at : (u : Called) (vs : List TypedValue) (answer : List ℕ) → AllOf HasDistinctNames (types_of f.params) → IsCalledOf s u → AreValuesAt (types_of f.params) u vs → answer ≡ slice s u.name ++ arguments_text (values_of vs) → Answers (CallAt f) s answer
+  answered_at u vs answer distinct of gives same = (slice s u.name, values_of vs, read_at (types_of f.params) s u vs distinct of gives, same)

@@ -3,6 +3,7 @@ use Rattle.std.specs.Prelude.{ℕ, List, ◌≡◌, ◌⊎◌, ◌++◌, IfSome,
 use Rattle.std.specs.declared.option.Option.{Option}
 use Rattle.wave_wasm.specs.Values.{Value}
 use Rattle.wave_wasm.specs.Text.{text, arguments_text}
+use Rattle.wave_type.specs.FunctionType.{types_of}
 use Rattle.wave_lex.specs.Errors.{Diagnostic}
 use Rattle.wave_grammar.specs.Tree.{Tree, MaybeTree, shown}
 use Rattle.wave_grammar.specs.Calls.{IsCall, shown_call}
@@ -20,19 +21,19 @@ use Rattle.wave.specs.TypedCalls.{IsCallAt, CallFaultAt}
 use Rattle.wave.specs.ReadFaults.{IsReadToEnd, IsUnread}
 
 -- the request on the text has the answer: the display of the tree that the text spells within n levels, that of the call that it is,
--- the call's name and the canonical parameters at the types, or the canonical text of the value that it means at the type within n levels
+-- the call's name and the canonical parameters at the function's types, or the canonical text of the value that it means at the type within n levels
 abbrev pub Answers : Request → List ℕ → List ℕ → Type 0
 Answers (request.Value n) whole answer = (t : Tree) × SpellsText n whole t × (answer ≡ shown t)
 Answers request.Call whole answer = (name : List ℕ) × (params : MaybeTree) × IsCall whole name params × (answer ≡ shown_call name params)
-Answers (request.CallAt types) whole answer =
-    (name : List ℕ) × (vs : List Value) × IsCallAt types.items whole name vs × (answer ≡ name ++ arguments_text vs)
+Answers (request.CallAt f) whole answer =
+    (name : List ℕ) × (vs : List Value) × IsCallAt (types_of f.params) whole name vs × (answer ≡ name ++ arguments_text vs)
 Answers (request.Read T n) whole answer = (v : Value) × Means T n whole v × (answer ≡ text v)
 
 -- the refusal states a fault of the text: its kind, detail, cause and place
 abbrev pub TellsFaultOf : Request → List ℕ → Diagnostic → Type 0
 TellsFaultOf (request.Value n) whole e = SyntaxFault n whole e
 TellsFaultOf request.Call whole e = CallFault whole e
-TellsFaultOf (request.CallAt types) whole e = CallFault whole e ⊎ CallFaultAt types.items whole e
+TellsFaultOf (request.CallAt f) whole e = CallFault whole e ⊎ CallFaultAt (types_of f.params) whole e
 TellsFaultOf (request.Read T n) whole e = TextFault T n whole e
 
 -- the request on the text has no answer, and the refusal says why

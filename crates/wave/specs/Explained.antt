@@ -19,7 +19,7 @@ use Rattle.wave.specs.Written.{WritesWhole, WritesLess}
 abbrev pub Explains : Request → List ℕ → Diagnostic → List ℕ → Type 0
 Explains (request.Value n) whole e text = IsUntypedExplained whole e text
 Explains request.Call whole e text = IsExplained whole (error_text e) e.span text
-Explains (request.CallAt types) whole e text = IsExplained whole (error_text e) e.span text
+Explains (request.CallAt f) whole e text = IsExplained whole (error_text e) e.span text
 Explains (request.Read T n) whole e text = IsValueExplained whole T e text
 
 module _ {E : Type 0} (contents : E → Option (List ℕ)) where

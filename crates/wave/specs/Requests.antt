@@ -6,7 +6,7 @@ use Rattle.wave.specs.declared.request.Request.{Request}
 use Rattle.wave.specs.declared.request.Request.TheVariants.{Value, Call, CallAt, Read}
 use Rattle.wave.specs.declared.request.Asked.{Asked}
 use Rattle.wave.specs.declared.request.Asked.TheVariants.{Whole, Lines}
-use Rattle.wave.specs.Types.{NamesType, NamesParams}
+use Rattle.wave.specs.Types.{NamesType, NamesFunction}
 
 -- the word has no leading zero
 abbrev pub HasNoLeadingZero : List ℕ → Type 0
@@ -25,7 +25,7 @@ TellLimit words front n = (words ≡ front) × (n ≡ 100) ⊎ ((word : List ℕ
 abbrev pub AreWordsOf : Request → List (List ℕ) → Type 0
 AreWordsOf (Value n) words = TellLimit words (codes "value" ∷ []) n
 AreWordsOf Call words = words ≡ codes "call" ∷ []
-AreWordsOf (CallAt types) words = (word : List ℕ) × (words ≡ codes "call" ∷ word ∷ []) × NamesParams word types.items
+AreWordsOf (CallAt f) words = (word : List ℕ) × (words ≡ codes "call" ∷ word ∷ []) × NamesFunction word f
 AreWordsOf (Read T n) words = (word : List ℕ) × TellLimit words (codes "read" ∷ word ∷ []) n × NamesType word T
 
 -- the arguments make the request that is asked for; to be answered on each line they do so before `--lines`

@@ -1,5 +1,5 @@
 -- Which word stands for which type.
-use Rattle.std.specs.Prelude.{ℕ, ◌≡◌, ◌≤◌, List, [], ◌∷◌, if◌then◌else◌, codes}
+use Rattle.std.specs.Prelude.{ℕ, ◌≤◌, List, [], ◌∷◌, if◌then◌else◌, codes}
 use Rattle.std.specs.Str.{bytes_eq}
 use Rattle.wave_wasm.specs.Lists.{AllOf}
 use Rattle.wave_wasm.specs.Types.{TypeTree}
@@ -38,6 +38,6 @@ HasValue T = (v : Value) × HasType T v
 abbrev pub NamesType : List ℕ → TypeTree → Type 0
 NamesType word T = IsTypeOf (text_of word) T × (levels_of T ≤ 100) × HasValue T
 
--- the word is the text of the type of a function, in which at most 100 types stand one inside another; its parameters have these types, each with a value
-abbrev pub NamesParams : List ℕ → List TypeTree → Type 0
-NamesParams word Ts = (f : FunctionType) × IsFunctionOf word f × (levels_of_function f ≤ 100) × (types_of f.params ≡ Ts) × AllOf HasValue Ts
+-- the word is the text of the type of the function, in which at most 100 types stand one inside another; the type of each parameter has a value
+abbrev pub NamesFunction : List ℕ → FunctionType → Type 0
+NamesFunction word f = IsFunctionOf word f × (levels_of_function f ≤ 100) × AllOf HasValue (types_of f.params)

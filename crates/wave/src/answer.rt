@@ -2,6 +2,7 @@
 ghost use Rattle.std.specs.Prelude.{◌≡◌, ◌++◌, IfOk, MatchResult, map, string_bytes};
 ghost use Rattle.wave_wasm.specs.Text.{arguments_text};
 ghost use Rattle.wave_wasm.specs.WriterState.{IsOutOfMemory};
+ghost use Rattle.wave_type.specs.FunctionType.{types_of};
 ghost use Rattle.wave.specs.declared.answer.Unanswered.TheVariants as why;
 ghost use Rattle.wave.specs.declared.request.Request.TheVariants as request;
 ghost use Rattle.wave_tree.specs.ParserState.{IsLimit};
@@ -16,8 +17,8 @@ use std::alloc::{AllocError, Global};
 use wasm_wave::parser::{Parser, ParserError};
 use wasm_wave::to_string;
 use wasm_wave::untyped::UntypedFuncCall;
-use wasm_wave::value::{Type, Value};
-use wasm_wave::wasm::DisplayFuncArgs;
+use wasm_wave::value::{FuncType, Type, Value};
+use wasm_wave::wasm::{DisplayFuncArgs, WasmFunc};
 use wasm_wave::writer::WriterError;
 
 /// Why a request isn't answered on a text.
@@ -55,7 +56,7 @@ pub fn answer(alloc: Global, request: &Request, text: &str) -> Result<String, Un
     match request {
         Request::Value(levels) => value(alloc, *levels, text),
         Request::Call => call(alloc, text),
-        Request::CallAt(types) => call_at(alloc, types, text),
+        Request::CallAt(function) => call_at(alloc, function, text),
         Request::Read(ty, levels) => read(alloc, ty, *levels, text),
     }
 }
@@ -83,16 +84,32 @@ fn call(alloc: Global, text: &str) -> Result<String, Unanswered>
     Ok(call.to_string(alloc)?)
 }
 
-/// The name of the call that the text is, and its canonical parameters at the types.
-fn call_at(alloc: Global, types: &Vec<Type>, text: &str) -> Result<String, Unanswered>
-    requires { AllOf HasDistinctNames types.now.items }
+/// The name of the call that the text is, and its canonical parameters at the function's types.
+fn call_at(alloc: Global, function: &FuncType, text: &str) -> Result<String, Unanswered>
+    requires { AllOf HasDistinctNames (types_of function.now.params) }
     ensures { MatchResult result
-        (λ answer. Answers (request.CallAt types.now) text.now (string_bytes answer))
-        (IsUnanswered (request.CallAt types.now) text.now) }
+        (λ answer. Answers (request.CallAt function.now) text.now (string_bytes answer))
+        (IsUnanswered (request.CallAt function.now) text.now) }
 {
     let untyped = UntypedFuncCall::parse(alloc, text)?;
+    let types = match param_types(alloc, function) {
+        Ok(types) => types,
+        Err(error) => return Err(Unanswered::Refused(ParserError::from(error))),
+    };
     let params = untyped.to_wasm_params::<Value>(alloc, types.as_slice())?;
     Ok(canonical_call(alloc, untyped.name(), &params)?)
+}
+
+/// Copies of the types of the function's parameters. The only error is out of memory.
+fn param_types(alloc: Global, function: &FuncType) -> Result<Vec<Type>, AllocError>
+    ensures { IfOk result (λ types. types.items ≡ types_of function.now.params) }
+{
+    let params = function.params(alloc)?;
+    let mut types = Vec::new(alloc);
+    for ty in &params {
+        types.push((*ty).clone()?)?;
+    }
+    Ok(types)
 }
 
 /// The name and the canonical parameters in their parentheses.

@@ -19,7 +19,8 @@ pub fn explain_refusal(
 {
     match request {
         Request::Value(_) => explain_untyped(alloc, refusal, text),
-        Request::Call | Request::CallAt(_) => explain(alloc, refusal, text),
+        Request::Call => explain(alloc, refusal, text),
+        Request::CallAt(_) => explain(alloc, refusal, text),
         Request::Read(ty, _) => explain_value(alloc, refusal, text, ty),
     }
 }

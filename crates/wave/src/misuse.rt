@@ -2,16 +2,17 @@
 ghost use Rattle.std.specs.Prelude.{ℕ, List, [], ◌∷◌, ◌≡◌, ◌≢◌, ◌≤◌, ◌<◌, ◌++◌, IfOk, OnOk, MatchOption, codes, map, string_bytes};
 ghost use Rattle.wave_wasm.specs.Lists.{AllOf};
 ghost use Rattle.wave_wasm.specs.Types.{TypeTree};
+ghost use Rattle.wave_type.specs.FunctionType.{FunctionType};
 ghost use Rattle.wave_type.specs.TypeErrors.{type_error_text};
 ghost use Rattle.wave_type.specs.declared.error.TypeErrorKind.TheVariants as kind;
 ghost use Rattle.wasm_wave.specs.Places.{IsExplained};
 ghost use Rattle.wave.specs.Lines.{line};
 ghost use Rattle.wave.specs.Misuse.{edits, suggestions, IsHint, IsQuoted, IsBadType, IsBadFunc, IsNoRequestWord, IsMisuse, IsExplainedMisuse};
 ghost use Rattle.wave.specs.Requests.{MakeNone, AreUnknown};
-ghost use Rattle.wave.specs.Types.{NamesType, NamesParams};
+ghost use Rattle.wave.specs.Types.{NamesType, NamesFunction};
 
 use crate::request::limit_of;
-use crate::types::{params_at, text_of};
+use crate::types::{function_at, text_of};
 use std::alloc::{AllocError, Global};
 use strsim::levenshtein;
 use wasm_wave::explain::explain_at;
@@ -74,7 +75,7 @@ fn call_misuse(alloc: Global, rest: &[String]) -> Result<String, AllocError>
 {
     match rest {
         [] => unreachable!(),
-        [func] => match params_at(alloc, func.as_str())? {
+        [func] => match function_at(alloc, func.as_str())? {
             Some(_) => unreachable!(),
             None => bad_func(alloc, func.as_str()),
         },
@@ -221,7 +222,7 @@ fn bad_type(alloc: Global, word: &str) -> Result<String, AllocError>
 
 /// Why the word is no type of a function, or one with a parameter whose type has no value.
 fn bad_func(alloc: Global, word: &str) -> Result<String, AllocError>
-    requires { (types : List TypeTree) → NamesParams word.now types → ⊥ }
+    requires { (f : FunctionType) → NamesFunction word.now f → ⊥ }
     ensures { IfOk result (λ why. IsBadFunc word.now (string_bytes why)) }
 {
     match FuncType::parse(alloc, word) {

@@ -2,11 +2,11 @@
 ghost use Rattle.std.specs.Prelude.{ℕ, [], ◌∷◌, IfOk, IfErr, MatchOption, map, string_bytes};
 ghost use Rattle.wave.specs.Requests.{IsLimitWord, AreWordsOf, HaveType, MakeNone, AskFor, AskByLines, AskNoneByLines, AskForType, AreUnknown};
 
-use crate::types::{params_at, type_at};
+use crate::types::{function_at, type_at};
 use std::alloc::{AllocError, Global};
 use wasm_wave::WholeNumber;
 use wasm_wave::parser::{DEFAULT_LEVELS, MAX_LEVELS};
-use wasm_wave::value::Type;
+use wasm_wave::value::{FuncType, Type};
 
 /// What the program is to do.
 #[derive(Debug, Drop)]
@@ -15,8 +15,9 @@ pub enum Request {
     Value(u32),
     /// A call is read without types, and displayed.
     Call,
-    /// A call is read at the types of its parameters, and its name and the canonical parameters printed.
-    CallAt(Vec<Type>),
+    /// A call is read at the types of the function's parameters, and its name and the canonical
+    /// parameters printed.
+    CallAt(FuncType),
     /// A text is read at the type, within this many levels, and the canonical text of its value printed.
     Read(Type, u32),
 }
@@ -72,8 +73,8 @@ fn two_words(alloc: Global, first: &str, second: &str) -> Result<Option<Request>
             Some(levels) => Ok(Some(Request::Value(levels))),
             None => Ok(None),
         },
-        "call" => match params_at(alloc, second)? {
-            Some(types) => Ok(Some(Request::CallAt(types))),
+        "call" => match function_at(alloc, second)? {
+            Some(function) => Ok(Some(Request::CallAt(function))),
             None => Ok(None),
         },
         "read" => match type_at(alloc, second)? {

@@ -1,9 +1,9 @@
 // The types that the program reads at, from its arguments.
-ghost use Rattle.std.specs.Prelude.{◌≡◌, List, IfOk, MatchOption};
+ghost use Rattle.std.specs.Prelude.{◌≡◌, ◌↔◌, IfOk, IsTrue, MatchOption};
 ghost use Rattle.wave_wasm.specs.Types.{TypeTree};
-ghost use Rattle.wave_wasm.specs.Borrowed.{shown_all};
 ghost use Rattle.wave_wasm.specs.Lists.{AllOf};
-ghost use Rattle.wave.specs.Types.{text_of, HasValue, NamesType, NamesParams};
+ghost use Rattle.wave_type.specs.FunctionType.{FunctionType, types_of};
+ghost use Rattle.wave.specs.Types.{text_of, HasValue, NamesType, NamesFunction};
 
 use crate::inhabited::is_inhabited;
 use std::alloc::{AllocError, Global};
@@ -29,37 +29,36 @@ pub fn type_at(alloc: Global, word: &str) -> Result<Option<Type>, AllocError>
     }
 }
 
-/// The types of the parameters of the function whose type the word spells, where each of them has a
-/// value. The only error is out of memory.
-pub fn params_at(alloc: Global, word: &str) -> Result<Option<Vec<Type>>, AllocError>
+/// The type of a function that the word spells, where the type of each parameter has a value. The only
+/// error is out of memory.
+pub fn function_at(alloc: Global, word: &str) -> Result<Option<FuncType>, AllocError>
     ensures { IfOk result (λ found. MatchOption found
-        ((Ts : List TypeTree) → NamesParams word.now Ts → ⊥)
-        (λ types. NamesParams word.now types.items)) }
+        ((f : FunctionType) → NamesFunction word.now f → ⊥)
+        (NamesFunction word.now)) }
 {
     let function = match FuncType::parse(alloc, word) {
         Ok(function) => function,
         Err(error) if error.kind() == TypeErrorKind::OutOfMemory => return Err(AllocError),
         Err(_) => return Ok(None),
     };
-    let types = function.params(alloc)?;
-    with_values(alloc, &types)
+    if params_have_values(alloc, &function)? {
+        Ok(Some(function))
+    } else {
+        Ok(None)
+    }
 }
 
-/// The types, where each has a value. The only error is out of memory.
-fn with_values(alloc: Global, types: &Vec<&Type>) -> Result<Option<Vec<Type>>, AllocError>
-    ensures { IfOk result (λ found. MatchOption found
-        (AllOf HasValue (shown_all (λ T. T) types.now.items) → ⊥)
-        (λ all. (all.items ≡ shown_all (λ T. T) types.now.items) × AllOf HasValue all.items)) }
+/// Whether the type of each parameter has a value. The only error is out of memory.
+fn params_have_values(alloc: Global, function: &FuncType) -> Result<bool, AllocError>
+    ensures { IfOk result (λ b. IsTrue b ↔ AllOf HasValue (types_of function.now.params)) }
 {
-    let mut all = Vec::new(alloc);
-    for ty in types {
-        let ty: &Type = *ty;
-        if !is_inhabited(alloc, ty)? {
-            return Ok(None);
+    let types = function.params(alloc)?;
+    for ty in &types {
+        if !is_inhabited(alloc, *ty)? {
+            return Ok(false);
         }
-        all.push(ty.clone()?)?;
     }
-    Ok(Some(all))
+    Ok(true)
 }
 
 /// The text for which the word stands: that of a sample's type, or the word itself.

@@ -8,12 +8,12 @@ unreachable-requires c = call_alone _ (no_texts c.args.rest.now (search rules)) 
 
 pub unreachable-requires-in-Some : goal.unreachable-requires-in-Some
 unreachable-requires-in-Some c =
-    some_named c.in_ok-params_at-in-len1.field-0 c.as_str.result.now c.in_ok-params_at-in-len1.ensures c.in-Some.field-0 _ c.in-Some.is
+    some_named c.in_ok-function_at-in-len1.field-0 c.as_str.result.now c.in_ok-function_at-in-len1.ensures c.in-Some.field-0 _ c.in-Some.is
     (one_word c.args.rest.now c.func-item.result _ c.in-len1.len_at_least c.in-len1.len_below c.func-item.is c.as_str.ensures.value) c.requires
 
 pub bad_func-requires : goal.bad_func-requires
 bad_func-requires c =
-    none_named c.in_ok-params_at-in-len1.field-0 c.as_str.result.now c.in_ok-params_at-in-len1.ensures _ c.in-None.is
+    none_named c.in_ok-function_at-in-len1.field-0 c.as_str.result.now c.in_ok-function_at-in-len1.ensures _ c.in-None.is
     (c.as_str-in-None.ensures.value ∙ sym c.as_str.ensures.value)
 
 pub returns-in-None : goal.returns-in-None
