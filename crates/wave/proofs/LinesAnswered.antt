@@ -1,5 +1,5 @@
 -- What was answered, printed and shown of the lines so far, and how that ends.
-use Rattle.std.proofs.Common.{ℕ, ◌≡◌, ◌≢◌, ◌+◌, ◌*◌, ◌≤◌, ◌⊎◌, Bool, true, false, List, [], ◌∷◌, ◌++◌, length, Option, Some, None, IfSome, refl, sym, ap, subst, ◌∙◌, inl, inr, arith, append_assoc, length-append}
+use Rattle.std.proofs.Common.{ℕ, ◌≡◌, ◌≢◌, ◌+◌, ◌*◌, ◌≤◌, ◌⊎◌, Bool, true, false, List, [], ◌∷◌, ◌++◌, length, Option, Some, None, Ok, IfSome, refl, sym, ap, subst, ◌∙◌, inl, inr, arith, append_assoc, length-append}
 use Rattle.std.specs.Prelude.{MatchBool, if◌then◌else◌, not, ◌||◌, ◌==◌}
 use Rattle.std.specs.Io.KnownBytes.{IsAtEnd, prepend_known}
 use Rattle.std.specs.Str.Lines.{lines}
@@ -11,13 +11,14 @@ use Rattle.wave.specs.declared.input.Fault.{Fault}
 use Rattle.wave.specs.declared.input.Fault.TheVariants.{NotUtf8, InputFailed, OutOfMemory}
 use Rattle.wave.specs.declared.lines.Unread.{Unread}
 use Rattle.wave.specs.declared.output.Output.{Output}
+use Rattle.wave.specs.declared.program.Ended.{Ended}
 use Rattle.wave.specs.Answers.{words_of_fault}
-use Rattle.wave.specs.ByLines.{IsLineAnswer, AreAnswered, IsStatusOf, AnswersLines}
+use Rattle.wave.specs.ByLines.{IsLineAnswer, AreAnswered, IsStatusOf, IsPlaceShown, IsLineFault, EndsAtFault, AnswersLines}
 use Rattle.wave.specs.Counts.{CountsOne}
 use Rattle.wave.specs.Lines.{line}
 use Rattle.wave.specs.ReadFaults.{IsUnread}
-use Rattle.wave.specs.Written.{WritesWhole, WritesLess, Prints}
-use Rattle.wave.specs.Private.ByLines.{IsNoNextAnswer}
+use Rattle.wave.specs.Written.{WritesWhole, WritesLess}
+use Rattle.wave.specs.Private.ByLines.{IsNoNextAnswer, ShowsLast}
 use Rattle.wave.specs.Private.InputLines.{IsCutOff, IsEndKnown, TakesLine, TakesLines, left, most_lines, unread_bytes}
 
 -- ---- lines
@@ -100,9 +101,11 @@ module _ {W : Type 0} (contents : W → Option (List ℕ)) where
   less_more : (a b : Output W) (s t : List ℕ) → WritesLess contents a b s → WritesLess contents a b (s ++ t)
   less_more a b s t (one, front, rest, is, some, wrote) = (one, front, rest ++ t, ap (λ z. z ++ t) is ∙ append_assoc front rest t, longer rest t some, wrote)
 
-  prints_behind : (a b c : Output W) (s t : List ℕ) (result : ℕ) → WritesWhole contents a b s → Prints contents b c t 3 result → Prints contents a c (s ++ t) 3 result
-  prints_behind a b c s t result whole (inl (is, later)) = inl (is, whole_whole a b c s t whole later)
-  prints_behind a b c s t result whole (inr (is, later)) = inr (is, whole_less a b c s t whole later)
+  -- a fault was told behind what was printed
+  ends_behind : (a b c : Output W) (fault : Fault) (number count : ℕ) (s last : List ℕ) (ended : Ended) → WritesWhole contents a b s → number ≡ count → EndsAtFault contents b c fault number [] last ended → EndsAtFault contents a c fault count s last ended
+  ends_behind a b c fault number count s last ended whole same (three, inl (later, shown)) =
+      (three, inl (whole_whole a b c s (line (words_of_fault fault)) whole later, subst (λ n. IsPlaceShown n fault last ended.shown) same shown))
+  ends_behind a b c fault number count s last ended whole same (three, inr (later, nothing)) = (three, inr (whole_less a b c s (line (words_of_fault fault)) whole later, nothing))
 
   -- the explanations were written while all writes went well
   told_more : (a b c : Output W) (s t : List ℕ) (was is : Bool) → MatchBool was (WritesWhole contents a b s) (WritesLess contents a b s)
@@ -116,6 +119,28 @@ module _ {W : Type 0} (contents : W → Option (List ℕ)) where
   either_told : (a b : Output W) (s : List ℕ) (is : Bool) → MatchBool is (WritesWhole contents a b s) (WritesLess contents a b s) → WritesWhole contents a b s ⊎ WritesLess contents a b s
   either_told a b s true told = inl told
   either_told a b s false told = inr told
+
+  -- one text more was written, or not as a write had failed
+  told_last : (a b c : Output W) (s t : List ℕ) (is : Bool) → MatchBool is (WritesWhole contents a b s) (WritesLess contents a b s) → ShowsLast contents b c is t → WritesWhole contents a c (s ++ t) ⊎ WritesLess contents a c (s ++ t)
+  told_last a b c s t true told (inl whole) = inl (whole_whole a b c s t told whole)
+  told_last a b c s t true told (inr less) = inr (whole_less a b c s t told less)
+  told_last a b c s t false told same = inr (subst (λ z. WritesLess contents a z (s ++ t)) (sym same) (less_more a b s t told))
+
+  -- nothing more was
+  told_all : (a b : Output W) (s : List ℕ) (is : Bool) → MatchBool is (WritesWhole contents a b s) (WritesLess contents a b s) → WritesWhole contents a b (s ++ []) ⊎ WritesLess contents a b (s ++ [])
+  told_all a b s is told = subst (λ z. WritesWhole contents a b z ⊎ WritesLess contents a b z) (sym (append-nil s)) (either_told a b s is told)
+
+  -- nothing was written
+  pub shows_nothing : (a : Output W) (is : Bool) → ShowsLast contents a a is []
+  shows_nothing a true = inl (whole_nothing a)
+  shows_nothing a false = refl
+
+  -- a text was written unless a write had failed
+  pub shows_by : (a b : Output W) (t : List ℕ) (was is : Bool) → (was ≡ true → is ≡ true → WritesWhole contents a b t) → (was ≡ true → is ≡ false → WritesLess contents a b t) → (was ≡ false → (b ≡ a) × (is ≡ false))
+      → ShowsLast contents a b was t
+  shows_by a b t true true whole less none = inl (whole refl refl)
+  shows_by a b t true false whole less none = inr (less refl refl)
+  shows_by a b t false is whole less none = let h = none refl in h.0
 
 -- whether anything is shown
 refused_more : (s t : List ℕ) (was empty : Bool) → MatchBool was (s ≢ []) (s ≡ []) → MatchBool empty (t ≡ []) (t ≢ []) → MatchBool (was || not empty) (s ++ t ≢ []) (s ++ t ≡ [])
@@ -177,17 +202,19 @@ module _ {R W E : Type 0} (remaining : R → Option (List ℕ)) (contents : W �
   }
 
   -- the input had ended before
-  pub had_ended : (request : Request) (first : Input R) (before after : Output W) (errors : Output E) (result : ℕ) → first.has_ended ≡ true → Prints contents before after (line (words_of_fault InputFailed)) 3 result
-      → AnswersLines contents held request (remaining first.reader) first first before after errors errors result
-  had_ended request first before after errors result ended prints = record {
+  pub had_ended : (request : Request) (first : Input R) (before after : Output W) (errors_before errors_after : Output E) (ended : Ended) → first.has_ended ≡ true
+      → (last : List ℕ) × EndsAtFault contents before after InputFailed 1 [] last ended × ShowsLast held errors_before errors_after true last
+      → AnswersLines contents held request (remaining first.reader) first first before after errors_before errors_after ended
+  had_ended request first before after errors_before errors_after ended had (last, ends, shows) = record {
     texts = [];
     rest = rest_of (remaining first.reader);
     said = [];
     shown = [];
+    last = last;
     are_lines = with_rest (remaining first.reader) (remaining first.reader) [] (nothing (remaining first.reader));
     answered = (refl, refl);
-    ended = inr (inl (InputFailed, inr (inr (ended, refl)), prints));
-    told = inl (whole_nothing held errors);
+    ends = inr (inl (InputFailed, inr (inr (had, refl)), ends));
+    told = shows;
   } where
     nothing : (r : Option (List ℕ)) → TakesLines r r []
     nothing None = tt
@@ -196,53 +223,46 @@ module _ {R W E : Type 0} (remaining : R → Option (List ℕ)) (contents : W �
   module _ (request : Request) (first now : Input R) (unread : Unread) (before after : Output W) (errors_before errors_after : Output E) (number : ℕ) (is_refused is_shown : Bool)
       (g : AreAnsweredSoFar request first now unread before after errors_before errors_after number is_refused is_shown) where
     -- the input has no more lines
-    pub all_answered : (new : Input R) (status : ℕ) → first.has_ended ≡ false → IsAtEnd (left remaining now unread) → new.has_ended ≡ true → new.failures ≡ now.failures → status ≡ (if is_refused then 1 else 0)
-        → AnswersLines contents held request (remaining first.reader) first new before after errors_before errors_after status
-    all_answered new status goes_on end ended fine is = record {
+    pub all_answered : (new : Input R) (status : ℕ) (ended : Ended) → first.has_ended ≡ false → IsAtEnd (left remaining now unread) → new.has_ended ≡ true → new.failures ≡ now.failures → status ≡ (if is_refused then 1 else 0)
+        → ended.status ≡ status → ended.shown ≡ Ok tt → AnswersLines contents held request (remaining first.reader) first new before after errors_before errors_after ended
+    all_answered new status ended goes_on end at_end fine is same quiet = record {
       texts = g.texts;
       rest = rest_of (left remaining now unread);
       said = g.said;
       shown = g.shown;
+      last = [];
       are_lines = with_rest _ _ g.texts g.taken;
       answered = g.answered;
-      ended = inl (no_rest (left remaining now unread) end, (goes_on, ended, fine ∙ g.well), status_of g.shown is_refused status g.refused is, g.printed);
-      told = either_told held errors_before errors_after g.shown is_shown g.told;
+      ends = inl (no_rest (left remaining now unread) end, (goes_on, at_end, fine ∙ g.well), status_of g.shown is_refused ended.status g.refused (same ∙ is), g.printed, (refl, quiet));
+      told = told_all held errors_before errors_after g.shown is_shown g.told;
     }
 
-    -- the next line is not answered
-    pub cut_off : (new : Input R) (more : Unread) (later : Output W) (fault : Fault) (result : ℕ) → IsNoNextAnswer (left remaining now unread) (left remaining new more) now new fault
-        → Prints contents after later (line (words_of_fault fault)) 3 result
-        → AnswersLines contents held request (remaining first.reader) first new before later errors_before errors_after result
-    cut_off new more later NotUtf8 result (bad, next, wrong, fine) prints = record {
-      texts = g.texts;
-      rest = bad ∷ rest_of (left remaining new more);
-      said = g.said;
-      shown = g.shown;
-      are_lines = with_bad _ _ _ g.texts bad g.taken next;
-      answered = g.answered;
-      ended = inr (inl (NotUtf8, (bad, rest_of (left remaining new more), refl, wrong, fine ∙ g.well), prints_behind contents before after later g.said _ result g.printed prints));
-      told = either_told held errors_before errors_after g.shown is_shown g.told;
-    }
-    cut_off new more later InputFailed result cut prints = record {
-      texts = g.texts;
-      rest = rest_of (left remaining now unread);
-      said = g.said;
-      shown = g.shown;
-      are_lines = with_rest _ _ g.texts g.taken;
-      answered = g.answered;
-      ended = inr (inl (InputFailed, cut_from (rest_of (left remaining now unread)) first now new g.well cut, prints_behind contents before after later g.said _ result g.printed prints));
-      told = either_told held errors_before errors_after g.shown is_shown g.told;
-    }
-    cut_off new more later OutOfMemory result fine prints = record {
-      texts = g.texts;
-      rest = rest_of (left remaining now unread);
-      said = g.said;
-      shown = g.shown;
-      are_lines = with_rest _ _ g.texts g.taken;
-      answered = g.answered;
-      ended = inr (inl (OutOfMemory, fine ∙ g.well, prints_behind contents before after later g.said _ result g.printed prints));
-      told = either_told held errors_before errors_after g.shown is_shown g.told;
-    }
+    module _ (new : Input R) (more : Unread) (later : Output W) (errors_then : Output E) (ended : Ended) where
+      -- a fault is told in place of the next line
+      faulty : (fault : Fault) (last : List ℕ) (rest : List (List ℕ)) → IfSome (remaining first.reader) (λ bytes. lines bytes ≡ g.texts ++ rest) → IsLineFault rest first new fault
+          → EndsAtFault contents after later fault number [] last ended → ShowsLast held errors_after errors_then is_shown last
+          → AnswersLines contents held request (remaining first.reader) first new before later errors_before errors_then ended
+      faulty fault last rest are is ends shows = record {
+        texts = g.texts;
+        rest = rest;
+        said = g.said;
+        shown = g.shown;
+        last = last;
+        are_lines = are;
+        answered = g.answered;
+        ends = inr (inl (fault, is, ends_behind contents before after later fault number (1 + length g.texts) g.said last ended g.printed g.number_is ends));
+        told = told_last held errors_before errors_after errors_then g.shown last is_shown g.told shows;
+      }
+
+      -- the next line is not answered
+      pub cut_off : (fault : Fault) → IsNoNextAnswer (left remaining now unread) (left remaining new more) now new fault
+          → (last : List ℕ) × EndsAtFault contents after later fault number [] last ended × ShowsLast held errors_after errors_then is_shown last
+          → AnswersLines contents held request (remaining first.reader) first new before later errors_before errors_then ended
+      cut_off (NotUtf8 place) (bad, next, wrong, fine) (last, ends, shows) =
+          faulty (NotUtf8 place) last (bad ∷ rest_of (left remaining new more)) (with_bad _ _ _ g.texts bad g.taken next) (bad, rest_of (left remaining new more), refl, wrong, fine ∙ g.well) ends shows
+      cut_off InputFailed cut (last, ends, shows) =
+          faulty InputFailed last (rest_of (left remaining now unread)) (with_rest _ _ g.texts g.taken) (cut_from (rest_of (left remaining now unread)) first now new g.well cut) ends shows
+      cut_off OutOfMemory fine (last, ends, shows) = faulty OutOfMemory last (rest_of (left remaining now unread)) (with_rest _ _ g.texts g.taken) (fine ∙ g.well) ends shows
 
     module _ (new : Input R) (more : Unread) (text answer explained printed : List ℕ) (next : TakesLine (left remaining now unread) (left remaining new more) text) (is : IsLineAnswer request number text answer explained)
         (printed_is : printed ≡ line answer) (errors_then : Output E) (shows : Bool)
@@ -279,14 +299,16 @@ module _ {R W E : Type 0} (remaining : R → Option (List ℕ)) (contents : W �
           }
 
       -- its answer was not written whole
-      pub cut_short : (later : Output W) → WritesLess contents after later printed → AnswersLines contents held request (remaining first.reader) first new before later errors_before errors_then 3
-      cut_short later wrote = record {
+      pub cut_short : (later : Output W) (ended : Ended) → WritesLess contents after later printed → ended.status ≡ 3 → ended.shown ≡ Ok tt
+          → AnswersLines contents held request (remaining first.reader) first new before later errors_before errors_then ended
+      cut_short later ended wrote three quiet = record {
         texts = g.texts ++ text ∷ [];
         rest = rest_of (left remaining new more);
         said = g.said ++ line answer;
         shown = g.shown ++ explained;
+        last = [];
         are_lines = with_rest _ _ (g.texts ++ text ∷ []) (takes_more _ _ _ g.texts text g.taken next);
         answered = answered_then;
-        ended = inr (inr (refl, whole_less contents before after later g.said (line answer) g.printed (subst (WritesLess contents after later) printed_is wrote)));
-        told = either_told held errors_before errors_then (g.shown ++ explained) shows told_then;
+        ends = inr (inr (three, whole_less contents before after later g.said (line answer) g.printed (subst (WritesLess contents after later) printed_is wrote), (refl, quiet)));
+        told = told_all held errors_before errors_then (g.shown ++ explained) shows told_then;
       }

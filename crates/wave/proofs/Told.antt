@@ -1,5 +1,5 @@
 -- What a refusal and a fault of the input say of the line that is due.
-use Rattle.std.proofs.Common.{ℕ, ◌≡◌, ◌≢◌, List, Option, Some, MatchOption, Result, Ok, refl, inl, inr, sym, subst, rules, arith}
+use Rattle.std.proofs.Common.{ℕ, ◌≡◌, ◌≢◌, ◌∙◌, List, Option, Some, MatchOption, Result, Ok, refl, inl, inr, sym, subst, rules, arith}
 use Rattle.std.specs.declared.alloc.AllocError.{AllocError}
 use Rattle.wave_lex.specs.Errors.{Diagnostic, error_text}
 use Rattle.wave_lex.specs.declared.error.ParserErrorKind.TheVariants as kind
@@ -16,7 +16,7 @@ use Rattle.wave.specs.declared.output.Output.{Output}
 use Rattle.wave.specs.Requests.{TellLimit, AreWordsOf, AskFor, AreUnknown}
 use Rattle.wave.specs.Answers.{IsFaultOf, IsInput, words_of_fault}
 use Rattle.wave.specs.ByLines.{EndsBefore, AnswersLines, RunsByLines}
-use Rattle.wave.specs.Explained.{ShowsRefusal, ShowsWhy}
+use Rattle.wave.specs.Explained.{ShowsRefusal, ShowsWhy, ShowsFault, IsFailure}
 use Rattle.wave.specs.Lines.{line}
 use Rattle.wave.specs.ReadFaults.{IsReadToEnd}
 use Rattle.wave.specs.Statuses.{IsDueTo}
@@ -56,7 +56,7 @@ is_fit_by_lines words request (front, is, asked) = is_fit front request asked
 module _ {R : Type 0} where
   -- why there is no outcome is a fault of the input, or out of memory
   pub is_fault : (request : Request) (left : Option (List ℕ)) (old new : Input R) (fault : Fault) → IsNoOutcome request left old new fault → IsFaultOf left old new fault
-  is_fault request left old new NotUtf8 none = none
+  is_fault request left old new (NotUtf8 place) none = none
   is_fault request left old new InputFailed none = none
   is_fault request left old new OutOfMemory none = none.0
 
@@ -92,11 +92,27 @@ module _ {W : Type 0} (contents : W → Option (List ℕ)) where
 
 module _ {R W E : Type 0} (contents : W → Option (List ℕ)) (held : E → Option (List ℕ)) where
   -- so of requests on each line
-  pub run_by_lines : (words : List (List ℕ)) (request : Request) (left : Option (List ℕ)) (old new : Input R) (before after : Output W) (errors_before errors_after : Output E) (status : ℕ) (ended : Ended)
-      → AskFor (Lines request) words → AnswersLines contents held request left old new before after errors_before errors_after status → ended.status ≡ status → ended.shown ≡ Ok tt
+  pub run_by_lines : (words : List (List ℕ)) (request : Request) (left : Option (List ℕ)) (old new : Input R) (before after : Output W) (errors_before errors_after : Output E) (ended : Ended)
+      → AskFor (Lines request) words → AnswersLines contents held request left old new before after errors_before errors_after ended
       → RunsByLines contents held words left old new before after errors_before errors_after ended
-  run_by_lines words request left old new before after errors_before errors_after status ended asked answers is shown =
-      (request, asked, subst (AnswersLines contents held request left old new before after errors_before errors_after) (sym is) answers, shown)
+  run_by_lines words request left old new before after errors_before errors_after ended asked answers = (request, asked, answers)
+
+  module _ (left : Option (List ℕ)) (first last : Input R) (before after : Output W) (old new : Output E) (shown : Result (Unit {0}) AllocError) where
+    -- a fault that was told is a failure
+    pub failed_so : (fault : Fault) → IsFaultOf left first last fault → ShowsFault contents before after held old new fault shown → IsFailure left first last contents before after held old new shown
+    failed_so fault is (inl (wrote, shows)) = inl (fault, is, wrote, shows)
+    failed_so fault is (inr (less, same, quiet)) = inr (line (words_of_fault fault), less, same, quiet)
+
+    -- so is a line at another status that was not written whole
+    pub failed_write : (said : List ℕ) (status result : ℕ) → Prints contents before after said status result → (status ≡ 3 → ⊥) → result ≡ 3 → new ≡ old → shown ≡ Ok tt → IsFailure left first last contents before after held old new shown
+    failed_write said status result (inl (is, wrote)) other three same quiet = absurd (other (sym is ∙ three))
+    failed_write said status result (inr (is, less)) other three same quiet = inr (said, less, same, quiet)
+
+    -- so is a refusal that was not told
+    pub failed_refusal : (e : Diagnostic) (result : ℕ) → IsReadToEnd first last → TellsRefusal contents before after e result → result ≡ 3 → new ≡ old → shown ≡ Ok tt → IsFailure left first last contents before after held old new shown
+    failed_refusal e result ended (inl (other, prints)) three same quiet = failed_write (line (error_text e)) 1 result prints (λ is. absurd (omega (arith, is))) three same quiet
+    failed_refusal e result ended (inr (inl (is, wrote))) three same quiet = inl (OutOfMemory, ended.2, wrote, (same, quiet))
+    failed_refusal e result ended (inr (inr (is, less))) three same quiet = inr (line (words_of_fault OutOfMemory), less, same, quiet)
 
 module _ {R W : Type 0} (contents : W → Option (List ℕ)) where
   -- what a request comes to is never status 2
@@ -108,10 +124,9 @@ module _ {R W : Type 0} (contents : W → Option (List ℕ)) where
   whole_not_misused request left old new before after status result said (inr (inr due)) (inl (is, writes)) two = let three = due.0 in absurd (omega (arith, three, is, two))
 
   -- nor what it comes to on each line
-  pub lines_not_misused : {E : Type 0} (held : E → Option (List ℕ)) (rest : List (List ℕ)) (old new : Input R) (before after : Output W) (said explained : List ℕ) (status result : ℕ)
-      → EndsBefore contents held rest old new before after said explained status → result ≡ status → result ≡ 2 → ⊥
-  lines_not_misused held rest old new before after said explained status result (inl (none, ended, inl (zero, quiet), writes)) is two = absurd (omega (arith, zero, is, two))
-  lines_not_misused held rest old new before after said explained status result (inl (none, ended, inr (one, refused), writes)) is two = absurd (omega (arith, one, is, two))
-  lines_not_misused held rest old new before after said explained status result (inr (inl (fault, due, inl (three, writes)))) is two = absurd (omega (arith, three, is, two))
-  lines_not_misused held rest old new before after said explained status result (inr (inl (fault, due, inr (three, cut)))) is two = absurd (omega (arith, three, is, two))
-  lines_not_misused held rest old new before after said explained status result (inr (inr (three, cut))) is two = absurd (omega (arith, three, is, two))
+  pub lines_not_misused : {E : Type 0} (held : E → Option (List ℕ)) (rest : List (List ℕ)) (number : ℕ) (old new : Input R) (before after : Output W) (said explained last : List ℕ) (ended : Ended)
+      → EndsBefore contents held rest number old new before after said explained last ended → ended.status ≡ 2 → ⊥
+  lines_not_misused held rest number old new before after said explained last ended (inl (none, at_end, inl (zero, quiet), writes, nothing)) two = absurd (omega (arith, zero, two))
+  lines_not_misused held rest number old new before after said explained last ended (inl (none, at_end, inr (one, refused), writes, nothing)) two = absurd (omega (arith, one, two))
+  lines_not_misused held rest number old new before after said explained last ended (inr (inl (fault, due, (three, how)))) two = absurd (omega (arith, three, two))
+  lines_not_misused held rest number old new before after said explained last ended (inr (inr (three, cut, nothing))) two = absurd (omega (arith, three, two))

@@ -1,5 +1,6 @@
 -- What the program answers.
 use Rattle.std.specs.Prelude.{ℕ, List, ◌≡◌, ◌⊎◌, ◌++◌, IfSome, IsUtf8, codes}
+use Rattle.std.specs.Str.{IsValidUpTo}
 use Rattle.std.specs.declared.option.Option.{Option}
 use Rattle.wave_wasm.specs.Values.{Value}
 use Rattle.wave_wasm.specs.Text.{text, arguments_text}
@@ -44,20 +45,24 @@ IsRefused request whole e = TellsFaultOf request whole e × ((answer : List ℕ)
 abbrev pub IsInput : Option (List ℕ) → List ℕ → Type 0
 IsInput left whole = IfSome left (λ bytes. whole ≡ bytes) × IsUtf8 whole
 
--- the input is no text
-abbrev pub IsNoText : Option (List ℕ) → Type 0
-IsNoText left = (bytes : List ℕ) × IfSome left (λ known. bytes ≡ known) × (IsUtf8 bytes → ⊥)
+-- the bytes are no text, and the longest beginning of them that is one has so many
+abbrev pub IsTextUpTo : List ℕ → ℕ → Type 0
+IsTextUpTo bytes place = (IsUtf8 bytes → ⊥) × IsValidUpTo bytes place
+
+-- the input is no text, and its longest beginning that is one has so many bytes
+abbrev pub IsNoText : Option (List ℕ) → ℕ → Type 0
+IsNoText left place = (bytes : List ℕ) × IfSome left (λ known. bytes ≡ known) × IsTextUpTo bytes place
 
 -- the words of a fault
 abbrev pub words_of_fault : Fault → List ℕ
-words_of_fault NotUtf8 = codes "input is not UTF-8"
+words_of_fault (NotUtf8 place) = codes "input is not UTF-8"
 words_of_fault InputFailed = codes "input failed"
 words_of_fault OutOfMemory = codes "out of memory"
 
 module _ {R : Type 0} where
   -- the fault is there: the input was read to its end and is no text, or was not read to its end; or there was no memory, and no read failed
   abbrev pub IsFaultOf : Option (List ℕ) → Input R → Input R → Fault → Type 0
-  IsFaultOf left old new NotUtf8 = IsNoText left × IsReadToEnd old new
+  IsFaultOf left old new (NotUtf8 place) = IsNoText left place × IsReadToEnd old new
   IsFaultOf left old new InputFailed = IsUnread old new
   IsFaultOf left old new OutOfMemory = new.failures ≡ old.failures
 

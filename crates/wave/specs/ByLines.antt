@@ -1,8 +1,10 @@
 -- What is answered where each line of the input is a text of its own.
-use Rattle.std.specs.Prelude.{ℕ, ◌≡◌, ◌≢◌, ◌+◌, ◌⊎◌, List, [], ◌∷◌, ◌++◌, None, Ok, IfSome, IsUtf8, codes}
+use Rattle.std.specs.Prelude.{ℕ, ◌≡◌, ◌≢◌, ◌+◌, ◌⊎◌, List, [], ◌∷◌, ◌++◌, length, None, Ok, IfSome, IsUtf8, MatchResult, codes}
 use Rattle.std.specs.Fmt.{decimal}
 use Rattle.std.specs.Str.Lines.{lines}
+use Rattle.std.specs.declared.alloc.AllocError.{AllocError}
 use Rattle.std.specs.declared.option.Option.{Option}
+use Rattle.std.specs.declared.result.Result.{Result}
 use Rattle.wave_lex.specs.Errors.{Diagnostic}
 use Rattle.wave_grammar.specs.ParserPosition.{Place, TakesItem, TakesAny}
 use Rattle.wave_tree.specs.ParserState.{start_of}
@@ -13,12 +15,12 @@ use Rattle.wave.specs.declared.input.Fault.{Fault}
 use Rattle.wave.specs.declared.input.Fault.TheVariants.{NotUtf8, InputFailed, OutOfMemory}
 use Rattle.wave.specs.declared.output.Output.{Output}
 use Rattle.wave.specs.declared.program.Ended.{Ended}
-use Rattle.wave.specs.Answers.{Answers, IsRefused, words_of_fault}
-use Rattle.wave.specs.Explained.{Explains}
+use Rattle.wave.specs.Answers.{Answers, IsRefused, IsTextUpTo, words_of_fault}
+use Rattle.wave.specs.Explained.{Explains, place_shown}
 use Rattle.wave.specs.Lines.{line}
 use Rattle.wave.specs.ReadFaults.{IsReadToEnd, IsUnread}
 use Rattle.wave.specs.Requests.{AskFor}
-use Rattle.wave.specs.Written.{WritesWhole, WritesLess, Prints}
+use Rattle.wave.specs.Written.{WritesWhole, WritesLess}
 
 -- nothing stands in the text but whitespace and comments
 abbrev pub IsBlank : List ℕ → Type 0
@@ -53,36 +55,63 @@ AreAnswered request number (text ∷ texts) said shown =
 abbrev pub IsStatusOf : List ℕ → ℕ → Type 0
 IsStatusOf shown status = (status ≡ 0) × (shown ≡ []) ⊎ (status ≡ 1) × (shown ≢ [])
 
+-- nothing is shown behind the explanations of lines, and there was memory for all that is shown
+abbrev pub IsNothingShown : List ℕ → Result (Unit {0}) AllocError → Type 0
+IsNothingShown last told = (last ≡ []) × (told ≡ Ok tt)
+
+-- what is shown of the line of this number that is no text: the number, and at which of its bytes what is none begins, which is after so many
+abbrev pub numbered_place : ℕ → ℕ → List ℕ
+numbered_place number place = codes "input line " ++ (decimal number ++ (codes ":\n" ++ place_shown place))
+
+-- what is shown of a fault at the line of this number: the place in one that is no text, or nothing where out of memory is answered; of
+-- another fault nothing
+abbrev pub IsPlaceShown : ℕ → Fault → List ℕ → Result (Unit {0}) AllocError → Type 0
+IsPlaceShown number (NotUtf8 place) last told =
+    MatchResult told (λ _. last ≡ numbered_place number place) (λ _. last ≡ [])
+IsPlaceShown number InputFailed last told = IsNothingShown last told
+IsPlaceShown number OutOfMemory last told = IsNothingShown last told
+
 module _ {R : Type 0} where
   -- why these lines aren't answered: the first is no text; the input was not read to its end; or there was no memory, and no read failed
   abbrev pub IsLineFault : List (List ℕ) → Input R → Input R → Fault → Type 0
-  IsLineFault rest old new NotUtf8 = (bad : List ℕ) × (more : List (List ℕ)) × (rest ≡ bad ∷ more) × (IsUtf8 bad → ⊥) × (new.failures ≡ old.failures)
+  IsLineFault rest old new (NotUtf8 place) =
+      (bad : List ℕ) × (more : List (List ℕ)) × (rest ≡ bad ∷ more) × IsTextUpTo bad place × (new.failures ≡ old.failures)
   IsLineFault rest old new InputFailed = IsUnread old new
   IsLineFault rest old new OutOfMemory = new.failures ≡ old.failures
 
-module _ {R W E : Type 0} (contents : W → Option (List ℕ)) (held : E → Option (List ℕ)) where
-  -- what was printed: the answers of all lines, and the status is theirs; or those before the lines that a fault keeps from being
-  -- answered, and its words, at status 3; or a beginning of the answers, as a write failed
-  abbrev pub EndsBefore : List (List ℕ) → Input R → Input R → Output W → Output W → List ℕ → List ℕ → ℕ → Type 0
-  EndsBefore rest old new before after said shown status =
-      (rest ≡ []) × IsReadToEnd old new × IsStatusOf shown status × WritesWhole contents before after said
-      ⊎ ((fault : Fault) × IsLineFault rest old new fault × Prints contents before after (said ++ line (words_of_fault fault)) 3 status)
-      ⊎ (status ≡ 3) × WritesLess contents before after said
+module _ {W : Type 0} (contents : W → Option (List ℕ)) where
+  -- at status 3 the fault's words were printed behind these answers, and the place is shown of the line of this number; or a write failed,
+  -- and nothing is shown
+  abbrev pub EndsAtFault : Output W → Output W → Fault → ℕ → List ℕ → List ℕ → Ended → Type 0
+  EndsAtFault before after fault number said last ended =
+      (ended.status ≡ 3)
+      × (WritesWhole contents before after (said ++ line (words_of_fault fault)) × IsPlaceShown number fault last ended.shown
+      ⊎ WritesLess contents before after (said ++ line (words_of_fault fault)) × IsNothingShown last ended.shown)
 
-  -- the first lines of what the reader had left were answered, all unless a fault or a failed write ended it, and what explains refusals
-  -- was written too, or a beginning of it where a write there failed
-  pub record AnswersLines (request : Request) (left : Option (List ℕ)) (old new : Input R) (before after : Output W) (errors_before errors_after : Output E) (status : ℕ) : Type 0 where
+module _ {R W E : Type 0} (contents : W → Option (List ℕ)) (held : E → Option (List ℕ)) where
+  -- what was printed: the answers of all lines, and the status is theirs; or those before the line of this number, which a fault keeps
+  -- from being answered, and its words; or a beginning of the answers, as a write failed
+  abbrev pub EndsBefore : List (List ℕ) → ℕ → Input R → Input R → Output W → Output W → List ℕ → List ℕ → List ℕ → Ended → Type 0
+  EndsBefore rest number old new before after said shown last ended =
+      (rest ≡ []) × IsReadToEnd old new × IsStatusOf shown ended.status × WritesWhole contents before after said × IsNothingShown last ended.shown
+      ⊎ ((fault : Fault) × IsLineFault rest old new fault × EndsAtFault contents before after fault number said last ended)
+      ⊎ (ended.status ≡ 3) × WritesLess contents before after said × IsNothingShown last ended.shown
+
+  -- the first lines of what the reader had left were answered, all unless a fault or a failed write ended it, and what explains refusals,
+  -- and the fault, was written too, or a beginning of it where a write there failed
+  pub record AnswersLines (request : Request) (left : Option (List ℕ)) (old new : Input R) (before after : Output W) (errors_before errors_after : Output E) (ended : Ended) : Type 0 where
     pub texts : List (List ℕ)
     pub rest : List (List ℕ)
     pub said : List ℕ
     pub shown : List ℕ
+    pub last : List ℕ
     pub are_lines : IfSome left (λ bytes. lines bytes ≡ texts ++ rest)
     pub answered : AreAnswered request 1 texts said shown
-    pub ended : EndsBefore rest old new before after said shown status
-    pub told : WritesWhole held errors_before errors_after shown ⊎ WritesLess held errors_before errors_after shown
+    pub ends : EndsBefore rest (1 + length texts) old new before after said shown last ended
+    pub told : WritesWhole held errors_before errors_after (shown ++ last) ⊎ WritesLess held errors_before errors_after (shown ++ last)
 
   -- the arguments ask for a request on each line, which was answered so
   abbrev pub RunsByLines : List (List ℕ) → Option (List ℕ) → Input R → Input R → Output W → Output W → Output E → Output E → Ended → Type 0
   RunsByLines words left old new before after errors_before errors_after ended =
       (request : Request) × AskFor (Lines request) words
-      × AnswersLines request left old new before after errors_before errors_after ended.status × (ended.shown ≡ Ok tt)
+      × AnswersLines request left old new before after errors_before errors_after ended

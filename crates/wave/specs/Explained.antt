@@ -1,5 +1,6 @@
--- What is shown of a refusal to a person.
-use Rattle.std.specs.Prelude.{ℕ, List, ◌≡◌, ◌⊎◌, MatchResult}
+-- What is shown of a refusal, or of an input that is no text, to a person.
+use Rattle.std.specs.Prelude.{ℕ, List, ◌≡◌, ◌⊎◌, ◌++◌, Ok, MatchResult, codes}
+use Rattle.std.specs.Fmt.{decimal}
 use Rattle.std.specs.declared.alloc.AllocError.{AllocError}
 use Rattle.std.specs.declared.option.Option.{Option}
 use Rattle.std.specs.declared.result.Result.{Result}
@@ -8,9 +9,12 @@ use Rattle.wasm_wave.specs.Places.{IsExplained}
 use Rattle.wasm_wave.specs.ValueExplained.{IsUntypedExplained, IsValueExplained}
 use Rattle.wave.specs.declared.request.Request.{Request}
 use Rattle.wave.specs.declared.request.Request.TheVariants as request
+use Rattle.wave.specs.declared.input.Input.{Input}
+use Rattle.wave.specs.declared.input.Fault.{Fault}
+use Rattle.wave.specs.declared.input.Fault.TheVariants.{NotUtf8, InputFailed, OutOfMemory}
 use Rattle.wave.specs.declared.output.Output.{Output}
 use Rattle.wave.specs.Requests.{AreWordsOf}
-use Rattle.wave.specs.Answers.{IsRefused, IsInput}
+use Rattle.wave.specs.Answers.{IsRefused, IsInput, IsFaultOf, words_of_fault}
 use Rattle.wave.specs.Lines.{line}
 use Rattle.wave.specs.Written.{WritesWhole, WritesLess}
 
@@ -42,3 +46,34 @@ abbrev pub IsShown : {W E : Type 0} → List (List ℕ) → Option (List ℕ) �
     → (E → Option (List ℕ)) → Output E → Output E → Result (Unit {0}) AllocError → Type 0
 IsShown words left contents before after held old new shown =
     (asked : Request) × AreWordsOf asked words × ShowsWhy asked left contents before after held old new shown
+
+-- ---- an input that is no text
+
+-- what is shown of an input that is no text: at which byte what is none begins, which is after so many
+abbrev pub place_shown : ℕ → List ℕ
+place_shown place = codes "input is not UTF-8\n --> byte " ++ line (decimal place)
+
+module _ {E : Type 0} (contents : E → Option (List ℕ)) where
+  -- of an input that is no text the place was written, or a beginning of it where a write failed; or out of memory was answered, and
+  -- nothing was written; of another fault nothing
+  abbrev pub ShowsPlace : Output E → Output E → Fault → Result (Unit {0}) AllocError → Type 0
+  ShowsPlace old new (NotUtf8 place) shown = MatchResult shown
+      (λ _. WritesWhole contents old new (place_shown place) ⊎ WritesLess contents old new (place_shown place))
+      (λ _. new ≡ old)
+  ShowsPlace old new InputFailed shown = (new ≡ old) × (shown ≡ Ok tt)
+  ShowsPlace old new OutOfMemory shown = (new ≡ old) × (shown ≡ Ok tt)
+
+-- the fault's words are the line that was written, and the place is shown; or a write failed, and nothing is shown
+abbrev pub ShowsFault : {W E : Type 0} → (W → Option (List ℕ)) → Output W → Output W → (E → Option (List ℕ)) → Output E → Output E
+    → Fault → Result (Unit {0}) AllocError → Type 0
+ShowsFault contents before after held old new fault shown =
+    WritesWhole contents before after (line (words_of_fault fault)) × ShowsPlace held old new fault shown
+    ⊎ WritesLess contents before after (line (words_of_fault fault)) × (new ≡ old) × (shown ≡ Ok tt)
+
+-- there is a fault, whose words are the line that was written, and the place is shown; or a write failed, and nothing is shown
+abbrev pub IsFailure : {R W E : Type 0} → Option (List ℕ) → Input R → Input R → (W → Option (List ℕ)) → Output W → Output W
+    → (E → Option (List ℕ)) → Output E → Output E → Result (Unit {0}) AllocError → Type 0
+IsFailure left first last contents before after held old new shown =
+    ((fault : Fault) × IsFaultOf left first last fault
+    × WritesWhole contents before after (line (words_of_fault fault)) × ShowsPlace held old new fault shown)
+    ⊎ ((said : List ℕ) × WritesLess contents before after said × (new ≡ old) × (shown ≡ Ok tt))

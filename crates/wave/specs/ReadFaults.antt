@@ -19,6 +19,6 @@ module _ {R : Type 0} where
 
   -- the input was not read to its end; or there was no memory before the reader reported its end, and no read failed
   abbrev pub IsReadFault : Input R → Input R → Fault → Type 0
-  IsReadFault old new NotUtf8 = ⊥
+  IsReadFault old new (NotUtf8 place) = ⊥
   IsReadFault old new InputFailed = IsUnread old new
   IsReadFault old new OutOfMemory = (new.failures ≡ old.failures) × (new.has_ended ≡ false)

@@ -2,9 +2,9 @@
 ghost use Rattle.std.specs.Prelude.{ℕ, List, [], ◌≡◌, ◌≢◌, ◌+◌, ◌≤◌, ◌<◌, ◌^◌, ◌⊎◌, true, false, IfOk, IfErr, OnOk, MatchOption, MatchBool, if◌then◌else◌, string_bytes};
 ghost use Rattle.std.specs.Io.KnownBytes.{IsAtEnd};
 ghost use Rattle.wave_lex.specs.declared.error.ParserErrorKind.TheVariants as kind;
-ghost use Rattle.wave.specs.ByLines.{IsBlank, HasItem, IsLineExplained, IsLineAnswer, AnswersLines};
+ghost use Rattle.wave.specs.ByLines.{IsBlank, HasItem, IsLineExplained, IsLineAnswer, IsPlaceShown, numbered_place, EndsAtFault, AnswersLines};
 ghost use Rattle.wave.specs.Lines.{line};
-ghost use Rattle.wave.specs.Private.ByLines.{IsUnansweredLine, IsNoNextAnswer};
+ghost use Rattle.wave.specs.Private.ByLines.{IsUnansweredLine, IsNoNextAnswer, ShowsLast};
 ghost use Rattle.wave.specs.Private.InputLines.{left, IsEndKnown, TakesLine, most_lines};
 ghost use Rattle.wave.specs.Private.Requests.{IsFit};
 ghost use Rattle.wave.specs.Written.{WritesWhole, WritesLess};
@@ -14,7 +14,7 @@ use crate::explained::explain_refusal;
 use crate::input::{Fault, Input};
 use crate::lines::Unread;
 use crate::output::Output;
-use crate::program::{line_of, report, write_whole};
+use crate::program::{Ended, fault_line, line_of, place_line, write_whole};
 use crate::request::Request;
 use std::alloc::{AllocError, Global};
 use std::io::{Read, Write};
@@ -32,21 +32,22 @@ struct LineAnswer {
 /// Answers the request on each line of the input: prints the answer and a line feed, or a line feed
 /// for a line that is blank or refused, and shows a refusal. Gives the status to end with: 1 where a
 /// line was refused, else 0; 3 behind a fault, which is said in place of the lines that are left, and
-/// where a write failed. After a failed write to `errors` no more is written there.
+/// where a write failed. Of a line that is no text it is shown where what is none begins, unless there is
+/// no memory for that. After a failed write to `errors` no more is written there.
 pub fn answer_lines<R: Read, W: Write, E: Write>(
     alloc: Global,
     request: &Request,
     input: &mut Input<R>,
     output: &mut Output<W>,
     errors: &mut Output<E>,
-) -> u8
+) -> Ended
     requires { IsFit request.now }
     ensures answered { AnswersLines W.contents E.contents request.now (R.remaining input.old.reader)
         input.old input.new output.old output.new errors.old errors.new result }
     ensures counted { input.new.reads_left ≤ input.old.reads_left }
 {
     if input.has_ended() {
-        return report(output, Fault::InputFailed);
+        return fail_at(alloc, output, errors, Fault::InputFailed, 1, true);
     }
     let mut unread = Unread::new();
     let mut number = 1;
@@ -55,15 +56,15 @@ pub fn answer_lines<R: Read, W: Write, E: Write>(
     'lines: loop {
         let answer = match next_answer(alloc, request, number, input, &mut unread) {
             Ok(Some(answer)) => answer,
-            Ok(None) => return status_of(is_refused),
-            Err(fault) => return report(output, fault),
+            Ok(None) => return Ended::at(status_of(is_refused)),
+            Err(fault) => return fail_at(alloc, output, errors, fault, number, is_shown),
         };
         number += 1;
         let shown = answer.shown.as_str();
         is_refused |= !shown.is_empty();
         is_shown = show(errors, shown, is_shown);
         if !write_whole(output, answer.printed.as_bytes()) {
-            return 3;
+            return Ended::at(3);
         }
     }
 }
@@ -82,6 +83,60 @@ fn show<E: Write>(errors: &mut Output<E>, shown: &str, is_shown: bool) -> bool
     ensures none { is_shown ≡ false → (errors.new ≡ errors.old) × (result ≡ false) }
 {
     is_shown && write_whole(errors, shown.as_bytes())
+}
+
+/// Says the fault in place of the line of this number and those after it, and shows where the line is no
+/// text, where that was printed.
+fn fail_at<W: Write, E: Write>(
+    alloc: Global,
+    output: &mut Output<W>,
+    errors: &mut Output<E>,
+    fault: Fault,
+    number: u64,
+    is_shown: bool,
+) -> Ended
+    ensures { (last : List ℕ) × EndsAtFault W.contents output.old output.new fault number [] last result
+        × ShowsLast E.contents errors.old errors.new is_shown last }
+{
+    if !write_whole(output, fault_line(fault).as_bytes()) {
+        return Ended::at(3);
+    }
+    Ended {
+        status: 3,
+        shown: show_place(alloc, errors, fault, number, is_shown),
+    }
+}
+
+/// Writes where the line of this number is no text, unless a write there failed before; nothing of
+/// another fault. Out of memory for that, and nothing is written.
+fn show_place<E: Write>(
+    alloc: Global,
+    errors: &mut Output<E>,
+    fault: Fault,
+    number: u64,
+    is_shown: bool,
+) -> Result<(), AllocError>
+    ensures { (last : List ℕ) × IsPlaceShown number fault last result
+        × ShowsLast E.contents errors.old errors.new is_shown last }
+{
+    match fault {
+        Fault::NotUtf8(place) => {
+            let shown = numbered_place(alloc, number, place)?;
+            show(errors, shown.as_str(), is_shown);
+            Ok(())
+        }
+        Fault::InputFailed => Ok(()),
+        Fault::OutOfMemory => Ok(()),
+    }
+}
+
+/// What is said of the line of this number, in which behind so many bytes something begins that is no
+/// text.
+fn numbered_place(alloc: Global, number: u64, place: usize) -> Result<String, AllocError>
+    ensures { IfOk result (λ text. string_bytes text ≡ numbered_place number place) }
+{
+    let said = place_line(alloc, place)?;
+    format!(in alloc; "input line {number}:\n{said}")
 }
 
 /// What is written of the next line, which has this number; nothing where the input has no more.
@@ -126,8 +181,9 @@ fn line_answer(
         × (string_bytes answer.printed ≡ line said)) }
     ensures fault { IfErr result (IsUnansweredLine bytes.now) }
 {
-    let Ok(text) = str::from_utf8(bytes) else {
-        return Err(Fault::NotUtf8);
+    let text = match str::from_utf8(bytes) {
+        Ok(text) => text,
+        Err(error) => return Err(Fault::NotUtf8(error.valid_up_to())),
     };
     if is_blank(text) {
         return Ok(LineAnswer {

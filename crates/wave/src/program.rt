@@ -1,5 +1,6 @@
 // The program between a reader and a writer.
-ghost use Rattle.std.specs.Prelude.{ℕ, List, ◌≡◌, ◌≢◌, ◌≤◌, ◌⊎◌, true, false, map, IfOk, IfErr, OnOk, IfSome, string_bytes};
+ghost use Rattle.std.specs.Prelude.{ℕ, List, ◌≡◌, ◌≢◌, ◌≤◌, ◌⊎◌, true, false, map, IfOk, IfErr, OnOk, IfSome, IsUtf8, string_bytes};
+ghost use Rattle.std.specs.Str.{IsValidUpTo};
 ghost use Rattle.wave_lex.specs.Errors.{error_text};
 ghost use Rattle.wave_lex.specs.declared.error.ParserErrorKind.TheVariants as kind;
 ghost use Rattle.wave.specs.ReadFaults.{IsReadToEnd, IsReadFault};
@@ -9,7 +10,7 @@ ghost use Rattle.wave.specs.Answers.{words_of_fault, usage};
 ghost use Rattle.wave.specs.Lines.{line};
 ghost use Rattle.wave.specs.Private.Answers.{IsOutcome, IsNoOutcome, TellsRefusal};
 ghost use Rattle.wave.specs.ByLines.{RunsByLines};
-ghost use Rattle.wave.specs.Explained.{IsShown, ShowsWhy, ShowsRefusal};
+ghost use Rattle.wave.specs.Explained.{IsShown, ShowsWhy, ShowsRefusal, ShowsPlace, ShowsFault, IsFailure, place_shown};
 ghost use Rattle.wave.specs.Misuse.{ShowsMisuse};
 ghost use Rattle.wave.specs.Private.Requests.{IsFit};
 ghost use Rattle.wave.specs.Statuses.{IsDue, IsDueTo};
@@ -35,13 +36,14 @@ const USAGE: &str = "usage: wave value [N] | wave call | wave read NAME [N]\n";
 pub struct Ended {
     /// The status to end with.
     pub status: u8,
-    /// Out of memory, where there was none to show a refusal, or what is wrong with the arguments, to a person.
+    /// Out of memory, where there was none to show a person a refusal, where an input is no text, or what
+    /// is wrong with the arguments.
     pub shown: Result<(), AllocError>,
 }
 
 impl Ended {
-    /// With the status, where nothing is due to be shown.
-    fn at(status: u8) -> Ended
+    /// With the status, where nothing was to be shown that there was no memory for.
+    pub fn at(status: u8) -> Ended
         ensures status { result.status ≡ status }
         ensures shown { result.shown ≡ Ok tt }
     {
@@ -82,7 +84,12 @@ pub fn run<R: Read, W: Write, E: Write>(
         W.contents output.old output.new E.contents errors.old errors.new result.shown
         ⊎ RunsByLines W.contents E.contents (map string_bytes words.now) (R.remaining input.old.reader)
         input.old input.new output.old output.new errors.old errors.new result }
-    ensures quiet { result.status ≢ 1 → result.status ≢ 2 → (errors.new ≡ errors.old) × (result.shown ≡ Ok tt)
+    ensures quiet { result.status ≡ 0 → (errors.new ≡ errors.old) × (result.shown ≡ Ok tt)
+        ⊎ RunsByLines W.contents E.contents (map string_bytes words.now) (R.remaining input.old.reader)
+        input.old input.new output.old output.new errors.old errors.new result }
+    // At status 3 it is shown where an input is no text, where that was printed, or there was no memory for it.
+    ensures failed { result.status ≡ 3 → IsFailure (R.remaining input.old.reader) input.old input.new
+        W.contents output.old output.new E.contents errors.old errors.new result.shown
         ⊎ RunsByLines W.contents E.contents (map string_bytes words.now) (R.remaining input.old.reader)
         input.old input.new output.old output.new errors.old errors.new result }
     // Where the usage was printed, what is wrong with the arguments is said, or there was no memory for it.
@@ -98,11 +105,11 @@ pub fn run<R: Read, W: Write, E: Write>(
     let asked = match asked_by(alloc, words) {
         Ok(Some(asked)) => asked,
         Ok(None) => return misused(alloc, words, output, errors),
-        Err(_) => return Ended::at(report(output, Fault::OutOfMemory)),
+        Err(_) => return fail(alloc, output, errors, Fault::OutOfMemory),
     };
     match asked {
         Asked::Whole(request) => answer_whole(alloc, &request, input, output, errors),
-        Asked::Lines(request) => Ended::at(answer_lines(alloc, &request, input, output, errors)),
+        Asked::Lines(request) => answer_lines(alloc, &request, input, output, errors),
     }
 }
 
@@ -139,7 +146,7 @@ fn show_misuse<E: Write>(
     ensures { ShowsMisuse E.contents (map string_bytes words.now) errors.old errors.new result }
 {
     let explained = explain_misuse(alloc, words)?;
-    write_whole(errors, explained.as_bytes());
+    write_text(errors, explained.as_str());
     Ok(())
 }
 
@@ -157,7 +164,9 @@ fn answer_whole<R: Read, W: Write, E: Write>(
         × Prints W.contents output.old output.new said status result.status }
     ensures shown { result.status ≡ 1 → ShowsWhy request.now (R.remaining input.old.reader)
         W.contents output.old output.new E.contents errors.old errors.new result.shown }
-    ensures quiet { result.status ≢ 1 → (errors.new ≡ errors.old) × (result.shown ≡ Ok tt) }
+    ensures quiet { result.status ≡ 0 → (errors.new ≡ errors.old) × (result.shown ≡ Ok tt) }
+    ensures failed { result.status ≡ 3 → IsFailure (R.remaining input.old.reader) input.old input.new
+        W.contents output.old output.new E.contents errors.old errors.new result.shown }
     ensures counted { input.new.reads_left ≤ input.old.reads_left }
 {
     match respond(alloc, request, input) {
@@ -165,7 +174,7 @@ fn answer_whole<R: Read, W: Write, E: Write>(
         Ok(Outcome::Refused(refusal, text)) => {
             refuse(alloc, output, errors, request, &refusal, text.as_str())
         }
-        Err(fault) => Ended::at(report(output, fault)),
+        Err(fault) => fail(alloc, output, errors, fault),
     }
 }
 
@@ -204,7 +213,7 @@ fn show<E: Write>(
     ensures { ShowsRefusal E.contents request.now errors.old errors.new text.now refusal.now result }
 {
     let explained = explain_refusal(alloc, request, refusal, text)?;
-    write_whole(errors, explained.as_bytes());
+    write_text(errors, explained.as_str());
     Ok(())
 }
 
@@ -229,6 +238,52 @@ fn refusal_line(alloc: Global, refusal: &ParserError) -> Result<String, AllocErr
     line_of(refusal.to_string(alloc)?)
 }
 
+/// Says why there is no answer and no refusal, and shows a person where an input is no text, where that
+/// was printed.
+fn fail<W: Write, E: Write>(
+    alloc: Global,
+    output: &mut Output<W>,
+    errors: &mut Output<E>,
+    fault: Fault,
+) -> Ended
+    ensures told { Prints W.contents output.old output.new (line (words_of_fault fault)) 3 result.status }
+    ensures shown { ShowsFault W.contents output.old output.new E.contents errors.old errors.new fault result.shown }
+{
+    if !write_whole(output, fault_line(fault).as_bytes()) {
+        return Ended::at(3);
+    }
+    Ended {
+        status: 3,
+        shown: show_fault(alloc, errors, fault),
+    }
+}
+
+/// Writes where an input is no text; nothing of another fault. Out of memory for that, and nothing is
+/// written.
+fn show_fault<E: Write>(
+    alloc: Global,
+    errors: &mut Output<E>,
+    fault: Fault,
+) -> Result<(), AllocError>
+    ensures { ShowsPlace E.contents errors.old errors.new fault result }
+{
+    match fault {
+        Fault::NotUtf8(place) => {
+            let shown = place_line(alloc, place)?;
+            write_text(errors, shown.as_str());
+            Ok(())
+        }
+        Fault::InputFailed | Fault::OutOfMemory => Ok(()),
+    }
+}
+
+/// What is said of an input in which behind so many bytes something begins that is no text.
+pub fn place_line(alloc: Global, place: usize) -> Result<String, AllocError>
+    ensures { IfOk result (λ text. string_bytes text ≡ place_shown place) }
+{
+    format!(in alloc; "input is not UTF-8\n --> byte {place}\n")
+}
+
 /// Says why there is no answer and no refusal.
 pub fn report<W: Write>(output: &mut Output<W>, fault: Fault) -> u8
     ensures { Prints W.contents output.old output.new (line (words_of_fault fault)) 3 result }
@@ -237,11 +292,11 @@ pub fn report<W: Write>(output: &mut Output<W>, fault: Fault) -> u8
 }
 
 /// The words of a fault, and a line feed.
-fn fault_line(fault: Fault) -> &'static str
+pub fn fault_line(fault: Fault) -> &'static str
     ensures { result.now ≡ line (words_of_fault fault) }
 {
     match fault {
-        Fault::NotUtf8 => "input is not UTF-8\n",
+        Fault::NotUtf8(_) => "input is not UTF-8\n",
         Fault::InputFailed => "input failed\n",
         Fault::OutOfMemory => "out of memory\n",
     }
@@ -256,6 +311,14 @@ fn print<W: Write>(output: &mut Output<W>, line: &str, status: u8) -> u8
     } else {
         3
     }
+}
+
+/// Writes the text, or a beginning of it where a write fails.
+fn write_text<W: Write>(output: &mut Output<W>, text: &str)
+    ensures { WritesWhole W.contents output.old output.new text.now
+        ⊎ WritesLess W.contents output.old output.new text.now }
+{
+    write_whole(output, text.as_bytes());
 }
 
 /// Writes all of the bytes, or answers false where a write failed before all were written.
@@ -296,13 +359,25 @@ fn respond<R: Read>(
     ensures counted { input.new.reads_left ≤ input.old.reads_left }
 {
     let bytes = read_whole(alloc, input)?;
-    let Ok(text) = String::from_utf8(bytes) else {
-        return Err(Fault::NotUtf8);
+    let text = match String::from_utf8(bytes) {
+        Ok(text) => text,
+        Err(error) => return Err(Fault::NotUtf8(text_end(error.as_bytes()))),
     };
     match answer(alloc, request, text.as_str()) {
         Ok(answer) => Ok(Outcome::Answered(line_of(answer)?)),
         Err(Unanswered::Refused(refusal)) => Ok(Outcome::Refused(refusal, text)),
         Err(Unanswered::OutOfMemory) => Err(Fault::OutOfMemory),
+    }
+}
+
+/// How many bytes the longest beginning has that is UTF-8, of bytes that are not.
+fn text_end(bytes: &[u8]) -> usize
+    requires { IsUtf8 bytes.now → ⊥ }
+    ensures { IsValidUpTo bytes.now result }
+{
+    match str::from_utf8(bytes) {
+        Ok(_) => unreachable!(),
+        Err(error) => error.valid_up_to(),
     }
 }
 

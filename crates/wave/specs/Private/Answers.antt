@@ -40,7 +40,7 @@ module _ {R : Type 0} where
   -- why a request has no outcome: the input is no text, or was not read to its end; or there was no memory before the reader
   -- reported its end, or for the answer that the request has
   abbrev pub IsNoOutcome : Request → Option (List ℕ) → Input R → Input R → Fault → Type 0
-  IsNoOutcome request left old new NotUtf8 = IsNoText left × IsReadToEnd old new
+  IsNoOutcome request left old new (NotUtf8 place) = IsNoText left place × IsReadToEnd old new
   IsNoOutcome request left old new InputFailed = IsUnread old new
   IsNoOutcome request left old new OutOfMemory = (new.failures ≡ old.failures) × ((new.has_ended ≡ false) ⊎ HasAnswer request left)
 

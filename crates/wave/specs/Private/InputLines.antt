@@ -33,7 +33,7 @@ unread_bytes u = slice_range u.chunk u.start u.end
 module _ {R : Type 0} where
   -- the last read failed, or no call of the reader is left, which did not report its end; or there was no memory, and no read failed
   abbrev pub IsCutOff : Input R → Input R → Fault → Type 0
-  IsCutOff old new NotUtf8 = ⊥
+  IsCutOff old new (NotUtf8 place) = ⊥
   IsCutOff old new InputFailed =
       CountsOne old.failures new.failures × (new.has_ended ≡ false)
       ⊎ (new.reads_left ≡ 0) × (new.has_ended ≡ false) × (new.failures ≡ old.failures)

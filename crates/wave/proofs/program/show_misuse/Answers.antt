@@ -1,14 +1,10 @@
-use Rattle.std.proofs.Common.{◌≡◌, ◌⊎◌, Bool, true, false, refl, inl, inr, sym, subst, map, string_bytes}
+use Rattle.std.proofs.Common.{sym, subst, map, string_bytes}
 use Rattle.wave.specs.Misuse.{IsExplainedMisuse}
 use Rattle.wave.proofs.program.show_misuse.Goals as goal
 
-written : {A B : Type 0} (b : Bool) → (b ≡ true → A) → (b ≡ false → B) → A ⊎ B
-written true whole less = inl (whole refl)
-written false whole less = inr (less refl)
-
 pub returns : goal.returns
 returns g c = (
-  c.as_bytes.result.now,
-  subst (IsExplainedMisuse (map string_bytes c.args.words.now)) (sym c.as_bytes.ensures.value) c.in_ok-explained.ensures,
-  written c.write_whole.result c.write_whole.ensures.whole c.write_whole.ensures.cut,
+  c.as_str.result.now,
+  subst (IsExplainedMisuse (map string_bytes c.args.words.now)) (sym c.as_str.ensures.value) c.in_ok-explained.ensures,
+  c.write_text.ensures,
 )
