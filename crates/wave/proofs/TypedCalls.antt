@@ -8,7 +8,6 @@ use Rattle.wave_wasm.specs.Types.{TypeTree, HasDistinctNames}
 use Rattle.wave_wasm.specs.Values.{Value}
 use Rattle.wave_lex.specs.Errors.{Diagnostic}
 use Rattle.wave_lex.specs.declared.error.ParserErrorKind.TheVariants as kind
-use Rattle.wave_type.proofs.TypeReading.{map_self}
 use Rattle.wave_type.specs.FunctionType.{FunctionType, types_of}
 use Rattle.wave_value.specs.FullTypes.{IsFull}
 use Rattle.wave_value.specs.TypedValue.{TypedValue, IsAt}
@@ -156,10 +155,6 @@ same_tokens s name other params others call again =
     let more = again.named.1 call.bytes call.named.0 in
     let same : again.bytes ≡ call.bytes = omega (arith, less, more) in
     one_cut_into (drop call.bytes s) again.tokens call.tokens (subst (λ (k : ℕ). CutsInto (drop k s) again.tokens) same again.cut) call.cut
-
--- what holds at the types of a slice holds at those that it is taken from
-pub at_types : (P : List TypeTree → Type 0) (slice Ts : List TypeTree) → slice ≡ Ts → P (map (λ T. T) slice) → P Ts
-at_types P slice Ts is holds = subst P (map_self slice ∙ is) holds
 
 module _ (f : FunctionType) (s : List ℕ) where
   -- a refusal of the parameters states a fault of the call, which has no values at the types; or it is out of memory

@@ -4,9 +4,10 @@ use Rattle.std.specs.Fmt.{decimal}
 use Rattle.std.specs.declared.alloc.AllocError.{AllocError}
 use Rattle.std.specs.declared.option.Option.{Option}
 use Rattle.std.specs.declared.result.Result.{Result}
+use Rattle.wave_type.specs.FunctionType.{func_of}
 use Rattle.wave_lex.specs.Errors.{Diagnostic, error_text}
-use Rattle.wasm_wave.specs.Places.{IsExplained}
 use Rattle.wasm_wave.specs.ValueExplained.{IsUntypedExplained, IsValueExplained}
+use Rattle.wasm_wave.specs.CallExplained.{IsUntypedCallExplained, IsCallExplained}
 use Rattle.wave.specs.declared.request.Request.{Request}
 use Rattle.wave.specs.declared.request.Request.TheVariants as request
 use Rattle.wave.specs.declared.input.Input.{Input}
@@ -18,12 +19,12 @@ use Rattle.wave.specs.Answers.{IsRefused, IsInput, IsFaultOf, words_of_fault}
 use Rattle.wave.specs.Lines.{line}
 use Rattle.wave.specs.Written.{WritesWhole, WritesLess}
 
--- the text explains the refusal of the whole text: of a value at a type with the path to the part that is wrong and the type that is
--- due there
+-- the text explains the refusal of the whole text: without a type with what may stand there; of a value at a type, and of a call at a
+-- function's type, with the path to the part that is wrong and the type that is due there
 abbrev pub Explains : Request → List ℕ → Diagnostic → List ℕ → Type 0
 Explains (request.Value n) whole e text = IsUntypedExplained whole e text
-Explains request.Call whole e text = IsExplained whole (error_text e) e.span text
-Explains (request.CallAt f) whole e text = IsExplained whole (error_text e) e.span text
+Explains request.Call whole e text = IsUntypedCallExplained whole e text
+Explains (request.CallAt f) whole e text = IsCallExplained whole (func_of f) e text
 Explains (request.Read T n) whole e text = IsValueExplained whole T e text
 
 module _ {E : Type 0} (contents : E → Option (List ℕ)) where

@@ -18,7 +18,7 @@ use wasm_wave::parser::{Parser, ParserError};
 use wasm_wave::to_string;
 use wasm_wave::untyped::UntypedFuncCall;
 use wasm_wave::value::{FuncType, Type, Value};
-use wasm_wave::wasm::{DisplayFuncArgs, WasmFunc};
+use wasm_wave::wasm::DisplayFuncArgs;
 use wasm_wave::writer::WriterError;
 
 /// Why a request isn't answered on a text.
@@ -92,24 +92,8 @@ fn call_at(alloc: Global, function: &FuncType, text: &str) -> Result<String, Una
         (IsUnanswered (request.CallAt function.now) text.now) }
 {
     let untyped = UntypedFuncCall::parse(alloc, text)?;
-    let types = match param_types(alloc, function) {
-        Ok(types) => types,
-        Err(error) => return Err(Unanswered::Refused(ParserError::from(error))),
-    };
-    let params = untyped.to_wasm_params::<Value>(alloc, types.as_slice())?;
+    let params = untyped.to_func_params::<Value, FuncType>(alloc, function)?;
     Ok(canonical_call(alloc, untyped.name(), &params)?)
-}
-
-/// Copies of the types of the function's parameters. The only error is out of memory.
-fn param_types(alloc: Global, function: &FuncType) -> Result<Vec<Type>, AllocError>
-    ensures { IfOk result (λ types. types.items ≡ types_of function.now.params) }
-{
-    let params = function.params(alloc)?;
-    let mut types = Vec::new(alloc);
-    for ty in &params {
-        types.push((*ty).clone()?)?;
-    }
-    Ok(types)
 }
 
 /// The name and the canonical parameters in their parentheses.
