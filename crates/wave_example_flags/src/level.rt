@@ -81,9 +81,9 @@ fn unsupported(alloc: Global, kind: WasmTypeKind) -> WasmValueError
     }
 }
 
-// The constructors of other kinds refuse, also those of parts that are known to fit: since the type is always the enum, no
-// parts ever do. The views of other kinds can't be asked: each says that a level is
-// not of its kind, which is all that the trait's clause needs, and what it answers nobody reads.
+// The constructors of other kinds refuse. The views of other kinds can't be asked: each says that a
+// level is not of its kind, which is all that the trait's clause needs, and what it answers nobody
+// reads.
 impl WasmValue for Level {
     ghost use Rattle.wave_example_flags.specs.Level.{IsLevelOf, IsFull, full_parts, level_value};
 
@@ -244,77 +244,6 @@ impl WasmValue for Level {
         alloc: Global,
         _ty: &LevelType,
         _entries: Vec<(Level, Level)>,
-    ) -> Result<Level, WasmValueError>
-        ensures { IsErrAnd result (RefusesKind WasmTypeKind.Map) }
-    {
-        Err(unsupported(alloc, WasmTypeKind::Map))
-    }
-
-    fn make_list_unchecked(
-        alloc: Global,
-        _ty: &LevelType,
-        _vals: &mut Vec<Level>,
-    ) -> Result<Level, WasmValueError>
-        ensures { IsErrAnd result (RefusesKind WasmTypeKind.List) }
-    {
-        Err(unsupported(alloc, WasmTypeKind::List))
-    }
-
-    fn make_tuple_unchecked(
-        alloc: Global,
-        _ty: &LevelType,
-        _vals: &mut Vec<Level>,
-    ) -> Result<Level, WasmValueError>
-        ensures { IsErrAnd result (RefusesKind WasmTypeKind.Tuple) }
-    {
-        Err(unsupported(alloc, WasmTypeKind::Tuple))
-    }
-
-    fn make_record_unchecked(
-        alloc: Global,
-        _ty: &LevelType,
-        _fields: &mut Vec<(&str, Level)>,
-    ) -> Result<Level, WasmValueError>
-        ensures { IsErrAnd result (RefusesKind WasmTypeKind.Record) }
-    {
-        Err(unsupported(alloc, WasmTypeKind::Record))
-    }
-
-    fn make_variant_unchecked(
-        alloc: Global,
-        _ty: &LevelType,
-        _case: &str,
-        _val: &mut Option<Level>,
-    ) -> Result<Level, WasmValueError>
-        ensures { IsErrAnd result (RefusesKind WasmTypeKind.Variant) }
-    {
-        Err(unsupported(alloc, WasmTypeKind::Variant))
-    }
-
-    fn make_option_unchecked(
-        alloc: Global,
-        _ty: &LevelType,
-        _val: &mut Option<Level>,
-    ) -> Result<Level, WasmValueError>
-        ensures { IsErrAnd result (RefusesKind WasmTypeKind.Option) }
-    {
-        Err(unsupported(alloc, WasmTypeKind::Option))
-    }
-
-    fn make_result_unchecked(
-        alloc: Global,
-        _ty: &LevelType,
-        _val: &mut Result<Option<Level>, Option<Level>>,
-    ) -> Result<Level, WasmValueError>
-        ensures { IsErrAnd result (RefusesKind WasmTypeKind.Result) }
-    {
-        Err(unsupported(alloc, WasmTypeKind::Result))
-    }
-
-    fn make_map_unchecked(
-        alloc: Global,
-        _ty: &LevelType,
-        _entries: &mut Vec<(Level, Level)>,
     ) -> Result<Level, WasmValueError>
         ensures { IsErrAnd result (RefusesKind WasmTypeKind.Map) }
     {

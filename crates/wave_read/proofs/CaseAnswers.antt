@@ -142,7 +142,7 @@ module _ {S V : Type 0} (type_tree : S → TypeTree) (tree : V → Value) (of : 
       let U = type_tree case.1.now in
       let found : HasCase variant.cases name (type.a_type U) = case_found T (variant_parts T) variant name (Some U) (sym read.0.1) in
       let names : HasDistinctNames U = case_distinct variant.cases name (type.a_type U) found (subst HasDistinctNames variant.is distinct).1 in
-      (variant.cases, variant.is, Some U, some_case variant.cases name (type.a_type U) found, read.1.typed names)
+      subst (λ (W : TypeTree). TypedVariant of W name (Some v)) (sym variant.is) (Some U, some_case variant.cases name (type.a_type U) found, read.1.typed names)
   read_typed T source (c ∷ n ∷ d ∷ more) case v is read distinct = absurd read
 
   pub whole_typed : (T : TypeTree) (source : List ℕ) (children : List NodeTree) (x : CasePayload S V) (case : Bor (List ℕ) × Bor S) (v : V) → x.case ≡ Some case → x.payload ≡ Some v → AreCaseParts type_tree tree of Full w T source children x → HasDistinctNames (type_tree x.ty.now) → TypedVariant of (type_tree x.ty.now) case.0.now (Some v)

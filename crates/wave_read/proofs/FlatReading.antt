@@ -64,13 +64,13 @@ module _ {V : Type 0} (tree : V → Value) (of : V → TypeTree → Type 0) (Ful
 
 -- an option whose flat payload is of its type has it
 pub option_typed : {V : Type 0} (of : V → TypeTree → Type 0) (T U : TypeTree) (ty : NodeType) (v : V) → kind_of T ≡ kinds.Option → IsFlatAt T ty U → (HasDistinctNames U → of v U) → HasDistinctNames T → TypedOption of T (Some v)
-option_typed of (type.option P) U ty v kind flat typed distinct = (P, refl, subst (of v) flat.0 (typed (subst HasDistinctNames (sym flat.0) distinct)))
+option_typed of (type.option P) U ty v kind flat typed distinct = subst (of v) flat.0 (typed (subst HasDistinctNames (sym flat.0) distinct))
 option_typed of (type.result A B) U ty v kind flat typed distinct = absurd (cc kind)
 option_typed of _ U ty v kind flat typed distinct = absurd flat
 
 -- so has a result
 pub result_typed : {V : Type 0} (of : V → TypeTree → Type 0) (T U : TypeTree) (ty : NodeType) (v : V) → kind_of T ≢ kinds.Option → IsFlatAt T ty U → (HasDistinctNames U → of v U) → HasDistinctNames T → TypedResult of T (Ok (Some v))
-result_typed of (type.result (type.a_type A) B) U ty v kind flat typed distinct = (type.a_type A, B, refl, subst (of v) flat.0 (typed (subst HasDistinctNames (sym flat.0) distinct.0)))
+result_typed of (type.result (type.a_type A) B) U ty v kind flat typed distinct = subst (of v) flat.0 (typed (subst HasDistinctNames (sym flat.0) distinct.0))
 result_typed of (type.option P) U ty v kind flat typed distinct = absurd (kind refl)
 result_typed of _ U ty v kind flat typed distinct = absurd flat
 

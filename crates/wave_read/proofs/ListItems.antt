@@ -150,7 +150,11 @@ module _ {V : Type 0} (tree : V → Value) (of : V → TypeTree → Type 0) (Ful
   -- a list of the type has the items
   pub items_typed : (T E : TypeTree) (source : List ℕ) (ns : List NodeTree) (vs : List V) (count : ℕ) → list_part T ≡ Some E → count ≡ length ns → IsOfLength T count → AllReadAs tree of Full w E source ns vs → HasDistinctNames T → TypedList of T vs
   items_typed T E source ns vs count part many long all distinct =
-      (E, list_is T E (length vs) part (subst (IsOfLength T) (many ∙ as_nodes E source ns vs all) long), all_of E source ns vs (element_distinct T E part distinct) all)
+      let typed = all_of E source ns vs (element_distinct T E part distinct) all in
+      elim (list_is T E (length vs) part (subst (IsOfLength T) (many ∙ as_nodes E source ns vs all) long)) [
+        | inl is ↦ subst (λ (U : TypeTree). TypedList of U vs) (sym is) typed
+        | inr is ↦ subst (λ (U : TypeTree). TypedList of U vs) (sym is) (refl, typed)
+      ]
 
   -- the list was made, or its constructor refused
   pub list_read : (T E : TypeTree) (source : List ℕ) (p : Range ℕ) (ns : List NodeTree) (vs : List V) (count : ℕ) (m : Result V WasmValueError) (r : Result V Diagnostic) → list_part T ≡ Some E → count ≡ length ns → IsOfLength T count → AllReadAs tree of Full w E source ns vs → IfOk m (MakesList tree of T vs) → IfErr m (FullList of Full T vs) → IsMadeOrMemory (node kind.List p (node_trees ns)) m r → IsReadAs tree of Full o w T source (node kind.List p (node_trees ns)) r

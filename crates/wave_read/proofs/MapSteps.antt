@@ -114,7 +114,7 @@ module _ {V : Type 0} (tree : V → Value) (of : V → TypeTree → Type 0) (Ful
         let U = type_tree x.value_type.now in
         let keys : AllOf (λ (e : V × V). of e.0 (type.simple m.key)) x.entries.items = subst (λ (S : TypeTree). AllOf (λ (e : V × V). of e.0 S) x.entries.items) m.key_is (keys_of (type_tree x.key_type.now) x.entries.items (subst HasDistinctNames (sym m.key_is) tt) h.keys.0) in
         let values : AllOf (λ (e : V × V). of e.1 U) x.entries.items = values_of (type_tree x.key_type.now) U children x.entries.items x.key (map_distinct T (type_tree x.key_type.now) U m distinct) h.read in
-        (m.key, U, m.is, subst (AllOf (λ (e : V × V). of e.0 (type.simple m.key) × of e.1 U)) (sym merged) (merged_of tree of Full m.key U x.entries.items keys values))
+        subst (λ (W : TypeTree). TypedMap of W handed) (sym m.is) (subst (AllOf (λ (e : V × V). of e.0 (type.simple m.key) × of e.1 U)) (sym merged) (merged_of tree of Full m.key U x.entries.items keys values))
 
     -- the map was made of the merged entries, or its constructor refused
     pub whole_made : (p : Range ℕ) (handed : List (V × V)) (made_map : Result V WasmValueError) (r : Result V Diagnostic) → ((v : V) (U : TypeTree) → of v U → HasType U (tree v)) → handed ≡ merge (same_texts tree of Full) x.entries.items → IfOk made_map (MakesMap tree of (type_tree x.ty.now) handed) → IfErr made_map (FullMap of Full (type_tree x.ty.now) handed) → IsMadeOrMemory (node kind.TupleSet p (node_trees children)) made_map r → IsReadAs tree of Full o w T source (node kind.TupleSet p (node_trees children)) r

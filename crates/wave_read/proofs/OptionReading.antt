@@ -39,7 +39,7 @@ some_payload source p inner t k = subst (λ (m : NodeTree). IsNodeOf source m k.
 module _ {V : Type 0} (tree : V → Value) (of : V → TypeTree → Type 0) (Full : TypeTree → Type 0) (o w : Order) where
   -- an option of the type has the payload
   pub some_typed : (T P : TypeTree) (source : List ℕ) (children : List NodeTree) (v : V) → T ≡ type.option P → IsReadPayload tree of Full w (Some P) source children (Some (Ok v)) → HasDistinctNames T → TypedOption of T (Some v)
-  some_typed T P source children v option (inner, is, read) distinct = (P, option, read.typed (subst HasDistinctNames option distinct))
+  some_typed T P source children v option (inner, is, read) distinct = subst (λ (U : TypeTree). TypedOption of U (Some v)) (sym option) (read.typed (subst HasDistinctNames option distinct))
 
   -- `some` of a value
   pub some_read : (T P : TypeTree) (source : List ℕ) (p : Range ℕ) (children : List NodeTree) (v : V) (m : Result V WasmValueError) (r : Result V Diagnostic) → T ≡ type.option P → IsReadPayload tree of Full w (Some P) source children (Some (Ok v)) → IfOk m (MakesOption tree of T (Some v)) → IfErr m (FullOption of Full T (Some v)) → IsMadeAt p m r → IsReadAs tree of Full o w T source (some_of p children) r

@@ -122,9 +122,8 @@ module _ {V : Type 0} (tree : V → Value) (of : V → TypeTree → Type 0) (Ful
     -- a record of the type has them
     pub record_typed : (vals : List (Bor (List ℕ) × V)) → AreFull tree of type_tree x.fields.items vals → HasDistinctNames T → TypedRecord of T vals
     record_typed vals full distinct =
-        let apart = fields_distinct T (map (part_of type_tree) x.fields.items) own distinct in (
-          own.fields,
-          own.is,
+        let apart = fields_distinct T (map (part_of type_tree) x.fields.items) own distinct in
+        subst (λ (U : TypeTree). TypedRecord of U vals) (sym own.is) (
           subst AreDistinct (sym (full_names x.fields.items vals full)) apart.names,
           vals,
           IsPermutation-refl vals,

@@ -110,10 +110,10 @@ module _ {V : Type 0} (tree : V → Value) (of : V → TypeTree → Type 0) (Ful
   pub result_typed : (is_ok : Bool) (T : TypeTree) (D : Option TypeTree) (v : Option V) → (parts : Option TypeTree × Option TypeTree) × (result_parts T ≡ Some parts) × (D ≡ payload_of is_ok parts) → IsOfPayloadType of D v → HasDistinctNames T → TypedResult of T (result_with is_ok v)
   result_typed true T D v (parts, is, due) typed distinct =
       let names = subst HasDistinctNames (result_is T parts is) distinct in
-      (maybe_type parts.0, maybe_type parts.1, result_is T parts is, subst (λ (E : Option TypeTree). PayloadIsOf of E v) (sym (option_back parts.0)) (subst (λ (E : Option TypeTree). IsOfPayloadType of E v) due typed names.0))
+      subst (λ (U : TypeTree). TypedResult of U (result_with true v)) (sym (result_is T parts is)) (subst (λ (E : Option TypeTree). PayloadIsOf of E v) (sym (option_back parts.0)) (subst (λ (E : Option TypeTree). IsOfPayloadType of E v) due typed names.0))
   result_typed false T D v (parts, is, due) typed distinct =
       let names = subst HasDistinctNames (result_is T parts is) distinct in
-      (maybe_type parts.0, maybe_type parts.1, result_is T parts is, subst (λ (E : Option TypeTree). PayloadIsOf of E v) (sym (option_back parts.1)) (subst (λ (E : Option TypeTree). IsOfPayloadType of E v) due typed names.1))
+      subst (λ (U : TypeTree). TypedResult of U (result_with false v)) (sym (result_is T parts is)) (subst (λ (E : Option TypeTree). PayloadIsOf of E v) (sym (option_back parts.1)) (subst (λ (E : Option TypeTree). IsOfPayloadType of E v) due typed names.1))
 
   -- the payload was refused
   pub result_refused : (is_ok : Bool) (T : TypeTree) (D : Option TypeTree) (source : List ℕ) (p : Range ℕ) (children : List NodeTree) (e : Diagnostic) → HasFullParts Full → (parts : Option TypeTree × Option TypeTree) × (result_parts T ≡ Some parts) × (D ≡ payload_of is_ok parts) → AnswersPayload tree of Full w (result_name is_ok) D source (result_of is_ok p children) (first_of children) (Err e) → (IsPayloadOf source (first_of children) → RefusesInPart (result_of is_ok p children) (first_of children) e) → IsReadAs tree of Full o w T source (result_of is_ok p children) (Err e)

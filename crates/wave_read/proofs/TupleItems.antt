@@ -188,7 +188,7 @@ module _ {V : Type 0} (tree : V → Value) (of : V → TypeTree → Type 0) (Ful
   pub row_typed : (T : TypeTree) (parts : List TypeTree) (source : List ℕ) (ns : List NodeTree) (vs : List V) (want count : ℕ) → kind_of T ≡ kinds.Tuple → parts ≡ tuple_parts T → want ≡ length parts → count ≡ length ns → count ≡ want → AreReadEach tree of Full w parts source ns vs → HasDistinctNames T → TypedTuple of T vs
   row_typed T parts source ns vs want count tuples parts_are wanted many same all distinct =
       let is : TupleType T parts = tuple_is T parts (sym tuples) parts_are in
-      (is.types, is.is, subst (λ (Ts : List TypeTree). AreOf of Ts vs) is.parts_are (each_of parts source ns vs (parts_distinct T parts is distinct) (sym many ∙ (same ∙ wanted)) all))
+      subst (λ (U : TypeTree). TypedTuple of U vs) (sym is.is) (subst (λ (Ts : List TypeTree). AreOf of Ts vs) is.parts_are (each_of parts source ns vs (parts_distinct T parts is distinct) (sym many ∙ (same ∙ wanted)) all))
 
   -- the tuple was made, or its constructor refused
   pub tuple_read : (T : TypeTree) (parts : List TypeTree) (source : List ℕ) (p : Range ℕ) (ns : List NodeTree) (vs : List V) (want count : ℕ) (m : Result V WasmValueError) (r : Result V Diagnostic) → kind_of T ≡ kinds.Tuple → parts ≡ tuple_parts T → want ≡ length parts → count ≡ length ns → count ≡ want → AreReadEach tree of Full w parts source ns vs → IfOk m (MakesTuple tree of T vs) → IfErr m (FullTuple of Full T vs) → IsMadeOrMemory (node kind.Tuple p (node_trees ns)) m r → IsReadAs tree of Full o w T source (node kind.Tuple p (node_trees ns)) r

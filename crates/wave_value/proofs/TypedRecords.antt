@@ -51,11 +51,9 @@ pub typed_in_order : (T : TypeTree) (xs : List (String Global × TypeTree)) (giv
     → (HasDistinctNames T → TypedRecord (λ v T. IsAt T v) T given) → vs ≡ map (λ f. f.1) given → InOrder (map by_bytes xs) (last_under (named given)) vs
 typed_in_order T xs given vs b is stands turned apart known all =
     let turn : IsInTurn (map by_bytes xs) (named given) = subst (λ b. OnTrue b (IsInTurn (map by_bytes xs) (named given))) stands turned in
-    let (fs, record_type, distinct, ordered, moved, typed) = known (subst (λ b. OnTrue b (HasDistinctNames T)) stands apart) in
     let parts : List (List ℕ × TypeTree) = map by_bytes xs in
-    let same : type.record_type (fields_of parts) ≡ type.record_type fs = record_is T parts is ∙ record_type in
-    let listed : parts ≡ field_list fs = sym (field_list-fields_of parts) ∙ ap type.record_parts same in
-    let at : FieldsAreOf (λ v T. IsAt T v) parts ordered = subst (λ ps. FieldsAreOf (λ v T. IsAt T v) ps ordered) (sym listed) typed in
+    let (distinct, ordered, moved, typed) = subst (λ U. TypedRecord (λ v T. IsAt T v) U given) (sym (record_is T parts is)) (known (subst (λ b. OnTrue b (HasDistinctNames T)) stands apart)) in
+    let at : FieldsAreOf (λ v T. IsAt T v) parts ordered = subst (λ ps. FieldsAreOf (λ v T. IsAt T v) ps ordered) (field_list-fields_of parts) typed in
     are_in_order xs given vs turn (fields_at parts given ordered turn.same (subst AreDistinct (sym turn.same) turn.distinct) moved at) all
 
 -- a record type with distinct names has distinct fields

@@ -211,36 +211,44 @@ module _ {S : Type 0} (of : S → TypeTree → Type 0) (Full : TypeTree → Type
   FullMap T handed e =
       Full T → (K : type.Simple) → (V : TypeTree) → T ≡ type.map K V → AllOf (λ en. of en.0 (type.simple K) × of en.1 V) handed → IsMemory e
 
--- ---- parts that a value of the type has, as whoever read them knows
+-- ---- parts that a value of the type has, as whoever read them knows: anything where the type is of another kind
 
 module _ {S : Type 0} (of : S → TypeTree → Type 0) where
   -- a list of the type has these items: as many as a fixed length says, each of the element type
   abbrev pub TypedList : TypeTree → List S → Type 0
-  TypedList T items = (E : TypeTree) × IsListOf E (length items) T × AllOf (λ v. of v E) items
+  TypedList (type.list E) items = AllOf (λ v. of v E) items
+  TypedList (type.fixed E n) items = (length items ≡ n) × AllOf (λ v. of v E) items
+  TypedList _ items = Unit {0}
 
   -- a tuple of the type has these items
   abbrev pub TypedTuple : TypeTree → List S → Type 0
-  TypedTuple T items = (Ts : type.Types) × (T ≡ type.tuple Ts) × AreOf of (type_list Ts) items
+  TypedTuple (type.tuple Ts) items = AreOf of (type_list Ts) items
+  TypedTuple _ items = Unit {0}
 
   -- a record of the type has these fields, each under another name, in whatever order
   abbrev pub TypedRecord : TypeTree → List (Bor (List ℕ) × S) → Type 0
-  TypedRecord T fields =
-      (fs : type.Fields) × (T ≡ type.record_type fs) × AreDistinct (map (λ f. f.0.now) fields)
+  TypedRecord (type.record_type fs) fields =
+      AreDistinct (map (λ f. f.0.now) fields)
       × (ordered : List (Bor (List ℕ) × S)) × IsPermutation fields ordered × FieldsAreOf of (type.field_list fs) ordered
+  TypedRecord _ fields = Unit {0}
 
   -- a variant of the type has this case with this payload
   abbrev pub TypedVariant : TypeTree → List ℕ → Option S → Type 0
-  TypedVariant T name payload =
-      (cs : Cases) × (T ≡ type.variant cs) × (P : Option TypeTree) × SomeOf (λ c. c ≡ (name, P)) (case_list cs) × PayloadIsOf of P payload
+  TypedVariant (type.variant cs) name payload =
+      (P : Option TypeTree) × SomeOf (λ c. c ≡ (name, P)) (case_list cs) × PayloadIsOf of P payload
+  TypedVariant _ name payload = Unit {0}
 
   -- an option of the type has this payload
   abbrev pub TypedOption : TypeTree → Option S → Type 0
-  TypedOption T payload = (P : TypeTree) × (T ≡ type.option P) × OptionIsOf of P payload
+  TypedOption (type.option P) payload = OptionIsOf of P payload
+  TypedOption _ payload = Unit {0}
 
   -- a result of the type has this payload
   abbrev pub TypedResult : TypeTree → Result (Option S) (Option S) → Type 0
-  TypedResult T payload = (A : MaybeType) × (B : MaybeType) × (T ≡ type.result A B) × EitherIsOf of (type_option A) (type_option B) payload
+  TypedResult (type.result A B) payload = EitherIsOf of (type_option A) (type_option B) payload
+  TypedResult _ payload = Unit {0}
 
   -- a map of the type has these entries, as they are handed over
   abbrev pub TypedMap : TypeTree → List (S × S) → Type 0
-  TypedMap T handed = (K : type.Simple) × (V : TypeTree) × (T ≡ type.map K V) × AllOf (λ en. of en.0 (type.simple K) × of en.1 V) handed
+  TypedMap (type.map K V) handed = AllOf (λ en. of en.0 (type.simple K) × of en.1 V) handed
+  TypedMap _ handed = Unit {0}

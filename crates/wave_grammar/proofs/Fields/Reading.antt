@@ -347,7 +347,7 @@ module _ {V : Type 0} (tree : V → Value) (of : V → TypeTree → Type 0) (Ful
   -- a record of the type has the fields
   pub record_typed : (T : TypeTree) (fs : Fields) (es : List PlacedEntry) (hs : List (Bor (List ℕ) × V)) → T ≡ type.record_type fs → AreDistinct (names_of (type.field_list fs)) → FieldsRead (type.field_list fs) es hs → TypedRecord of T hs
   record_typed T fs es hs is names h =
-      (fs, is, subst AreDistinct (sym (names_same (type.field_list fs) es hs h)) names, hs, IsPermutation-refl hs, fields_are_of (type.field_list fs) es hs h)
+      subst (λ (U : TypeTree). TypedRecord of U hs) (sym is) (subst AreDistinct (sym (names_same (type.field_list fs) es hs h)) names, hs, IsPermutation-refl hs, fields_are_of (type.field_list fs) es hs h)
 
   -- a constructor at a full type refuses for lack of memory alone
   pub record_full : (T : TypeTree) (fs : Fields) (es : List PlacedEntry) (hs : List (Bor (List ℕ) × V)) (m : Result V WasmValueError) → T ≡ type.record_type fs → AreDistinct (names_of (type.field_list fs)) → FieldsRead (type.field_list fs) es hs → IfErr m (FullRecord of Full T hs) → IfErr m (λ cause. Full T → IsMemory cause)

@@ -1,5 +1,6 @@
-//! Makers of values whose parts are those that a value of the type has. Where the type has distinct
-//! names this is known, and no part's type is compared; else the makers that compare are asked.
+//! Makers of values whose parts are those that a value of the type has. Where the type is of that
+//! kind and has distinct names this is known, and no part's type is compared; else the makers that
+//! compare are asked.
 ghost use Rattle.std.specs.Prelude.{◌≡◌, IfOk, IfErr, OnOk};
 ghost use Rattle.wave_wasm.specs.Types.{HasDistinctNames};
 ghost use Rattle.wave_wasm.specs.Values as value;
@@ -19,8 +20,8 @@ use super::super::{Content, Type, Value};
 use super::{stand_in_order, values_of};
 use std::alloc::{AllocError, Global};
 use std::boxed::Box;
-use wave_type::ty::places::{has_distinct_names, named_types, variant_place};
-use wave_wasm::wasm::{WasmTypeKind, WasmValueError};
+use wave_type::ty::places::{has_distinct_names, named_types, tuple_types, variant_place};
+use wave_wasm::wasm::{WasmType, WasmTypeKind, WasmValueError};
 
 impl Value {
     // The list of these items, which a list of the type has.
@@ -34,6 +35,9 @@ impl Value {
         ensures taken { OnOk result (TakesList ty.now vals.items) }
         ensures refused { IfErr result (RefusesList own_text ty.now vals.items) }
     {
+        let Some(_) = ty.list_element_type() else {
+            return Value::list_of::<ByType>(alloc, ty, vals);
+        };
         if !has_distinct_names(ty) {
             return Value::list_of::<ByType>(alloc, ty, vals);
         }
@@ -54,6 +58,9 @@ impl Value {
         ensures taken { OnOk result (TakesTuple ty.now vals.items) }
         ensures refused { IfErr result (RefusesTuple own_text ty.now vals.items) }
     {
+        let Some(_) = tuple_types(ty) else {
+            return Value::tuple_of::<ByType>(alloc, ty, vals);
+        };
         if !has_distinct_names(ty) {
             return Value::tuple_of::<ByType>(alloc, ty, vals);
         }
@@ -114,6 +121,7 @@ impl Value {
     }
 
     // `some` of the payload, or `none`, which an option of the type has.
+    #[tactic(auto, using(crate::proofs::TypedParts::option_fits, crate::proofs::TypedParts::option_made, crate::proofs::TypedParts::option_taken))]
     pub(crate) fn option_unchecked(
         alloc: Global,
         ty: &Type,
@@ -124,6 +132,9 @@ impl Value {
         ensures taken { OnOk result (TakesOption ty.now val) }
         ensures refused { IfErr result (RefusesParts own_text WasmTypeKind.Option ty.now (option_stated ty.now val)) }
     {
+        let Some(_) = ty.option_some_type() else {
+            return Value::option_of::<ByType>(alloc, ty, val);
+        };
         if !has_distinct_names(ty) {
             return Value::option_of::<ByType>(alloc, ty, val);
         }
@@ -135,6 +146,7 @@ impl Value {
     }
 
     // `ok` or `err` with the payload, which a result of the type has.
+    #[tactic(auto, using(crate::proofs::TypedParts::ok_fits, crate::proofs::TypedParts::err_fits, crate::proofs::TypedParts::ok_made, crate::proofs::TypedParts::err_made, crate::proofs::TypedParts::ok_taken, crate::proofs::TypedParts::err_taken))]
     pub(crate) fn result_unchecked(
         alloc: Global,
         ty: &Type,
@@ -145,6 +157,9 @@ impl Value {
         ensures taken { OnOk result (TakesResult ty.now val) }
         ensures refused { IfErr result (RefusesResult own_text ty.now val) }
     {
+        let Some(_) = ty.result_types() else {
+            return Value::result_of::<ByType>(alloc, ty, val);
+        };
         if !has_distinct_names(ty) {
             return Value::result_of::<ByType>(alloc, ty, val);
         }
@@ -177,6 +192,9 @@ impl Value {
         ensures taken { OnOk result (TakesMap ty.now entries.items) }
         ensures refused { IfErr result (RefusesParts own_text WasmTypeKind.Map ty.now (map_stated ty.now entries.items)) }
     {
+        let Some(_) = ty.map_key_value_types() else {
+            return Value::map_of::<ByType>(alloc, ty, entries);
+        };
         if !has_distinct_names(ty) {
             return Value::map_of::<ByType>(alloc, ty, entries);
         }
