@@ -1,6 +1,8 @@
 -- An error is what its parts say, since its cause isn't out of memory.
-use Rattle.std.proofs.Common.{◌≡◌, ◌≢◌, ℕ, List, Option, Some, None, inl, inr, ◌∙◌, refl, ap}
-use Rattle.std.specs.Prelude.{option_map}
+use Rattle.std.proofs.Common.{◌≡◌, ◌≢◌, ℕ, List, Option, Some, None, String, inl, inr, ◌∙◌, refl, ap, subst}
+use Rattle.std.specs.Borrow.{Bor}
+use Rattle.std.specs.declared.alloc.Global.{Global}
+use Rattle.std.specs.Prelude.{MatchOption, option_map}
 use Rattle.std.specs.String.{string_bytes}
 use Rattle.std.specs.declared.ops.Range.{Range}
 use Rattle.wave_wasm.specs.declared.wasm.WasmValueError.{WasmValueError}
@@ -12,7 +14,7 @@ use Rattle.wave_lex.specs.declared.error.Detail.{Detail}
 use Rattle.wave_lex.specs.declared.error.Detail.TheVariants as detail
 use Rattle.wave_lex.specs.declared.error.ParserErrorKind.{ParserErrorKind}
 use Rattle.wave_lex.specs.declared.error.ParserErrorKind.TheVariants as why
-use Rattle.wave_read.specs.Errors.{HasText, IsErrorOf, IsSameOrMemory, detailed, error_at, static_words}
+use Rattle.wave_read.specs.Errors.{AreOwnWords, CauseHasText, HasText, IsErrorOf, IsSameOrMemory, NeedsMemory, detailed, error_at, static_words}
 use Rattle.wave_read.specs.declared.error.Reason.{Reason}
 use Rattle.wave_read.specs.declared.error.Reason.TheVariants as reason
 
@@ -42,13 +44,17 @@ same_parts e k p t c a b f g = rw (a, b, f, g) refl
 made_again : (e : Diagnostic) (k : ParserErrorKind) (p : Range ℕ) (d : Detail) → k ≡ e.kind → p ≡ e.span → detail_text d ≡ e.detail → detail_cause d ≡ e.cause → IsNoMemory (detail_cause d) → error_with k p d ≡ e
 made_again e k p d a b t c h = kept_whole k p d h ∙ same_parts e k p (detail_text d) (detail_cause d) a b t c
 
--- a detail that has a text of its own says more than the kind
-text_said : (e : Diagnostic) (d : Detail) → HasText d → detail_text d ≡ e.detail → detail_cause d ≡ e.cause → refusal_of e ≢ plainly e.kind
+-- an error of words that were copied is one of the words
+pub copied : (k : ParserErrorKind) (p : Range ℕ) (words : Bor (List ℕ)) (copy : String Global) (e : Diagnostic) → string_bytes copy ≡ words.now → IsErrorOf k p (detail.Owned copy) e → IsErrorOf k p (detail.Static words) e
+copied k p words copy e same (inl is) = inl (is ∙ ap (λ (t : List ℕ). detailed k p (Some t)) same)
+copied k p words copy e same (inr own) = inr (subst AreOwnWords same own.0, own.1)
+
+-- where a detail has a text of its own, so has the error
+text_said : (e : Diagnostic) (d : Detail) → HasText d → detail_text d ≡ e.detail → detail_cause d ≡ e.cause → NeedsMemory e
 text_said e detail.None held t c = absurd held
-text_said e (detail.Static s) held t c = λ same. let none : e.detail ≡ None = ap (λ (r : Refusal). r.detail) same in cc
-text_said e (detail.Owned s) held t c = λ same. let none : e.detail ≡ None = ap (λ (r : Refusal). r.detail) same in cc
-text_said e (detail.Cause w) held t c = λ same.
-    let none : option_map cause_of (Some w) ≡ None = ap (option_map cause_of) c ∙ ap (λ (r : Refusal). r.cause) same in absurd (cc)
+text_said e (detail.Static s) held t c = inl (subst (λ o. MatchOption o ⊥ AreOwnWords) t held)
+text_said e (detail.Owned s) held t c = inl (subst (λ o. MatchOption o ⊥ AreOwnWords) t held)
+text_said e (detail.Cause w) held t c = inr (subst (λ o. MatchOption o ⊥ CauseHasText) c held)
 
 -- an error in few bytes is the same, or out of memory
 pub kept_or_memory : (e f : Diagnostic) (k : ParserErrorKind) (p : Range ℕ) (d : Detail) → k ≡ e.kind → p ≡ e.span → detail_text d ≡ e.detail → detail_cause d ≡ e.cause → IsNoMemory (detail_cause d) → IsErrorOf k p d f → IsSameOrMemory e f

@@ -1,5 +1,5 @@
 -- Errors on their way to the caller.
-use Rattle.std.specs.Prelude.{ℕ, ◌≡◌, ◌≢◌, ◌⊎◌, List, Option, Some, None, Result, Ok, Err, codes}
+use Rattle.std.specs.Prelude.{ℕ, ◌≡◌, ◌⊎◌, List, Option, Some, None, Result, Ok, Err, MatchOption, codes}
 use Rattle.std.specs.String.{string_bytes}
 use Rattle.std.specs.declared.ops.Range.{Range}
 use Rattle.wave_wasm.specs.ValueErrors.{cause_of}
@@ -38,23 +38,35 @@ error_at p (reason.Elements k want got) = error_with k p (detail.Cause (error.Wr
 error_at p (reason.TupleValues k want got) = error_with k p (detail.Cause (error.WrongNumberOfTupleValues want got))
 error_at p (reason.Cause k cause) = error_with k p (detail.Cause cause.value)
 
--- the detail has a text of its own, which needs memory to be kept
+-- the words are none of those that are written in the program, so that they need memory to be kept
+abbrev pub AreOwnWords : List ℕ → Type 0
+AreOwnWords words = (d : StaticDetail) → words ≡ static_words d → ⊥
+
+-- the cause has a text, likewise
+abbrev pub CauseHasText : WasmValueError → Type 0
+CauseHasText (error.WrongNumberOfElements want got) = ⊥
+CauseHasText (error.WrongNumberOfTupleValues want got) = ⊥
+CauseHasText (error.Memory e) = ⊥
+CauseHasText e = Unit {0}
+
+-- the detail has a text of its own
 abbrev pub HasText : Detail → Type 0
 HasText detail.None = ⊥
-HasText (detail.Static s) = (d : StaticDetail) → s.now ≡ static_words d → ⊥
-HasText (detail.Owned s) = Unit {0}
-HasText (detail.Cause (error.WrongNumberOfElements want got)) = ⊥
-HasText (detail.Cause (error.WrongNumberOfTupleValues want got)) = ⊥
-HasText (detail.Cause (error.Memory e)) = ⊥
-HasText (detail.Cause e) = Unit {0}
+HasText (detail.Static s) = AreOwnWords s.now
+HasText (detail.Owned s) = AreOwnWords (string_bytes s)
+HasText (detail.Cause e) = CauseHasText e
 
 -- the error of these parts; or, where the detail has a text of its own, one for lack of memory
 abbrev pub IsErrorOf : ParserErrorKind → Range ℕ → Detail → Diagnostic → Type 0
 IsErrorOf k p d e = (e ≡ error_with k p d) ⊎ HasText d × (e ≡ detailed OutOfMemory p None)
 
--- the same error; or, where it says more than its kind, one for lack of memory where it stands
+-- the detail or the cause of the error has a text of its own
+abbrev pub NeedsMemory : Diagnostic → Type 0
+NeedsMemory e = MatchOption e.detail ⊥ AreOwnWords ⊎ MatchOption e.cause ⊥ CauseHasText
+
+-- the same error; or, where it has such a text, one for lack of memory where it stands
 abbrev pub IsSameOrMemory : Diagnostic → Diagnostic → Type 0
-IsSameOrMemory e f = (f ≡ e) ⊎ (refusal_of e ≢ plainly e.kind) × (f ≡ detailed OutOfMemory e.span None)
+IsSameOrMemory e f = (f ≡ e) ⊎ NeedsMemory e × (f ≡ detailed OutOfMemory e.span None)
 
 -- the refusal because a value could not be made; or, where its cause has a text, one for lack of memory
 abbrev pub IsRefusedBy : WasmValueError → Diagnostic → Type 0

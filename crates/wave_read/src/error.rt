@@ -2,11 +2,15 @@
 ghost use Rattle.std.specs.Prelude.{ℕ, ◌≡◌, ◌↔◌, Some, None, IfOk, IsTrue, MatchOption};
 ghost use Rattle.std.specs.String.{string_bytes};
 ghost use Rattle.std.specs.declared.ops.Range.{Range};
+ghost use Rattle.wave_wasm.specs.TypeText.{kind_word};
+ghost use Rattle.wave_wasm.specs.ValueErrors.{unsupported_type};
+ghost use Rattle.wave_grammar.specs.NodeTree.{NodeTree, place_of};
+ghost use Rattle.wave_grammar.specs.Shared.TypedReading.{IsCaused};
 ghost use Rattle.wave_lex.specs.Errors.{Says, class_name, plainly, refusal_of, repeated_name};
 ghost use Rattle.wave_lex.specs.Shared.Errors.{error_with};
 ghost use Rattle.wave_lex.specs.declared.error.Detail.TheVariants as detail_as;
 ghost use Rattle.wave_lex.specs.declared.error.ParserErrorKind.TheVariants as kind_as;
-ghost use Rattle.wave_read.specs.Errors.{IsErrorOf, IsRefusedBy, IsSameOrMemory, error_at, static_words};
+ghost use Rattle.wave_read.specs.Errors.{AreOwnWords, IsErrorOf, IsRefusedBy, IsSameOrMemory, error_at, static_words};
 ghost use Rattle.wave_read.specs.declared.error.StaticDetail.{StaticDetail};
 
 use std::alloc::{AllocError, Global};
@@ -14,7 +18,7 @@ use std::boxed::Box;
 use std::marker::Model;
 use wave_lex::error::{Detail, ParserError, ParserErrorKind, error_of_parts, parts_of_error};
 use wave_lex::lex::{Span, Token};
-use wave_wasm::wasm::WasmValueError;
+use wave_wasm::wasm::{WasmTypeKind, WasmValueError};
 
 /// Why tokens or a value are refused, and where. It is small, since each answer on the way has room for
 /// one. A clause sees the error that it is to become.
@@ -106,14 +110,17 @@ impl Reason {
                     Err(_) => Reason::Plain(ParserErrorKind::OutOfMemory),
                 },
             },
-            Detail::Owned(words) => Reason::with_words(alloc, kind, words),
+            Detail::Owned(words) => match StaticDetail::of_words(&words) {
+                None => Reason::with_words(alloc, kind, words),
+                Some(known) => Reason::Static(kind, known),
+            },
             Detail::Cause(cause) => Reason::caused(alloc, kind, cause),
         }
     }
 
-    /// This kind with these words; where there is no memory for them, out of memory.
+    /// This kind with these words, of no `StaticDetail`; where there is no memory for them, out of memory.
     fn with_words(alloc: Global, kind: ParserErrorKind, words: String) -> Reason
-        ensures { (p : Range ℕ) → IsErrorOf kind p (detail_as.Owned words) (error_at p result) }
+        ensures { AreOwnWords (string_bytes words) → (p : Range ℕ) → IsErrorOf kind p (detail_as.Owned words) (error_at p result) }
     {
         match Box::new(alloc, words) {
             Ok(words) => Reason::Words(kind, words),
@@ -217,6 +224,18 @@ impl ReadError {
         ReadError {
             span,
             reason: Reason::caused(alloc, ParserErrorKind::WasmValueError, cause),
+        }
+    }
+
+    /// The error that values of a type of this kind can't be read; where there is no memory for its word,
+    /// out of memory.
+    pub fn unsupported(alloc: Global, span: Span, kind: WasmTypeKind) -> ReadError
+        ensures cause { (n : NodeTree) → place_of n ≡ span → IsCaused (unsupported_type (kind_word kind)) n result }
+        ensures span { result.span ≡ span }
+    {
+        match kind.to_string(alloc) {
+            Ok(word) => ReadError::with_cause(alloc, span, WasmValueError::UnsupportedType(word)),
+            Err(error) => ReadError::with_cause(alloc, span, WasmValueError::Memory(error)),
         }
     }
 

@@ -169,9 +169,6 @@ impl<'src> Leaf<'src> {
         ensures cause { IsCaused (unsupported_type (kind_word kind)) (leaf_node self.now) result }
         ensures span { result.span ≡ place_of (leaf_node self.now) }
     {
-        match kind.to_string(alloc) {
-            Ok(word) => self.refused(alloc, WasmValueError::UnsupportedType(word)),
-            Err(error) => self.refused(alloc, WasmValueError::Memory(error)),
-        }
+        ReadError::unsupported(alloc, self.span.start..self.span.end, kind)
     }
 }

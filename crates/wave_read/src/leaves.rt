@@ -15,8 +15,8 @@ use crate::flags::read_flags;
 use crate::flat::{around, flat_payload};
 use crate::leaf::Leaf;
 use crate::options::read_none;
-use crate::parts::refuse_simple;
 use crate::results::read_alone;
+use crate::simple::refuse_form;
 use crate::variants::read_case;
 use std::alloc::Global;
 use std::collections::BTreeMap;
@@ -155,6 +155,6 @@ pub(crate) fn refuse_flags<V: WasmValue>(
         | WasmTypeKind::F64
         | WasmTypeKind::Char
         | WasmTypeKind::String
-        | WasmTypeKind::Unsupported => refuse_simple(alloc, ty, span),
+        | WasmTypeKind::Unsupported => refuse_form(alloc, ty, span),
     }
 }

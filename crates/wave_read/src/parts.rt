@@ -21,12 +21,12 @@ ghost use Rattle.wave_grammar.specs.declared.form.NodeType.TheVariants as node_t
 use crate::error::{ReadError, Reason};
 use crate::fault::Fault;
 use crate::flags::read_no_flags;
-use crate::leaf::Leaf;
 use crate::lists::Items;
 use crate::maps::{Entries, read_no_entries};
 use crate::options::SomePayload;
 use crate::records::Fields;
 use crate::results::ResultPayload;
+use crate::simple::refuse_form;
 use crate::tuples::TupleItems;
 use crate::variants::CasePayload;
 use std::alloc::{AllocError, Global};
@@ -345,7 +345,7 @@ impl<'ty, V: WasmValue> Partial<'ty, V::Type, V> {
     {
         match self {
             Partial::Faulty(fault) => Err(fault.tell(span)),
-            Partial::Simple(ty) => refuse_simple(alloc, ty, span),
+            Partial::Simple(ty) => refuse_form(alloc, ty, span),
             Partial::Empty(ty) => read_empty(alloc, ty, span),
             Partial::Items(items) => items.whole(alloc, span),
             Partial::TupleItems(row) => row.whole(alloc, span),
@@ -390,23 +390,4 @@ fn read_empty<V: WasmValue>(alloc: Global, ty: &V::Type, span: Span) -> Result<V
         | WasmTypeKind::Result
         | WasmTypeKind::Unsupported => Err(ReadError::new(ParserErrorKind::InvalidType, span)),
     }
-}
-
-/// The refusal of parts or flags that stand here, at a simple type or one that has no values.
-#[cold]
-#[inline(never)]
-pub(crate) fn refuse_simple<V: WasmValue>(
-    alloc: Global,
-    ty: &V::Type,
-    span: Span,
-) -> Result<V, ReadError>
-    ensures read { IsReadOfForm V.tree V.is_of V.is_full (V.Type.tree ty.now) span result }
-    ensures plain { IsPlain (V.Type.tree ty.now) → IfErr result (λ e. Says e why.InvalidType span None) }
-{
-    let leaf = Leaf {
-        ty: NodeType::Label,
-        span,
-        text: "",
-    };
-    leaf.refuse_form(alloc, ty)
 }

@@ -11,6 +11,7 @@ use crate::leaf::Leaf;
 use std::alloc::Global;
 use wave_grammar::form::NodeType;
 use wave_lex::error::ParserErrorKind;
+use wave_lex::lex::Span;
 use wave_wasm::wasm::{WasmType, WasmTypeKind, WasmValue};
 
 impl<'src> Leaf<'src> {
@@ -47,39 +48,45 @@ impl<'src> Leaf<'src> {
             | WasmTypeKind::Unsupported => self.read_whole(alloc, kind),
         }
     }
+}
 
-    /// The refusal of a node that stands here and is no leaf: `InvalidType` at a simple type, and
-    /// that of the type where it has no values.
-    pub fn refuse_form<V: WasmValue>(&self, alloc: Global, ty: &V::Type) -> Result<V, ReadError>
-        ensures read { IsReadOfForm V.tree V.is_of V.is_full (V.Type.tree ty.now) self.now.span result }
-        ensures plain { IsPlain (V.Type.tree ty.now) → IfErr result (λ e. Says e InvalidType self.now.span None) }
-    {
-        let kind = ty.kind();
-        match kind {
-            WasmTypeKind::F32 | WasmTypeKind::F64 | WasmTypeKind::Unsupported => {
-                Err(self.unsupported(alloc, kind))
-            }
-            WasmTypeKind::Bool
-            | WasmTypeKind::S8
-            | WasmTypeKind::S16
-            | WasmTypeKind::S32
-            | WasmTypeKind::S64
-            | WasmTypeKind::U8
-            | WasmTypeKind::U16
-            | WasmTypeKind::U32
-            | WasmTypeKind::U64
-            | WasmTypeKind::Char
-            | WasmTypeKind::String
-            | WasmTypeKind::List
-            | WasmTypeKind::FixedLengthList
-            | WasmTypeKind::Record
-            | WasmTypeKind::Tuple
-            | WasmTypeKind::Variant
-            | WasmTypeKind::Enum
-            | WasmTypeKind::Option
-            | WasmTypeKind::Result
-            | WasmTypeKind::Flags
-            | WasmTypeKind::Map => Err(self.error(ParserErrorKind::InvalidType)),
+/// The refusal of parts or flags that stand here: `InvalidType` at a simple type, and that of the type
+/// where it has no values.
+#[cold]
+#[inline(never)]
+pub(crate) fn refuse_form<V: WasmValue>(
+    alloc: Global,
+    ty: &V::Type,
+    span: Span,
+) -> Result<V, ReadError>
+    ensures read { IsReadOfForm V.tree V.is_of V.is_full (V.Type.tree ty.now) span result }
+    ensures plain { IsPlain (V.Type.tree ty.now) → IfErr result (λ e. Says e InvalidType span None) }
+{
+    let kind = ty.kind();
+    match kind {
+        WasmTypeKind::F32 | WasmTypeKind::F64 | WasmTypeKind::Unsupported => {
+            Err(ReadError::unsupported(alloc, span, kind))
         }
+        WasmTypeKind::Bool
+        | WasmTypeKind::S8
+        | WasmTypeKind::S16
+        | WasmTypeKind::S32
+        | WasmTypeKind::S64
+        | WasmTypeKind::U8
+        | WasmTypeKind::U16
+        | WasmTypeKind::U32
+        | WasmTypeKind::U64
+        | WasmTypeKind::Char
+        | WasmTypeKind::String
+        | WasmTypeKind::List
+        | WasmTypeKind::FixedLengthList
+        | WasmTypeKind::Record
+        | WasmTypeKind::Tuple
+        | WasmTypeKind::Variant
+        | WasmTypeKind::Enum
+        | WasmTypeKind::Option
+        | WasmTypeKind::Result
+        | WasmTypeKind::Flags
+        | WasmTypeKind::Map => Err(ReadError::new(ParserErrorKind::InvalidType, span)),
     }
 }

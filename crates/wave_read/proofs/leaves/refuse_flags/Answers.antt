@@ -14,4 +14,4 @@ returns-in-Flags g c = λ o w source n ty place.
 
 pub returns-in-Bool : goal.returns-in-Bool
 returns-in-Bool g c = λ o w source n ty place.
-    c.refuse_simple.ensures.read o w source n place (inr ty) (named_simple (g.V.Type.WasmType.tree c.args.ty.now) c.kind.result c.kind.ensures c.in-Bool.is)
+    c.refuse_form.ensures.read o w source n place (inr ty) (named_simple (g.V.Type.WasmType.tree c.args.ty.now) c.kind.result c.kind.ensures c.in-Bool.is)

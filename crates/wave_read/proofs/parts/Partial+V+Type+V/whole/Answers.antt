@@ -48,8 +48,8 @@ returns-in-Faulty-clause-read g c = λ w T source of children parts.
 pub returns-in-Simple-clause-read : goal.returns-in-Simple-clause-read
 returns-in-Simple-clause-read g c = λ w T source of children parts.
     let h = subst (λ (x : Partial g.row.V-Type.Denot g.row.V.Denot). AreParts g.V.Type.WasmType.tree g.V.WasmValue.tree g.V.WasmValue.is_of g.V.WasmValue.is_full w T source of children x) c.in-Simple.is parts in
-    subst (λ (U : TypeTree). IsReadAs g.V.WasmValue.tree g.V.WasmValue.is_of g.V.WasmValue.is_full in_text w U source (node of c.args.span (node_trees children)) c.refuse_simple.result) h.0
-    (c.refuse_simple.ensures.read in_text w source (node of c.args.span (node_trees children)) refl (inl h.2) (rw h.0 h.1))
+    subst (λ (U : TypeTree). IsReadAs g.V.WasmValue.tree g.V.WasmValue.is_of g.V.WasmValue.is_full in_text w U source (node of c.args.span (node_trees children)) c.refuse_form.result) h.0
+    (c.refuse_form.ensures.read in_text w source (node of c.args.span (node_trees children)) refl (inl h.2) (rw h.0 h.1))
 
 pub returns-in-Empty-clause-read : goal.returns-in-Empty-clause-read
 returns-in-Empty-clause-read g c = λ w T source of children parts.
@@ -94,7 +94,7 @@ returns-in-Entries-clause-read g c = λ w T source of children parts.
 pub returns-in-Simple-clause-plain : goal.returns-in-Simple-clause-plain
 returns-in-Simple-clause-plain g c = λ T plain simple.
     let same = rw c.in-Simple.is at simple in
-    c.refuse_simple.ensures.plain (subst IsPlain (sym same) plain)
+    c.refuse_form.ensures.plain (subst IsPlain (sym same) plain)
 
 pub returns-in-Faulty-clause-plain : goal.returns-in-Faulty-clause-plain
 returns-in-Faulty-clause-plain g c = λ T plain simple. absurd (rw c.in-Faulty.is at simple)

@@ -2,20 +2,19 @@ use Rattle.std.proofs.Common.{ℕ, None, sym, ◌∙◌, subst}
 use Rattle.std.specs.declared.ops.Range.{Range}
 use Rattle.wave_lex.specs.Errors.{Says}
 use Rattle.wave_lex.specs.declared.error.ParserErrorKind.TheVariants.{InvalidType}
-use Rattle.wave_read.specs.Leaves.{leaf_node}
-use Rattle.wave_read.proofs.SimpleTypes.{plain_readable, unreadable_is, none_unreadable, caused_there, form_refused, type_refused}
+use Rattle.wave_read.proofs.SimpleTypes.{plain_readable, unreadable_is, none_unreadable, form_refused, type_refused}
 use Rattle.wave_read.proofs.NamedKinds.{none_unread}
-use Rattle.wave_read.proofs.leaf.Leaf.refuse_form.Goals as goal
+use Rattle.wave_read.proofs.simple.refuse_form.Goals as goal
 
 pub returns-in-F32-clause-read : goal.returns-in-F32-clause-read
 returns-in-F32-clause-read g c = λ o w source n there other due.
     let k = unreadable_is c.kind-kind.result c.in-F32.is in
-    type_refused g.V.WasmValue.tree g.V.WasmValue.is_of g.V.WasmValue.is_full o w (g.V.Type.WasmType.tree c.args.ty.now) c.kind-kind.result k.0 source n c.unsupported.result c.kind-kind.ensures k.1 due (caused_there _ n (leaf_node c.args.self.now) c.unsupported.result there c.unsupported.ensures.cause) (c.unsupported.ensures.span ∙ sym there)
+    type_refused g.V.WasmValue.tree g.V.WasmValue.is_of g.V.WasmValue.is_full o w (g.V.Type.WasmType.tree c.args.ty.now) c.kind-kind.result k.0 source n c.unsupported.result c.kind-kind.ensures k.1 due (c.unsupported.ensures.cause n there) (c.unsupported.ensures.span ∙ sym there)
 
 pub returns-in-Bool-clause-read : goal.returns-in-Bool-clause-read
 returns-in-Bool-clause-read g c = λ o w source n there other due.
     let none = none_unread c.kind-kind.result c.in-Bool.is in
-    form_refused g.V.WasmValue.tree g.V.WasmValue.is_of g.V.WasmValue.is_full o w (g.V.Type.WasmType.tree c.args.ty.now) source n c.error.result (none_unreadable (g.V.Type.WasmType.tree c.args.ty.now) c.kind-kind.result c.kind-kind.ensures none.0 none.1 none.2) due other (subst (λ (p : Range ℕ). Says c.error.result InvalidType p None) (sym there) c.error.ensures)
+    form_refused g.V.WasmValue.tree g.V.WasmValue.is_of g.V.WasmValue.is_full o w (g.V.Type.WasmType.tree c.args.ty.now) source n c.new.result (none_unreadable (g.V.Type.WasmType.tree c.args.ty.now) c.kind-kind.result c.kind-kind.ensures none.0 none.1 none.2) due other (subst (λ (p : Range ℕ). Says c.new.result InvalidType p None) (sym there) c.new.ensures)
 
 pub returns-in-F32-clause-plain : goal.returns-in-F32-clause-plain
 returns-in-F32-clause-plain g c = λ plain.
