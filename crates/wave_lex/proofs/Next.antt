@@ -2,12 +2,11 @@
 use Rattle.std.proofs.Common.{◌≡◌, ℕ, ◌≤◌, ◌<◌, ◌+◌, List, refl, sym, ap, subst, ◌∙◌, length, drop, arith, Option, Some, None, Result, Ok, Err, length-drop}
 use Rattle.std.specs.declared.ops.Range.{Range}
 use Rattle.std.specs.Iterator.{MakesProgress, at_most}
-use Rattle.wave_lex.specs.declared.lex.Found.{Found}
-use Rattle.wave_lex.specs.declared.lex.Found.TheVariants as found
+use Rattle.wave_lex.specs.declared.found.Found.{Found}
+use Rattle.wave_lex.specs.declared.found.Found.TheVariants as found
 use Rattle.wave_lex.specs.declared.lex.Token.{Token}
 use Rattle.wave_lex.specs.Tokens.{shape, invalid}
-use Rattle.wave_lex.specs.Tokenization.{Lexed, Passes, IsGap, IsLongestToken, IsInvalid, NextIs, remainder_of, span}
-use Rattle.wave_lex.specs.Shared.Reading.{item_of}
+use Rattle.wave_lex.specs.Tokenization.{Lexed, Passes, IsGap, IsLongestToken, IsInvalid, NextIs, item_of, remainder_of, span}
 use Rattle.wave_lex.proofs.Classes.{shape_not_empty}
 use Rattle.wave_lex.proofs.LongestMatch.{front_positive}
 use Rattle.wave_lex.proofs.Cutting.{one_class, same_gap, no_token_left}

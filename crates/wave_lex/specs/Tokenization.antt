@@ -2,6 +2,8 @@
 use Rattle.std.specs.Prelude.{◌≡◌, ℕ, ◌≤◌, ◌+◌, ◌≢◌, ◌↔◌, List, [], ◌∷◌, ◌++◌, Option, Some, None, Result, Ok, Err, take, drop, length, codes}
 use Rattle.std.specs.Str.{IsCharBoundary}
 use Rattle.std.specs.declared.ops.Range.{Range}
+use Rattle.wave_lex.specs.declared.found.Found.{Found}
+use Rattle.wave_lex.specs.declared.found.Found.TheVariants as found
 use Rattle.wave_lex.specs.declared.lex.Token.{Token}
 use Rattle.wave_lex.specs.declared.lex.Token.TheVariants.{String}
 use Rattle.wave_lex.specs.Regex.{Matches}
@@ -102,3 +104,9 @@ abbrev pub NextIs : Lexed → Lexed → Option (Result Token (Range ℕ)) → Ty
 NextIs old new None = Passes old new (length (remainder_of old)) 0
 NextIs old new (Some (Ok c)) = (g : ℕ) × (k : ℕ) × Passes old new g k × IsLongestToken (drop g (remainder_of old)) k c
 NextIs old new (Some (Err bad)) = (g : ℕ) × (k : ℕ) × Passes old new g k × IsInvalid (drop g (remainder_of old)) k × (bad ≡ span new.start new.end)
+
+-- what a lexer gives that took this and stands at l
+abbrev pub item_of : Found → Lexed → Option (Result Token (Range ℕ))
+item_of (found.Token c) l = Some (Ok c)
+item_of found.Invalid l = Some (Err (span l.start l.end))
+item_of found.End l = None

@@ -32,7 +32,7 @@ impl Count {
 }
 
 /// A count of questions. It takes no bytes: only clauses see it, as a number. `new` makes one that
-/// is zero, and only `Lexer::next_ticked` changes one, by one more.
+/// is zero, and only `Lexer::next_ticked` and `Found::next_of` change one, by one more.
 #[derive(Drop)]
 pub struct Asked {
     count: Count,

@@ -4,12 +4,13 @@ ghost use Rattle.std.specs.Iterator.{at_most};
 ghost use Rattle.wave_lex.specs.Errors.{class_name, name_class_name};
 ghost use Rattle.wave_lex.specs.LongestMatch.{Greatest, IsPrefixOf};
 ghost use Rattle.wave_lex.specs.Tokens.{shape, invalid};
-ghost use Rattle.wave_lex.specs.Tokenization.{Lexed, Stands, NextIs, remainder_of, span};
-ghost use Rattle.wave_lex.specs.Shared.Reading.{class_of, ClassAt, TokenAt, IsMark, IsFirstMark, item_of, mark_number};
+ghost use Rattle.wave_lex.specs.Tokenization.{Lexed, Stands, NextIs, item_of, remainder_of, span};
+ghost use Rattle.wave_lex.specs.Shared.Reading.{class_of, ClassAt, TokenAt, IsMark, IsFirstMark, mark_number};
 
 pub use self::func_name::FuncNameLexer;
 use self::scan::{gap_at, label_at, mark_at, multiline_at, number_at, string_at};
 use crate::asked::Asked;
+use crate::found::Found;
 use crate::machine::character::CharState;
 use crate::machine::invalid::InvalidState;
 use crate::machine::longest_prefix;
@@ -228,14 +229,6 @@ fn token_at(text: &str) -> Option<(Token, usize)>
     Some((class, length))
 }
 
-/// What a lexer takes. It stands at the span of the lexer, which small answers leave out.
-#[derive(Clone, Copy)]
-enum Found {
-    Token(Token),
-    Invalid,
-    End,
-}
-
 /// Tokenizes a source, one token after the other. Places are counted in bytes.
 #[derive(Drop)]
 pub struct Lexer<'source> {
@@ -305,21 +298,30 @@ impl<'source> Lexer<'source> {
         }
     }
 
-    /// Answers as `next`, and counts the question. A mark that stands at once is told here, by its
-    /// byte.
+    /// Answers as `next`, and counts the question.
     #[inline(always)]
     pub fn next_ticked(&mut self, asked: &mut Asked) -> Option<Result<Token, Span>>
         ensures item { NextIs self.old self.new result }
+        ensures counted { asked.new ≡ asked.old + 1 }
+    {
+        let found = self.take(asked);
+        self.item(found)
+    }
+
+    /// Takes what stands next, and counts the question. A mark that stands at once is told here, by
+    /// its byte.
+    #[inline(always)]
+    pub(crate) fn take(&mut self, asked: &mut Asked) -> Found
+        ensures item { NextIs self.old self.new (item_of result self.new) }
         ensures counted { asked.new ≡ asked.old + 1 }
     {
         asked.tick();
         if let Some(mark) = first_mark(self.remainder()) {
             self.start = self.end;
             self.end += 1;
-            return Some(Ok(mark));
+            return Found::Token(mark);
         }
-        let found = self.advance();
-        self.item(found)
+        self.advance()
     }
 
     /// The item of which this was taken last.

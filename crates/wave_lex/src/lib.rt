@@ -3,6 +3,7 @@
 
 pub mod asked;
 pub mod error;
+pub mod found;
 pub mod laws;
 pub mod lex;
 pub mod machine;

@@ -13,7 +13,6 @@ pub mod ast;
 mod descent;
 pub mod expected;
 mod flags;
-mod item;
 pub mod laws;
 mod nodes;
 mod params;

@@ -8,7 +8,7 @@ ghost use Rattle.wave_grammar.specs.ParserPosition.{Place, TakesItem, IsSomethin
 ghost use Rattle.wave_grammar.specs.PrefixAutomaton as due;
 ghost use Rattle.wave_grammar.specs.SyntaxErrors.{Gives};
 ghost use Rattle.wave_lex.specs.Errors.{Says};
-ghost use Rattle.wave_lex.specs.Tokenization.{span};
+ghost use Rattle.wave_lex.specs.Tokenization.{item_of, span};
 ghost use Rattle.wave_tree.specs.UntypedCall.{AreParamsTaken, RefusesTuple};
 ghost use Rattle.wave_read.specs.PlainReading.{IsPlain};
 ghost use Rattle.wave_grammar.specs.NodeParts.{ArePartsOfSome, IsOneToken, TakesKey, TakesPart};
@@ -16,12 +16,11 @@ ghost use Rattle.wave_grammar.specs.NodeTree.{NodeTree, node, no_nodes, node_tre
 ghost use Rattle.wave_tree.specs.ParsedNodes.{IsNodeTaken, IsSound};
 ghost use Rattle.wave_tree.specs.FromStr.{IsValueTaken, RefusesValue, IsCausedBetween};
 ghost use Rattle.wave_tree.specs.ParserState.{BeginsRow, HoldsNoBrace, Finishes, StaysWithout};
-ghost use Rattle.wave_tree.specs.Private.ParserState.{Stream, stream_of, asked_of, AsksFor, ahead_count, lexer_of, IsAhead, Advances, Expects, IsRefused, item_at};
+ghost use Rattle.wave_tree.specs.Private.ParserState.{Stream, stream_of, asked_of, AsksFor, ahead_count, lexer_of, IsAhead, Advances, Expects, IsRefused};
 ghost use Rattle.wave_lex.specs.Errors.{LiesInText};
 ghost use Rattle.wave_tree.specs.ParserLaws.{LiesInSource};
 
 use crate::ast::{Node, NodeType};
-use crate::item::Item;
 use crate::nodes::NodeBuilder;
 use crate::parser::DEFAULT_LEVELS;
 use std::alloc::Global;
@@ -29,19 +28,20 @@ use std::marker::Model;
 use wave_grammar::builder::Builder;
 use wave_lex::asked::Asked;
 use wave_lex::error::{ParserError, ParserErrorKind};
+use wave_lex::found::Found;
 use wave_lex::lex::{Lexer, Span, Token};
 use wave_read::error::{ReadError, repeated_words};
 use wave_read::values::ValueBuilder;
 use wave_wasm::wasm::WasmValue;
 
 /// The refusal of an item that is no end, at its span.
-fn trailing(item: Item, behind: &Lexer) -> Result<(), ParserError>
-    ensures end { IfOk result (λ _. item_at item behind.now ≡ None) }
-    ensures refused { IfErr result (λ e. Says e kind.TrailingCharacters (span behind.now.start behind.now.end) None × IsSomething (item_at item behind.now)) }
+fn trailing(item: Found, behind: &Lexer) -> Result<(), ParserError>
+    ensures end { IfOk result (λ _. item_of item behind.now ≡ None) }
+    ensures refused { IfErr result (λ e. Says e kind.TrailingCharacters (span behind.now.start behind.now.end) None × IsSomething (item_of item behind.now)) }
     ensures within { IfErr result (λ e. LiesInText behind.now.source e.span) }
 {
     match item {
-        Item::End => Ok(()),
+        Found::End => Ok(()),
         _ => Err(ParserError::new(ParserErrorKind::TrailingCharacters, behind.span())),
     }
 }
@@ -54,7 +54,7 @@ pub(crate) struct Tokens<'source> {
     lexer: Lexer<'source>,
     /// After the last item that was taken, where one is ahead.
     before: Lexer<'source>,
-    ahead: Option<Item>,
+    ahead: Option<Found>,
     asked: Asked,
 }
 
@@ -134,8 +134,8 @@ impl<'source> Tokens<'source> {
 
     /// Takes the next item.
     #[inline(always)]
-    fn take(&mut self) -> Item
-        ensures takes { TakesItem self.old.place (item_at result self.new.place.lexer) self.new.place }
+    fn take(&mut self) -> Found
+        ensures takes { TakesItem self.old.place (item_of result self.new.place.lexer) self.new.place }
         ensures asks { asked_of self.new ≡ self.old.place.taken + 1 }
     {
         match self.ahead {
@@ -143,7 +143,7 @@ impl<'source> Tokens<'source> {
                 self.ahead = None;
                 item
             }
-            None => Item::next_of(&mut self.lexer, &mut self.asked),
+            None => Found::next_of(&mut self.lexer, &mut self.asked),
         }
     }
 
@@ -155,7 +155,7 @@ impl<'source> Tokens<'source> {
     {
         if self.ahead.is_none() {
             self.before = self.lexer.clone();
-            let item = Item::next_of(&mut self.lexer, &mut self.asked);
+            let item = Found::next_of(&mut self.lexer, &mut self.asked);
             self.ahead = Some(item);
         }
     }
@@ -180,7 +180,7 @@ impl<'source> Tokens<'source> {
         ensures asks { asked_of self.new ≡ self.old.place.taken + 1 }
     {
         match self.take() {
-            Item::Token(token) => Ok(token),
+            Found::Token(token) => Ok(token),
             item => self.refuse_item(item),
         }
     }
@@ -192,16 +192,16 @@ impl<'source> Tokens<'source> {
         ensures asks { asked_of self.new ≡ self.old.place.taken + 1 }
     {
         match self.take() {
-            Item::Token(token) if token == class => Ok(()),
+            Found::Token(token) if token == class => Ok(()),
             item => self.refuse_item(item),
         }
     }
 
     /// Refuses this item, which was taken last.
     #[inline(always)]
-    fn refuse_item<T>(&self, item: Item) -> Result<T, ReadError>
+    fn refuse_item<T>(&self, item: Found) -> Result<T, ReadError>
         ensures never { IfOk result (λ _. ⊥) }
-        ensures refused { IfErr result (λ e. IsRefused e (item_at item self.now.place.lexer) self.now.place) }
+        ensures refused { IfErr result (λ e. IsRefused e (item_of item self.now.place.lexer) self.now.place) }
     {
         Err(self.refused(item))
     }
@@ -209,13 +209,13 @@ impl<'source> Tokens<'source> {
     /// The refusal of this item, which was taken last.
     #[cold]
     #[inline(never)]
-    fn refused(&self, item: Item) -> ReadError
-        ensures { IsRefused result (item_at item self.now.place.lexer) self.now.place }
+    fn refused(&self, item: Found) -> ReadError
+        ensures { IsRefused result (item_of item self.now.place.lexer) self.now.place }
     {
         match item {
-            Item::Token(token) => self.unexpected(token),
-            Item::Invalid => ReadError::new(ParserErrorKind::InvalidToken, self.span()),
-            Item::End => ReadError::new(ParserErrorKind::UnexpectedEnd, self.span()),
+            Found::Token(token) => self.unexpected(token),
+            Found::Invalid => ReadError::new(ParserErrorKind::InvalidToken, self.span()),
+            Found::End => ReadError::new(ParserErrorKind::UnexpectedEnd, self.span()),
         }
     }
 

@@ -1,8 +1,5 @@
 -- What the lexer's own functions answer. Only private contracts and proofs cite it.
-use Rattle.std.specs.Prelude.{◌≡◌, ℕ, ◌<◌, ◌≤◌, ◌||◌, true, false, nat_eq, if◌then◌else◌, List, Option, Some, None, Result, Ok, Err, length, slice_index}
-use Rattle.std.specs.declared.ops.Range.{Range}
-use Rattle.wave_lex.specs.declared.lex.Found.{Found}
-use Rattle.wave_lex.specs.declared.lex.Found.TheVariants as found
+use Rattle.std.specs.Prelude.{◌≡◌, ℕ, ◌<◌, ◌≤◌, ◌||◌, true, false, nat_eq, if◌then◌else◌, List, Option, Some, None, length, slice_index}
 use Rattle.wave_lex.specs.declared.lex.Token.{Token}
 use Rattle.wave_lex.specs.declared.lex.Token.TheVariants.{BraceOpen, BraceClose, ParenOpen, ParenClose, BracketOpen, BracketClose}
 use Rattle.wave_lex.specs.declared.lex.Token.TheVariants.{Colon, Comma, Number, LabelOrKeyword, Char, String}
@@ -12,7 +9,7 @@ use Rattle.wave_lex.specs.Regex.{Regex, is_within}
 use Rattle.wave_lex.specs.Shared.Derive.{derivative_by}
 use Rattle.wave_lex.specs.LongestMatch.{PrefixHas}
 use Rattle.wave_lex.specs.Shared.Machines.{is_lower, is_plain, label_token_rest}
-use Rattle.wave_lex.specs.Tokenization.{Lexed, MayStandAt, IsToken, IsLongestToken, IsGap, NoToken, span}
+use Rattle.wave_lex.specs.Tokenization.{MayStandAt, IsToken, IsLongestToken, IsGap, NoToken}
 
 -- which class the first scalar of a token shows; the two kinds of strings begin alike
 abbrev pub class_of : ℕ → Option Token
@@ -59,12 +56,6 @@ mark_number m =
 -- a mark is the longest token at the start of r, and no whitespace stands before it
 abbrev pub IsFirstMark : List ℕ → Token → Type 0
 IsFirstMark r c = IsGap r 0 × IsLongestToken r 1 c
-
--- what a lexer gives that took this and stands at l
-abbrev pub item_of : Found → Lexed → Option (Result Token (Range ℕ))
-item_of (found.Token c) l = Some (Ok c)
-item_of found.Invalid l = Some (Err (span l.start l.end))
-item_of found.End l = None
 
 -- what stands at the start of r
 abbrev pub TokenAt : List ℕ → Option (Token × ℕ) → Type 0

@@ -2,14 +2,13 @@
 use Rattle.std.specs.Prelude.{ℕ, ◌≡◌, ◌+◌, ◌≤◌, max, true, List, [], ◌∷◌, codes, Option, Some, None, Result, Ok, Err}
 use Rattle.std.specs.declared.ops.Range.{Range}
 use Rattle.wave_wasm.specs.Names.{is_one_of}
+use Rattle.wave_lex.specs.declared.found.Found.{Found}
 use Rattle.wave_lex.specs.declared.lex.Token as lex
 use Rattle.wave_lex.specs.declared.error.ParserErrorKind.TheVariants.{InvalidToken, UnexpectedEnd, UnexpectedToken, OutOfMemory}
 use Rattle.wave_lex.specs.Errors.{Diagnostic, Says, class_name}
-use Rattle.wave_lex.specs.Tokenization.{Lexed, NextIs, span}
+use Rattle.wave_lex.specs.Tokenization.{Lexed, NextIs, item_of, span}
 use Rattle.wave_grammar.specs.Tree.{leaf_word, none_word, some_word, ok_word, err_word, case_word}
 use Rattle.wave_grammar.specs.ParserPosition.{Place, Item, TakesItem, span_at}
-use Rattle.wave_tree.specs.declared.item.Item.{Item as Kept}
-use Rattle.wave_tree.specs.declared.item.Item.TheVariants as kept
 use Rattle.wave_tree.specs.declared.role.ValueStart.{ValueStart}
 use Rattle.wave_tree.specs.declared.role.ValueStart.TheVariants as front
 use Rattle.wave_lex.specs.declared.lex.Token.TheVariants as class
@@ -39,26 +38,20 @@ AsksFor old new = (n : ℕ) → HasTokens old.place n → asked_of new ≤ max (
 abbrev pub OnlyOutOfMemory : Type 0 → Place → Diagnostic → Type 0
 OnlyOutOfMemory Takes p e = e.kind ≡ OutOfMemory → HoldsNoBrace p → Takes
 
--- what a lexer that stands at l gave, of which this is kept
-abbrev pub item_at : Kept → Lexed → Item
-item_at (kept.Token c) l = Some (Ok c)
-item_at kept.Invalid l = Some (Err (span l.start l.end))
-item_at kept.End l = None
-
 -- how many items are at hand
-abbrev pub ahead_count : Option Kept → ℕ
+abbrev pub ahead_count : Option Found → ℕ
 ahead_count None = 0
 ahead_count (Some item) = 1
 
 -- the lexer after the last item that was taken, where it stands at l but for the items at hand
-abbrev pub lexer_of : Lexed → Lexed → Option Kept → Lexed
+abbrev pub lexer_of : Lexed → Lexed → Option Found → Lexed
 lexer_of l before None = l
 lexer_of l before (Some item) = before
 
 -- what is at hand stands next, and the lexer after it is this one
-abbrev pub IsAhead : Lexed → Lexed → Option Kept → Type 0
+abbrev pub IsAhead : Lexed → Lexed → Option Found → Type 0
 IsAhead l next None = Unit {0}
-IsAhead l next (Some item) = NextIs l next (item_at item next)
+IsAhead l next (Some item) = NextIs l next (item_of item next)
 
 -- this is the source of the lexer, and this the span of its last item
 abbrev pub IsStart : Lexed → List ℕ → Range ℕ → Type 0

@@ -2,7 +2,7 @@ use Rattle.std.proofs.Common.{ℕ, List, sym, ap, subst, ◌∙◌, arith}
 use Rattle.wave_lex.specs.Tokenization.{Lexed, IsGap, IsLongestToken, remainder_of}
 use Rattle.wave_lex.proofs.Scanning.{front_boundary}
 use Rattle.wave_lex.proofs.Tokenization.{stands_behind}
-use Rattle.wave_lex.proofs.lex.Lexer.next_ticked.Goals as goal
+use Rattle.wave_lex.proofs.lex.Lexer.take.Goals as goal
 
 pub invariant_of-self : goal.invariant_of-self
 invariant_of-self c = stands_behind _ _ _ _ _ (c.remainder.ensures ∙ ap remainder_of (sym c.self.view_is)) c.self.invariant
