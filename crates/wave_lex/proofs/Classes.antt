@@ -16,7 +16,7 @@ use Rattle.wave_lex.proofs.Derive.{after_into, empty_into}
 use Rattle.wave_lex.proofs.Shapes.{same, same_true, each_below, each_below_at, is_ascii_shape, after_past, one_is}
 
 -- a true choice has a true side
-or_true : (a b : Bool) → (a || b) ≡ true → (a ≡ true) ⊎ (b ≡ true)
+pub or_true : (a b : Bool) → (a || b) ≡ true → (a ≡ true) ⊎ (b ≡ true)
 or_true true b e = inl refl
 or_true false b e = inr e
 

@@ -1,6 +1,6 @@
 -- A mark is told by its byte.
-use Rattle.std.proofs.Common.{◌≡◌, ℕ, ◌<◌, ◌≢◌, get_or, List, [], ◌∷◌, ◌++◌, sym, ap, subst, ◌∙◌, length, drop, arith, nat_eq, refl, Option, Some, None}
-use Rattle.std.specs.Prelude.{IfSome, encode_utf8}
+use Rattle.std.proofs.Common.{◌≡◌, ℕ, ◌<◌, ◌≢◌, get_or, List, [], ◌∷◌, ◌++◌, sym, ap, subst, ◌∙◌, length, drop, arith, nat_eq, true, false, inl, inr, refl, Option, Some, None}
+use Rattle.std.specs.Prelude.{◌-◌, ◌||◌, IfSome, codes, encode_utf8}
 use Rattle.std.proofs.lemmas.Bool.{eqb-true}
 use Rattle.std.proofs.lemmas.Str.{encode_ascii}
 use Rattle.wave_lex.specs.declared.lex.TheConstants.{MARKS}
@@ -10,14 +10,22 @@ use Rattle.wave_lex.specs.Regex.{Regex}
 use Rattle.wave_lex.specs.LongestMatch.{Greatest, IsPrefixOf}
 use Rattle.wave_lex.specs.Tokens.{shape, one}
 use Rattle.wave_lex.specs.Tokenization.{MayStandAt, IsLongestToken}
-use Rattle.wave_lex.specs.Shared.Reading.{class_of, ClassAt, IsMark, IsFirstMark, mark_number}
-use Rattle.wave_lex.proofs.Classes.{class_here, not_quoted}
+use Rattle.wave_lex.specs.Shared.Reading.{class_of, ClassAt, IsMark, IsFirstMark}
+use Rattle.wave_lex.proofs.Classes.{class_here, not_quoted, or_true}
 use Rattle.wave_lex.proofs.Runs.{mark_here, no_gap}
 use Rattle.wave_lex.proofs.Shapes.{each_below_at}
 
--- the numbers of the table, by computing
-pub numbers_agree : (b : ℕ) → b < 256 → get_or MARKS b 0 ≡ mark_number b
-numbers_agree b l = eqb-true _ _ (each_below_at 256 b (λ (k : ℕ). nat_eq (get_or MARKS k 0) (mark_number k)) refl l)
+-- the mark that a digit numbers; no other byte has the digit
+abbrev pub mark_numbered : ℕ → ℕ
+mark_numbered d = get_or (codes "{}()[]:,") (d - 48) 0
+
+-- the table has a digit at the mark that it numbers alone, by computing
+pub numbered : (b d : ℕ) → b < 256 → get_or MARKS b 0 ≡ d → nat_eq d 46 ≡ false → b ≡ mark_numbered d
+numbered b d l e f =
+    elim (or_true (nat_eq (get_or MARKS b 0) 46) (nat_eq b (mark_numbered (get_or MARKS b 0))) (each_below_at 256 b (λ (k : ℕ). nat_eq (get_or MARKS k 0) 46 || nat_eq k (mark_numbered (get_or MARKS k 0))) refl l)) as (λ _. b ≡ mark_numbered d) [
+      | inl t ↦ let wrong : true ≡ false = sym t ∙ (ap (λ (z : ℕ). nat_eq z 46) e ∙ f) in cc
+      | inr t ↦ eqb-true _ _ t ∙ ap mark_numbered e
+    ]
 
 -- no mark is a blank, a slash or a quote
 mark_bounds : (m : ℕ) (c : Token) → IsMark m c → (m < 128) × (32 < m) × (m ≢ 47) × (m ≢ 34)

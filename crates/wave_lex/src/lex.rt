@@ -5,7 +5,7 @@ ghost use Rattle.wave_lex.specs.Errors.{class_name, name_class_name};
 ghost use Rattle.wave_lex.specs.LongestMatch.{Greatest, IsPrefixOf};
 ghost use Rattle.wave_lex.specs.Tokens.{shape, invalid};
 ghost use Rattle.wave_lex.specs.Tokenization.{Lexed, Stands, NextIs, item_of, remainder_of, span};
-ghost use Rattle.wave_lex.specs.Shared.Reading.{class_of, ClassAt, TokenAt, IsMark, IsFirstMark, mark_number};
+ghost use Rattle.wave_lex.specs.Shared.Reading.{class_of, ClassAt, TokenAt, IsMark, IsFirstMark};
 
 pub use self::func_name::FuncNameLexer;
 use self::scan::{gap_at, label_at, mark_at, multiline_at, number_at, string_at};
@@ -123,8 +123,8 @@ fn class_of(first: char) -> Option<Token>
         ']' => Some(Token::BracketClose),
         ':' => Some(Token::Colon),
         ',' => Some(Token::Comma),
-        '-' | '0'..='9' => Some(Token::Number),
-        '%' | 'a'..='z' | 'A'..='Z' => Some(Token::LabelOrKeyword),
+        '-' => Some(Token::Number),
+        '%' | 'A'..='Z' => Some(Token::LabelOrKeyword),
         '\'' => Some(Token::Char),
         '"' => Some(Token::String),
         _ => None,
@@ -163,34 +163,22 @@ static MARKS: [u8; 256] = *b"\
     ................................\
     ................................";
 
-/// The digit that stands for the mark that this byte is, or a point.
-#[inline(always)]
-fn mark_number(byte: u8) -> u8
-    ensures { result ≡ mark_number byte }
-{
-    MARKS[byte as usize]
-}
-
 /// The mark that this byte is.
 #[inline(always)]
 fn mark_of(byte: u8) -> Option<Token>
     ensures { IfSome result (IsMark byte) }
 {
-    let number = mark_number(byte);
-    if number == b'.' {
-        return None;
+    match MARKS[byte as usize] {
+        b'0' => Some(Token::BraceOpen),
+        b'1' => Some(Token::BraceClose),
+        b'2' => Some(Token::ParenOpen),
+        b'3' => Some(Token::ParenClose),
+        b'4' => Some(Token::BracketOpen),
+        b'5' => Some(Token::BracketClose),
+        b'6' => Some(Token::Colon),
+        b'7' => Some(Token::Comma),
+        _ => None,
     }
-    let mark = match number {
-        b'0' => Token::BraceOpen,
-        b'1' => Token::BraceClose,
-        b'2' => Token::ParenOpen,
-        b'3' => Token::ParenClose,
-        b'4' => Token::BracketOpen,
-        b'5' => Token::BracketClose,
-        b'6' => Token::Colon,
-        _ => Token::Comma,
-    };
-    Some(mark)
 }
 
 /// The mark at the start.

@@ -40,19 +40,6 @@ IsMark m Colon = m ≡ 58
 IsMark m Comma = m ≡ 44
 IsMark m _ = ⊥
 
--- the digit that numbers a mark; a point for every other byte
-abbrev pub mark_number : ℕ → ℕ
-mark_number m =
-    if nat_eq m 123 then 48
-    else (if nat_eq m 125 then 49
-    else (if nat_eq m 40 then 50
-    else (if nat_eq m 41 then 51
-    else (if nat_eq m 91 then 52
-    else (if nat_eq m 93 then 53
-    else (if nat_eq m 58 then 54
-    else (if nat_eq m 44 then 55
-    else 46)))))))
-
 -- a mark is the longest token at the start of r, and no whitespace stands before it
 abbrev pub IsFirstMark : List ℕ → Token → Type 0
 IsFirstMark r c = IsGap r 0 × IsLongestToken r 1 c
