@@ -4,7 +4,7 @@ use Rattle.std.specs.Prelude.{IsErrAnd}
 use Rattle.wave_lex.specs.Errors.{Diagnostic}
 use Rattle.wave_lex.specs.declared.error.ParserErrorKind.TheVariants as kind
 use Rattle.wave_tree.specs.FromStr.{IsValueTaken, RefusesValue, IsRead, BlamesText}
-use Rattle.wave_tree.specs.ParserState.{Parsing, Finishes, first_at, limited, value_start}
+use Rattle.wave_tree.specs.ParserState.{Parsing, Finishes, first_at, limited, start_of}
 use Rattle.wave_tree.proofs.ValueReading.{whole_text}
 use Rattle.wave_grammar.specs.ParserPosition.{Place}
 use Rattle.wave_wasm.specs.Types.{TypeTree, HasDistinctNames}
@@ -52,7 +52,7 @@ told T n s e distinct blames other = by (blames distinct) where
 
 -- ---- a parser before the text
 
-module _ (T : TypeTree) (n : ℕ) (s : List ℕ) (old : Parsing) (p : Place) (first : old ≡ limited (first_at (value_start s)) n) where
+module _ (T : TypeTree) (n : ℕ) (s : List ℕ) (old : Parsing) (p : Place) (first : old ≡ limited (first_at (start_of s).lexer) n) where
   -- a value that was read there, with nothing after it
   pub read_whole : (v : TypedValue) → IsValueTaken (λ (v : TypedValue). v.tree) (λ v T. IsAt T v) T old.limit old.place p v → Finishes (Ok tt) p → IsReadAt T n s v
   read_whole v taken ends =

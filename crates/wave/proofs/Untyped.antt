@@ -8,7 +8,7 @@ use Rattle.wave_grammar.specs.SpannedTree.{SpannedTree, tree_of, slice}
 use Rattle.wave_grammar.specs.NodeTree.{NodeTree}
 use Rattle.wave_grammar.specs.Nodes.{placed_of}
 use Rattle.wave_tree.specs.NodeDisplay.{shown_placed, shown_at}
-use Rattle.wave_tree.specs.ParserState.{Parsing, Finishes, first_at, limited, value_start}
+use Rattle.wave_tree.specs.ParserState.{Parsing, Finishes, first_at, limited, start_of}
 use Rattle.wave_tree.specs.Untyped.{Untyped, IsUntypedTaken, IsUntypedOf, RefusesTree}
 use Rattle.wave_tree.proofs.ValueReading.{whole_tree}
 use Rattle.wave_grammar.specs.ParserPosition.{Place}
@@ -53,15 +53,15 @@ is_no_call s e fault other = ((fault other).0, λ answer found. (fault other).1 
 -- ---- a parser before the text
 
 -- a tree that was read there, with nothing after it
-pub tree_whole : (n : ℕ) (s : List ℕ) (old : Parsing) (p : Place) (u : Untyped) → old ≡ limited (first_at (value_start s)) n → IsUntypedTaken old.limit old.place p u → Finishes (Ok tt) p → IsUntypedOf n s u
+pub tree_whole : (n : ℕ) (s : List ℕ) (old : Parsing) (p : Place) (u : Untyped) → old ≡ limited (first_at (start_of s).lexer) n → IsUntypedTaken old.limit old.place p u → Finishes (Ok tt) p → IsUntypedOf n s u
 tree_whole n s old p u first taken ends = (whole_tree n s).ends p u (subst (λ (z : Parsing). IsUntypedTaken z.limit z.place p u) first taken) ends
 
 -- a tree with something after it
-pub tree_trails : (n : ℕ) (s : List ℕ) (old : Parsing) (p : Place) (u : Untyped) (e : Diagnostic) → old ≡ limited (first_at (value_start s)) n →
+pub tree_trails : (n : ℕ) (s : List ℕ) (old : Parsing) (p : Place) (u : Untyped) (e : Diagnostic) → old ≡ limited (first_at (start_of s).lexer) n →
     LeadsBehindValue old.limit value [] old.place p [] → IsUntypedTaken old.limit old.place p u → Finishes (Err e) p → RefusesTree n s e
 tree_trails n s old p u e first read taken ends =
     (whole_tree n s).trails p u e (subst (λ (z : Parsing). LeadsBehindValue z.limit value [] z.place p []) first read) (subst (λ (z : Parsing). IsUntypedTaken z.limit z.place p u) first taken) ends
 
 -- a tree that was refused
-pub tree_refused : (n : ℕ) (s : List ℕ) (old : Parsing) (p : Place) (e : Diagnostic) → old ≡ limited (first_at (value_start s)) n → FailsBySyntax e old.limit value [] old.place p → RefusesTree n s e
+pub tree_refused : (n : ℕ) (s : List ℕ) (old : Parsing) (p : Place) (e : Diagnostic) → old ≡ limited (first_at (start_of s).lexer) n → FailsBySyntax e old.limit value [] old.place p → RefusesTree n s e
 tree_refused n s old p e first refused = (whole_tree n s).refused p e (subst (λ (z : Parsing). FailsBySyntax e z.limit value [] z.place p) first refused)

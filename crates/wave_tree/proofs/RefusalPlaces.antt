@@ -18,7 +18,7 @@ use Rattle.wave_grammar.specs.ParserPosition.{Place, TakesTokens, token_of, text
 use Rattle.wave_grammar.specs.PrefixAutomaton as due
 use Rattle.wave_grammar.specs.PrefixAutomaton.{Expectation, StackSymbol, Step, step, reads, unexpected, too_deep, level_step, value_step, behind_step, Shifts}
 use Rattle.wave_grammar.specs.SyntaxErrors.{StandsAt}
-use Rattle.wave_tree.specs.ParserState.{start_of, value_start}
+use Rattle.wave_tree.specs.ParserState.{start_of}
 use Rattle.wave_tree.specs.declared.expected.moves.Move.{Move}
 use Rattle.wave_tree.specs.Private.Moves.{sample_start, next_move, due_of, innermost, IsMove}
 use Rattle.wave_tree.specs.Expected.{Placed, token_at, TakesPlaced, IsViable}
@@ -131,7 +131,7 @@ pub read_stand_before : ReadTokensStandBefore
 read_stand_before source n e new before error item stand =
     let (by, none) = stands_there e n error.due_there error.open_there error.at new item error.stands in
     let (ps, taken, are) = taken_placed source (start_of source) error.at error.tokens refl error.taken in
-    let same : before ≡ ps = one_before (value_start source) stand.last error.at.lexer e.span.start before ps stand.taken taken stand.before by stand.all none in
+    let same : before ≡ ps = one_before (start_of source).lexer stand.last error.at.lexer e.span.start before ps stand.taken taken stand.before by stand.all none in
     ap (map (token_at source)) same ∙ are
 
 -- ---- an unexpected token

@@ -16,7 +16,7 @@ use Rattle.wave_grammar.specs.NodeTree.{NodeTree}
 use Rattle.wave_grammar.specs.Nodes.{IsNodeOf}
 use Rattle.wave_grammar.specs.ErrorSpans.{HasTypeKind}
 use Rattle.wave_grammar.specs.TypedReading as typed
-use Rattle.wave_tree.specs.ParserState.{Parsing, IsTrailing, StaysWithout, first_at, limited, value_start, start_of}
+use Rattle.wave_tree.specs.ParserState.{Parsing, IsTrailing, StaysWithout, first_at, limited, start_of}
 use Rattle.wave_tree.specs.ParsedNodes.{IsNodeTaken}
 use Rattle.wave_tree.specs.FromStr.{PrintsWithinTwice, IsValueTaken, IsRead, IsTypeRefused, RefusesValue, IsCausedBetween, RefusesStart, BlamesText, RefusesText}
 use Rattle.wave_tree.proofs.TextReading.{all_cut, means_of, whole_read, refused_means_none, nothing_there, memory_or}
@@ -92,7 +92,7 @@ text_blamed Full T n s p e h distinct = by (memory_or e.kind)
     by (inr apart) = by_kind (h apart)
 
 -- what a value that could not be read says of the text
-pub value_refused : (Full : TypeTree → Type 0) (T : TypeTree) (n : ℕ) (s : List ℕ) (old new : Parsing) (e : Diagnostic) → old ≡ limited (first_at (value_start s)) n → RefusesValue Full T old.limit e old.place new.place → LiesInText old.place.lexer.source e.span → IsCausedBetween old.limit old.place new.place e → StaysWithout e old.place new.place → RefusesText Full T n s e
+pub value_refused : (Full : TypeTree → Type 0) (T : TypeTree) (n : ℕ) (s : List ℕ) (old new : Parsing) (e : Diagnostic) → old ≡ limited (first_at (start_of s).lexer) n → RefusesValue Full T old.limit e old.place new.place → LiesInText old.place.lexer.source e.span → IsCausedBetween old.limit old.place new.place e → StaysWithout e old.place new.place → RefusesText Full T n s e
 value_refused Full T n s old new e first refused within caused memory =
     let here = subst (λ (z : Parsing). RefusesValue Full T z.limit e z.place new.place) first refused in record {
       front = front_refused Full T n s new.place e here;

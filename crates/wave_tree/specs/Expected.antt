@@ -13,7 +13,7 @@ use Rattle.wave_grammar.specs.Tree.{Tree, MaybeTree, Takes}
 use Rattle.wave_grammar.specs.Calls.{SpellsParams}
 use Rattle.wave_grammar.specs.ParserPosition.{token_of}
 use Rattle.wave_tree.specs.declared.expected.Expected.{Expected}
-use Rattle.wave_tree.specs.ParserState.{value_start}
+use Rattle.wave_tree.specs.ParserState.{start_of}
 use Rattle.wave_tree.specs.UntypedCall.{behind_name}
 
 -- the tokens begin those of a value within n levels: they are a viable prefix
@@ -90,7 +90,7 @@ pub record IsExpectedFrom (first : Lexed) (at : ℕ) (Follows : List Token → l
 
 -- at this place of the source this is what may stand, as the tokens before begin a value within n levels
 abbrev pub IsExpected : List ℕ → ℕ → ℕ → Expected → Type 0
-IsExpected source at n e = IsExpectedFrom (value_start source) at (MayFollow n) (AreAValue n) e
+IsExpected source at n e = IsExpectedFrom (start_of source).lexer at (MayFollow n) (AreAValue n) e
 
 -- a function name begins the source and ends at or before the place, and this is what may stand there, as the tokens after the name begin parameters
 abbrev pub IsExpectedInCall : List ℕ → ℕ → Expected → Type 0

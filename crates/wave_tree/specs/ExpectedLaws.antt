@@ -7,7 +7,7 @@ use Rattle.wave_grammar.specs.ParserPosition.{Place}
 use Rattle.wave_grammar.specs.PrefixAutomaton as due
 use Rattle.wave_grammar.specs.PrefixAutomaton.{Expectation, StackSymbol, value, Shifts}
 use Rattle.wave_grammar.specs.SyntaxErrors.{IsSyntaxError}
-use Rattle.wave_tree.specs.ParserState.{start_of, value_start}
+use Rattle.wave_tree.specs.ParserState.{start_of}
 use Rattle.wave_tree.specs.Expected.{Placed, token_at, MayFollow, StandBefore, open_brackets}
 
 -- an item of the source is refused as it stands: a token, the end or what is no token
@@ -18,13 +18,13 @@ IsOfItem e = (e.kind ≡ UnexpectedToken) ⊎ (e.kind ≡ UnexpectedEnd) ⊎ (e.
 abbrev pub ReadTokensStandBefore : Type 0
 ReadTokensStandBefore =
     (source : List ℕ) (n : ℕ) (e : Diagnostic) (new : Place) (before : List Placed) → (error : IsSyntaxError e n value [] (start_of source) new) → IsOfItem e
-    → StandBefore (value_start source) e.span.start before → map (token_at source) before ≡ error.tokens
+    → StandBefore (start_of source).lexer e.span.start before → map (token_at source) before ≡ error.tokens
 
 -- where a token is unexpected, no token of its class may stand after the tokens before its span
 abbrev pub UnexpectedMayNotFollow : Type 0
 UnexpectedMayNotFollow =
     (source : List ℕ) (n : ℕ) (e : Diagnostic) (new : Place) (before : List Placed) → IsSyntaxError e n value [] (start_of source) new → e.kind ≡ UnexpectedToken
-    → StandBefore (value_start source) e.span.start before → (c : lex.Token) × (e.detail ≡ Some (class_name c)) × (MayFollow n (map (token_at source) before) c → ⊥)
+    → StandBefore (start_of source).lexer e.span.start before → (c : lex.Token) × (e.detail ≡ Some (class_name c)) × (MayFollow n (map (token_at source) before) c → ⊥)
 
 -- how many braces are open in which no value is due or was just read, so that they are no open form
 abbrev pub bare_braces : Expectation → ℕ

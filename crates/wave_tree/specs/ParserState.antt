@@ -27,13 +27,9 @@ first_at l = record { place = record { lexer = l; taken = 0 }; ahead = 0; limit 
 abbrev pub limited : Parsing → ℕ → Parsing
 limited p n = record { place = p.place; ahead = p.ahead; limit = n }
 
--- a lexer before the source
-abbrev pub value_start : List ℕ → Lexed
-value_start source = record { source = source; start = 0; end = 0 }
-
 -- before the text
 abbrev pub start_of : List ℕ → Place
-start_of s = record { lexer = value_start s; taken = 0 }
+start_of s = record { lexer = record { source = s; start = 0; end = 0 }; taken = 0 }
 
 -- how often the lexer was asked
 abbrev pub asked : Parsing → ℕ

@@ -7,7 +7,7 @@ ghost use Rattle.wave_lex.specs.Labels.{Good};
 ghost use Rattle.wave_grammar.specs.PrefixAutomaton as due;
 ghost use Rattle.wave_grammar.specs.SyntaxErrors.{Gives};
 ghost use Rattle.wave_read.specs.PlainReading.{IsPlain};
-ghost use Rattle.wave_tree.specs.ParserState.{BeginsRow, HoldsNoBrace, Parsing, IsLimit, asked, Asks, first_at, value_start, limited, Finishes, StaysWithout};
+ghost use Rattle.wave_tree.specs.ParserState.{BeginsRow, HoldsNoBrace, Parsing, IsLimit, asked, Asks, first_at, limited, Finishes, StaysWithout, start_of};
 ghost use Rattle.wave_tree.specs.Untyped.{IsUntypedTaken};
 ghost use Rattle.wave_tree.specs.FromStr.{IsValueTaken, RefusesValue, IsCausedBetween, PrintsWithinTwice};
 
@@ -46,7 +46,7 @@ impl<'source> Model for Parser<'source> {
 impl<'source> Parser<'source> {
     /// A parser before the source, with the limit `DEFAULT_LEVELS`.
     pub fn new(source: &'source str) -> Self
-        ensures { result ≡ first_at (value_start source.now) }
+        ensures { result ≡ first_at (start_of source.now).lexer }
     {
         Parser::with_lexer(Lexer::new(source))
     }
