@@ -83,7 +83,7 @@ impl<'src> Leaf<'src> {
     }
 
     /// The bool, at one of the two types of bools; else `InvalidType`.
-    pub(crate) fn as_bool(&self) -> Result<bool, ReadError>
+    pub fn as_bool(&self) -> Result<bool, ReadError>
         ensures { GivesBool (leaf_node self.now) result }
     {
         match self.ty {
@@ -95,7 +95,7 @@ impl<'src> Leaf<'src> {
 
     /// The number, at a number; else `InvalidType`. A number that is none of the type is
     /// `InvalidValue`.
-    pub(crate) fn as_number<T: WholeNumber>(&self) -> Result<T, ReadError>
+    pub fn as_number<T: WholeNumber>(&self) -> Result<T, ReadError>
         ensures { (source : List ℕ) → IsLeafIn source self.now → GivesNumber T.kind T.number source (leaf_node self.now) result }
     {
         if self.ty != NodeType::Number {
@@ -108,7 +108,7 @@ impl<'src> Leaf<'src> {
     }
 
     /// The char, at a char; else `InvalidType`. An escape of no scalar value is `InvalidEscape`.
-    pub(crate) fn as_char(&self) -> Result<char, ReadError>
+    pub fn as_char(&self) -> Result<char, ReadError>
         ensures gives { (source : List ℕ) → IsLeafIn source self.now → GivesChar source (leaf_node self.now) result }
         ensures ty { IfOk result (λ c. self.now.ty ≡ NodeType.Char) }
     {

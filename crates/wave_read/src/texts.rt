@@ -7,9 +7,8 @@ ghost use Rattle.wave_wasm.specs.Values as value;
 ghost use Rattle.wave_grammar.specs.StringAssembly.{WantsMemory};
 ghost use Rattle.wave_grammar.specs.NodeAccessors.{GivesParts, RefusedAs};
 ghost use Rattle.wave_grammar.specs.NodeStrings.{GivesString};
-ghost use Rattle.wave_grammar.specs.Nodes.{IsParsedFrom};
 ghost use Rattle.wave_grammar.specs.TypedReading.{IsLeafMade};
-ghost use Rattle.wave_read.specs.Leaves.{leaf_node, IsLeafIn};
+ghost use Rattle.wave_read.specs.Leaves.{leaf_node, HasQuotes, IsLeafIn};
 ghost use Rattle.wave_read.specs.Reading.{IsReadOfLeaf};
 
 use crate::error::ReadError;
@@ -38,8 +37,8 @@ impl<'src> Leaf<'src> {
     /// `InvalidEscape` at its backslash; a multiline string that opens, closes or indents badly is
     /// `InvalidMultilineString`. Out of memory is refused at the leaf; so is a leaf after the end
     /// of any source that memory can hold.
-    pub(crate) fn as_str(&self, alloc: Global) -> Result<CowStr<'src>, ParserError>
-        ensures gives { (source : List ℕ) → IsLeafIn source self.now → IsParsedFrom source (leaf_node self.now)
+    pub fn as_str(&self, alloc: Global) -> Result<CowStr<'src>, ParserError>
+        ensures gives { (source : List ℕ) → IsLeafIn source self.now → HasQuotes self.now
             → GivesString source (leaf_node self.now) result
             ⊎ IsErrAnd result (WantsMemory self.now.span) × (2 ^ 64 ≤ self.now.span.start + length self.now.text.now + 3) }
         ensures ty { IfOk result (λ c. (self.now.ty ≡ NodeType.String) ⊎ (self.now.ty ≡ NodeType.MultilineString)) }
@@ -58,9 +57,9 @@ impl<'src> Leaf<'src> {
     /// The parts of the text, at a string and at a multiline string; else `InvalidType`. What
     /// `StringPartsIter::new_multiline` refuses of a multiline string is refused here, as
     /// `InvalidMultilineString`; any other fault comes as an item.
-    fn iter_str(&self) -> Result<StringPartsIter<'src>, ParserError>
+    pub fn iter_str(&self) -> Result<StringPartsIter<'src>, ParserError>
         requires { self.now.span.start + length self.now.text.now + 3 < 2 ^ 64 }
-        ensures { (source : List ℕ) → IsLeafIn source self.now → IsParsedFrom source (leaf_node self.now) → GivesParts source (leaf_node self.now) result }
+        ensures { (source : List ℕ) → IsLeafIn source self.now → HasQuotes self.now → GivesParts source (leaf_node self.now) result }
     {
         match self.ty {
             NodeType::String => match self.inside("\"") {

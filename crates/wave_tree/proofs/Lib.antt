@@ -22,6 +22,7 @@ pub mod UntypedAgreement
 pub mod Children
 pub mod FlagPlaces
 pub mod ReadNodes
+pub mod LeafAnswers
 pub mod RecordNodes
 pub mod TypeOrder
 pub mod ExpectedMoves

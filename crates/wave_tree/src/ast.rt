@@ -1,13 +1,13 @@
 //! Nodes of the untyped tree.
-ghost use Rattle.std.specs.Prelude.{◌≡◌, [], length, IfOk, IsTrue, ◌↔◌};
-ghost use Rattle.wave_lex.specs.Tokenization.{Stands};
-ghost use Rattle.wave_grammar.specs.NodeTree.{node, node_trees, type_of, place_of, children_of};
+ghost use Rattle.std.specs.Prelude.{◌≡◌, ◌+◌, ◌<◌, ◌^◌, length, IfOk, IsTrue, ◌↔◌};
+ghost use Rattle.wave_grammar.specs.NodeTree.{node, no_nodes, type_of, place_of, children_of};
 ghost use Rattle.wave_grammar.specs.Nodes.{IsParsedFrom};
 ghost use Rattle.wave_grammar.specs.NodeStrings.{GivesString};
-ghost use Rattle.wave_grammar.specs.NodeAccessors.{node_text, quotes_of, IsInside, RefusedAs};
+ghost use Rattle.wave_grammar.specs.NodeAccessors.{node_text, RefusedAs};
 ghost use Rattle.wave_grammar.specs.NodeAccessors.{GivesBool, GivesNumber, GivesChar, GivesParts, GivesNodes, GivesOption};
 ghost use Rattle.wave_grammar.specs.NodeAccessors.{GivesResult, GivesLabel, GivesVariant, GivesEntries, node_pairs};
 ghost use Rattle.wave_grammar.specs.Shared.NodeAccessors.{OfType};
+ghost use Rattle.wave_read.specs.Leaves.{leaf_node, HasQuotes, IsLeafIn};
 
 pub use crate::flags::FlagLabels;
 pub use crate::record::RecordFields;
@@ -18,10 +18,11 @@ use std::marker::Model;
 pub use wave_grammar::form::NodeType;
 use wave_grammar::label::label_name;
 use wave_grammar::number::WholeNumber;
-use wave_grammar::text::{char_in, joined};
 use wave_lex::error::{ParserError, ParserErrorKind};
 use wave_lex::lex::Span;
 use wave_lex::strings::StringPartsIter;
+use wave_read::error::or_error;
+use wave_read::leaf::Leaf;
 
 pub(crate) mod make;
 
@@ -86,11 +87,7 @@ impl Node {
     pub fn as_bool(&self) -> Result<bool, ParserError>
         ensures { GivesBool self.now result }
     {
-        match self.ty {
-            NodeType::BoolTrue => Ok(true),
-            NodeType::BoolFalse => Ok(false),
-            _ => Err(self.error(ParserErrorKind::InvalidType)),
-        }
+        or_error(self.with_text("").as_bool())
     }
 
     /// The number, at a number node; else `InvalidType`. A number with a fraction or an exponent,
@@ -100,11 +97,7 @@ impl Node {
         requires { IsParsedFrom src.now self.now }
         ensures { GivesNumber T.kind T.number src.now self.now result }
     {
-        self.ensure_type(NodeType::Number)?;
-        match T::from_text(self.slice(src)) {
-            Some(number) => Ok(number),
-            None => Err(self.error(ParserErrorKind::InvalidValue)),
-        }
+        or_error(self.leaf(src).as_number())
     }
 
     /// The char, at a char node; else `InvalidType`. An escape of no scalar value is
@@ -113,11 +106,7 @@ impl Node {
         requires { IsParsedFrom src.now self.now }
         ensures { GivesChar src.now self.now result }
     {
-        self.ensure_type(NodeType::Char)?;
-        match char_in(self.inside(src, 1)) {
-            Some(c) => Ok(c),
-            None => Err(self.error(ParserErrorKind::InvalidEscape)),
-        }
+        or_error(self.leaf(src).as_char())
     }
 
     /// The parts of the text, at a string and at a multiline string; else `InvalidType`. What
@@ -127,17 +116,7 @@ impl Node {
         requires { IsParsedFrom src.now self.now }
         ensures { GivesParts src.now self.now result }
     {
-        match self.ty {
-            NodeType::String => {
-                let inside = self.inside(src, 1);
-                Ok(StringPartsIter::new(inside, self.span.start + 1))
-            }
-            NodeType::MultilineString => {
-                let inside = self.inside(src, 3);
-                StringPartsIter::new_multiline(inside, self.span.start + 3)
-            }
-            _ => Err(self.error(ParserErrorKind::InvalidType)),
-        }
+        self.leaf(src).iter_str()
     }
 
     /// The text, at a string and at a multiline string; else `InvalidType`. It is borrowed where
@@ -148,8 +127,7 @@ impl Node {
         requires { IsParsedFrom src.now self.now }
         ensures { GivesString src.now self.now result }
     {
-        let parts = self.iter_str(src)?;
-        joined(alloc, parts, &self.span)
+        self.leaf(src).as_str(alloc)
     }
 
     /// The items, at a tuple node; else `InvalidType`. Where the node was parsed as a value from a
@@ -248,15 +226,27 @@ impl Node {
         &src[self.span()]
     }
 
-    /// The source between the quotes of the node, `quotes` of them at each end.
-    fn inside<'src>(&self, src: &'src str, quotes: usize) -> &'src str
-        requires parsed { IsParsedFrom src.now self.now }
-        requires quotes { quotes ≡ length (quotes_of (type_of self.now)) }
-        ensures { IsInside src.now self.now result.now }
+    /// The node, read as one token.
+    pub(crate) fn leaf<'src>(&self, src: &'src str) -> Leaf<'src>
+        requires { IsParsedFrom src.now self.now }
+        ensures text { IsLeafIn src.now result }
+        ensures node { leaf_node result ≡ node (type_of self.now) (place_of self.now) no_nodes }
+        ensures quotes { HasQuotes result }
+        ensures fits { result.span.start + length result.text.now + 3 < 2 ^ 64 }
     {
-        let text = self.slice(src);
-        let end = text.len() - quotes;
-        &text[quotes..end]
+        self.with_text(self.slice(src))
+    }
+
+    /// The node, read as one token of this text.
+    fn with_text<'src>(&self, text: &'src str) -> Leaf<'src>
+        ensures text { result.text.now ≡ text.now }
+        ensures node { leaf_node result ≡ node (type_of self.now) (place_of self.now) no_nodes }
+    {
+        Leaf {
+            ty: self.ty(),
+            span: self.span(),
+            text,
+        }
     }
 
     /// Refuses a node of another type.

@@ -5,19 +5,17 @@ ghost use Rattle.wave_wasm.specs.Types as type;
 ghost use Rattle.wave_wasm.specs.Types.{kind_of};
 ghost use Rattle.wave_lex.specs.declared.error.ParserErrorKind.TheVariants.{OutOfMemory};
 ghost use Rattle.wave_lex.specs.Errors.{LiesInText};
-ghost use Rattle.wave_grammar.specs.NodeTree.{node, no_nodes, type_of, place_of};
+ghost use Rattle.wave_grammar.specs.NodeTree.{place_of};
 ghost use Rattle.wave_grammar.specs.Nodes.{IsParsedFrom};
 ghost use Rattle.wave_grammar.specs.ErrorSpans.{HasTypeKind, StandsIn};
 ghost use Rattle.wave_grammar.specs.TypedReading.{IsKeyOf, IsKeywordOf, AnswersKey, ReadsAtType, ReadsKey};
 ghost use Rattle.wave_grammar.specs.Shared.ErrorSpans.{RefusesIn};
-ghost use Rattle.wave_read.specs.Leaves.{leaf_node, IsLeafIn};
 ghost use Rattle.wave_tree.specs.KeywordNodes.{RefusesKeyword};
 
 use crate::ast::{Node, NodeType};
 use std::alloc::Global;
 use wave_lex::error::{ParserError, ParserErrorKind};
 use wave_read::error::{ReadError, or_error};
-use wave_read::leaf::Leaf;
 use wave_wasm::keyword::Keyword;
 use wave_wasm::wasm::{WasmType, WasmTypeKind, WasmValue};
 
@@ -106,19 +104,6 @@ impl Node {
             | WasmTypeKind::Result
             | WasmTypeKind::Flags
             | WasmTypeKind::Map => Err(self.read_error(ParserErrorKind::InvalidType)),
-        }
-    }
-
-    /// The node, read as one token.
-    pub(crate) fn leaf<'src>(&self, src: &'src str) -> Leaf<'src>
-        requires { IsParsedFrom src.now self.now }
-        ensures text { IsLeafIn src.now result }
-        ensures node { leaf_node result ≡ node (type_of self.now) (place_of self.now) no_nodes }
-    {
-        Leaf {
-            ty: self.ty(),
-            span: self.span(),
-            text: self.slice(src),
         }
     }
 

@@ -4,9 +4,9 @@ use Rattle.wave_read.specs.Leaves.{leaf_node}
 use Rattle.wave_read.proofs.leaf.Leaf.as_str.Goals as goal
 
 pub returns-in_err-parts-clause-gives : goal.returns-in_err-parts-clause-gives
-returns-in_err-parts-clause-gives c = λ source here parsed.
-    inl (parts_refused_on source (leaf_node c.args.self.now) c.in_err-parts.field-0.0 c.from_residual.result c.from_residual.ensures.1 (c.in_err-parts.ensures source here parsed))
+returns-in_err-parts-clause-gives c = λ source here quoted.
+    inl (parts_refused_on source (leaf_node c.args.self.now) c.in_err-parts.field-0.0 c.from_residual.result c.from_residual.ensures.1 (c.in_err-parts.ensures source here quoted))
 
 pub returns-clause-gives : goal.returns-clause-gives
-returns-clause-gives c = λ source here parsed.
-    inl (parts_given source (leaf_node c.args.self.now) c.in_ok-parts.parts c.joined.result (c.in_ok-parts.ensures source here parsed) c.joined.ensures)
+returns-clause-gives c = λ source here quoted.
+    inl (parts_given source (leaf_node c.args.self.now) c.in_ok-parts.parts c.joined.result (c.in_ok-parts.ensures source here quoted) c.joined.ensures)
