@@ -24,6 +24,7 @@ pub mod NameIndex
 pub mod FaultSteps
 pub mod SpelledRuns
 pub mod ReaderSteps
+pub mod PartLoops
 pub mod WholeFaults
 pub mod FaultLaws
 pub mod Beginnings
