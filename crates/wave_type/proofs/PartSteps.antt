@@ -1,5 +1,5 @@
 -- One part more in a loop that reads parts.
-use Rattle.std.proofs.Common.{◌≡◌, ℕ, zero, suc, ◌+◌, ◌-◌, ◌≤◌, ◌<◌, Bool, true, false, cond, List, [], ◌∷◌, ◌++◌, Option, Some, None, drop, refl, sym, ap, subst, ◌∙◌, arith, rules, codes, length}
+use Rattle.std.proofs.Common.{◌≡◌, ℕ, zero, suc, ◌+◌, ◌-◌, ◌<◌, Bool, true, false, cond, List, [], ◌∷◌, ◌++◌, Option, Some, None, drop, refl, sym, ap, subst, ◌∙◌, arith, rules, codes}
 use Rattle.std.specs.Prelude.{◌||◌, not, if◌then◌else◌}
 use Rattle.std.specs.Borrow.{Bor}
 use Rattle.std.specs.BTreeSet.{BTreeSet, contains, contains_by, Updates}
@@ -14,9 +14,7 @@ use Rattle.wave_wasm.specs.Borrowed.{texts, named}
 use Rattle.wave_wasm.specs.Names.{is_one_of}
 use Rattle.wave_wasm.specs.Types.{TypeTree}
 use Rattle.wave_wasm.specs.declared.wasm.WasmTypeKind.{WasmTypeKind}
-use Rattle.wave_type.specs.declared.tokens.Token.{Token}
 use Rattle.wave_type.specs.TypeSpelling.{Tokens}
-use Rattle.wave_type.specs.Private.TypeTokens.{texts_of}
 use Rattle.wave_type.specs.Private.TypeReading.{or_else, with, after, closed, parts, Reads, HasNames, part_names, name_at, new_name, field_part, payload_read, case_part, kind_at, kind_read, type_read}
 use Rattle.wave_type.proofs.TypeReading.{map_more}
 use Rattle.wave_type.specs.TypeWords.{onward}
@@ -113,24 +111,7 @@ module _ {A : Type 0} (part : List A → Tokens → Option (A × Tokens)) (mark 
     pub part_behind : (a : A) (m r : Tokens) → part seen ts ≡ Some (a, m) → closed mark m ≡ None → after (codes ",") m ≡ Some r → parts part mark (n - (i + 1)) (seen ++ (a ∷ [])) r ≡ all
     part_behind a m r e c f = sym (goes_on a m e c ∙ ap (λ o. onward o (parts part mark (n - (i + 1)) (seen ++ (a ∷ [])))) f)
 
-  -- where this many were read, no more are
-  pub parts_end : (n i : ℕ) (seen : List A) (ts : Tokens) (all : Option (List A × Tokens)) → n ≤ i → parts part mark (n - i) seen ts ≡ all → all ≡ None
-  parts_end n i seen ts all h known =
-      let none : n - i ≡ zero = omega arith in
-      sym known ∙ ap (λ k. parts part mark k seen ts) none
-
-  -- at the beginning all are left
-  pub parts_begin : (n m : ℕ) (seen : List A) (ts : Tokens) → n ≡ m → parts part mark (n - 0) seen ts ≡ parts part mark m seen ts
-  parts_begin n m seen ts e =
-      let same : n - 0 ≡ m = omega (arith, e) in
-      ap (λ k. parts part mark k seen ts) same
-
 -- ---- what the reader's functions say
-
--- as many texts as tokens
-pub texts_count : (tokens : List Token) → length (texts_of tokens) ≡ length tokens
-texts_count [] = refl
-texts_count (t ∷ tokens) = ap suc (texts_count tokens)
 
 -- the types inside have one level less
 pub level_less : (n : ℕ) (ts m : Tokens) (kind : WasmTypeKind) → 0 < n → kind_at ts ≡ Some (kind, m) → type_read n ts ≡ kind_read (type_read (n - 1)) kind m

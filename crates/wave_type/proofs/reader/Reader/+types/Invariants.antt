@@ -1,7 +1,8 @@
-use Rattle.std.proofs.Common.{◌≡◌, ◌≤◌, ◌+◌, ◌-◌, ◌*◌, List, [], ◌∷◌, length, codes}
+use Rattle.std.proofs.Common.{◌+◌, ◌*◌, codes}
 use Rattle.wave_wasm.specs.Borrowed.{named}
-use Rattle.wave_type.specs.Private.TypeReading.{HasNames, part_names, parts, field_part, case_part, types_read, fields_read, cases_read, type_read}
-use Rattle.wave_type.specs.TypeFaults.{Expectation, part_due, more_types, more_fields, more_cases, refused}
+use Rattle.wave_type.specs.Private.TypeReading.{HasNames, part_names, field_part, case_part, type_read}
+use Rattle.wave_type.specs.TypeFaults.{more_types, more_fields, more_cases}
+use Rattle.wave_type.proofs.PartLoops.{PartsLeft}
 use Rattle.wave_type.proofs.reader.Reader.+types.Given as goal
 
 abbrev pub decreases-ty : goal.decreases-ty
@@ -50,27 +51,18 @@ abbrev pub decreases-of_kind : goal.decreases-of_kind
 decreases-of_kind l = 8 * l.levels + 7
 
 abbrev pub invariant-types-loop-part : goal.invariant-types-loop-part
-invariant-types-loop-part l =
-    record {
-      read : parts (λ seen. type_read l.levels) (codes ">") (length l.fn.self - l._part) l.types.items l.self ≡ types_read (type_read l.levels) l.fn.self;
-      less : length l.self + l._part ≤ length l.fn.self;
-      runs : (dues : List Expectation) → refused l.fn.self (part_due (codes ">") (more_types l.levels) ∷ dues) ≡ refused l.self (part_due (codes ">") (more_types l.levels) ∷ dues);
-    }
+invariant-types-loop-part l = PartsLeft (λ seen. type_read l.levels) (codes ">") (λ seen. more_types l.levels) l.fn.self l._part l.types.items l.self
 
 abbrev pub invariant-fields-loop-part : goal.invariant-fields-loop-part
 invariant-fields-loop-part l =
     record {
       names : HasNames l.taken (part_names (named l.fields.items));
-      read : parts (field_part (type_read l.levels)) l.mark (length l.fn.self - l._part) (named l.fields.items) l.self ≡ fields_read (type_read l.levels) l.mark l.fn.self;
-      less : length l.self + l._part ≤ length l.fn.self;
-      runs : (dues : List Expectation) → refused l.fn.self (part_due l.mark (more_fields l.levels []) ∷ dues) ≡ refused l.self (part_due l.mark (more_fields l.levels (part_names (named l.fields.items))) ∷ dues);
+      left : PartsLeft (field_part (type_read l.levels)) l.mark (λ seen. more_fields l.levels (part_names seen)) l.fn.self l._part (named l.fields.items) l.self;
     }
 
 abbrev pub invariant-cases-loop-part : goal.invariant-cases-loop-part
 invariant-cases-loop-part l =
     record {
       names : HasNames l.taken (part_names (named l.cases.items));
-      read : parts (case_part (type_read l.levels)) (codes "}") (length l.fn.self - l._part) (named l.cases.items) l.self ≡ cases_read (type_read l.levels) l.fn.self;
-      less : length l.self + l._part ≤ length l.fn.self;
-      runs : (dues : List Expectation) → refused l.fn.self (part_due (codes "}") (more_cases l.levels []) ∷ dues) ≡ refused l.self (part_due (codes "}") (more_cases l.levels (part_names (named l.cases.items))) ∷ dues);
+      left : PartsLeft (case_part (type_read l.levels)) (codes "}") (λ seen. more_cases l.levels (part_names seen)) l.fn.self l._part (named l.cases.items) l.self;
     }
