@@ -58,9 +58,9 @@ pub(crate) fn flat_payload<'ty, T: WasmType>(ty: &'ty T, node: NodeType) -> Opti
     }
 }
 
-/// The type whose parts a node of this type has, and after the option or result that is around it, where the
-/// type is one that a flat payload stands for.
-pub(crate) fn type_of_parts<'ty, T: WasmType>(
+/// The option or result of which a node of this type is the flat payload, where it is one; and the type at
+/// which the node is read.
+pub(crate) fn wrapper_and_type<'ty, T: WasmType>(
     ty: &'ty T,
     node: NodeType,
 ) -> (Option<&'ty T>, &'ty T)
@@ -72,9 +72,9 @@ pub(crate) fn type_of_parts<'ty, T: WasmType>(
     }
 }
 
-/// The option or the result around a flat payload that stands there, and was read at its type.
+/// The option or result of a flat payload that stands there, and was read at its type.
 #[inline(never)]
-pub(crate) fn around<V: WasmValue>(
+pub(crate) fn wrap<V: WasmValue>(
     alloc: Global,
     ty: &V::Type,
     span: Span,

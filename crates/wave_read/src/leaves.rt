@@ -12,7 +12,7 @@ ghost use Rattle.wave_read.specs.Reading.{IsOfType, IsReadAs, IsReadOfLeaf};
 use crate::enums::read_enum;
 use crate::error::ReadError;
 use crate::flags::read_flags;
-use crate::flat::{around, flat_payload};
+use crate::flat::{flat_payload, wrap};
 use crate::leaf::Leaf;
 use crate::options::read_none;
 use crate::results::read_alone;
@@ -38,7 +38,7 @@ pub(crate) fn read_leaf<V: WasmValue>(
     match flat_payload(ty, leaf.ty) {
         Some(payload) => {
             let made = read_directly::<V>(leaf, alloc, payload);
-            around(alloc, ty, leaf.span.start..leaf.span.end, made)
+            wrap(alloc, ty, leaf.span.start..leaf.span.end, made)
         }
         None => read_directly(leaf, alloc, ty),
     }
@@ -97,7 +97,7 @@ pub(crate) fn flags_at<V: WasmValue>(
     match flat_payload(ty, NodeType::Flags) {
         Some(payload) => {
             let made = flags_directly::<V>(alloc, payload, span.start..span.end, flags);
-            around(alloc, ty, span, made)
+            wrap(alloc, ty, span, made)
         }
         None => flags_directly(alloc, ty, span, flags),
     }

@@ -17,7 +17,7 @@ ghost use Rattle.wave_read.specs.PartsOfKinds.{AreDoomedAtOnce, next_due};
 
 use crate::error::{ReadError, Reason};
 use crate::fault::Fault;
-use crate::flat::{around, type_of_parts};
+use crate::flat::{wrap, wrapper_and_type};
 use crate::leaf::Leaf;
 use crate::leaves::{flags_at, read_leaf, refuse_flags};
 use crate::parts::Partial;
@@ -55,7 +55,7 @@ impl<'ty, V: WasmValue> ValueBuilder<'ty, V> {
         if node != NodeType::TupleSet {
             return None;
         }
-        let (around, ty) = type_of_parts(self.due?, NodeType::TupleSet);
+        let (around, ty) = wrapper_and_type(self.due?, NodeType::TupleSet);
         match ty.kind() {
             WasmTypeKind::Record => Some((around, ty)),
             _ => None,
@@ -106,12 +106,12 @@ impl<'ty, V: WasmValue> ValueBuilder<'ty, V> {
             Some(due) => due,
             None => return Some(Err(ReadError::new(ParserErrorKind::InvalidType, span))),
         };
-        let (around, ty) = type_of_parts(due, NodeType::Flags);
+        let (around, ty) = wrapper_and_type(due, NodeType::Flags);
         if ty.kind() == WasmTypeKind::Flags {
             return None;
         }
         let made = refuse_flags::<V>(alloc, ty, span.start..span.end);
-        Some(surrounded(alloc, around, ty, span, made))
+        Some(wrapped(alloc, around, ty, span, made))
     }
 
     /// No parts yet, of a node of this type, which has parts.
@@ -131,9 +131,9 @@ impl<'ty, V: WasmValue> ValueBuilder<'ty, V> {
     }
 }
 
-/// What was read of a node that stands there, with the option or the result that is around it: at the type
+/// What was read of a node that stands there, within the option or result that wraps it: at the type
 /// of the flat payload, where one is.
-pub fn surrounded<V: WasmValue>(
+pub fn wrapped<V: WasmValue>(
     alloc: Global,
     whole: Option<&V::Type>,
     ty: &V::Type,
@@ -145,7 +145,7 @@ pub fn surrounded<V: WasmValue>(
         → IsReadAs V.tree V.is_of V.is_full o w (V.Type.tree ty.now) source n made → IsReadAs V.tree V.is_of V.is_full o w T source n result }
 {
     match whole {
-        Some(whole) => around(alloc, whole, span, made),
+        Some(whole) => wrap(alloc, whole, span, made),
         None => made,
     }
 }
@@ -165,7 +165,7 @@ impl<'ty, V: WasmValue> Frame<'ty, V::Type, V> {
             → AreKeptWhereDue V.Type.tree V.tree V.is_of V.is_full w (Some (V.Type.tree ty.now)) source of [] result }
         ensures doomed { AreDoomedAtOnce V.Type.tree V.tree V.is_of V.is_full (V.Type.tree ty.now) of result.parts }
     {
-        let (around, due) = type_of_parts(ty, of);
+        let (around, due) = wrapper_and_type(ty, of);
         Frame {
             around,
             parts: Partial::new(alloc, due, of),
@@ -241,7 +241,7 @@ impl<'ty, V: WasmValue> Frame<'ty, V::Type, V> {
         let Frame { around: ty, parts } = self;
         let made = parts.whole(alloc, span);
         match ty {
-            Some(ty) => around(alloc, ty, place, made),
+            Some(ty) => wrap(alloc, ty, place, made),
             None => made,
         }
     }

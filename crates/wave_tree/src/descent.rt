@@ -44,7 +44,7 @@ impl<'source> Tokens<'source> {
         }
         let token = self.advance()?;
         let front = value_start(token, self.slice());
-        self.parse_behind(alloc, builder, levels, token, front)
+        self.parse_after_token(alloc, builder, levels, token, front)
     }
 
     /// Reads a part of a value, and adds it to the parts. What is made of one token is added where it
@@ -77,7 +77,7 @@ impl<'source> Tokens<'source> {
             let made = self.leaf_here(alloc, part, ty);
             return self.push_part(alloc, builder, parts, made);
         }
-        let made = self.parse_behind(alloc, part, levels, token, front)?;
+        let made = self.parse_after_token(alloc, part, levels, token, front)?;
         self.push_part(alloc, builder, parts, made)
     }
 
@@ -86,7 +86,7 @@ impl<'source> Tokens<'source> {
     /// stay small.
     #[cycle(parser)]
     #[inline(never)]
-    fn parse_behind<P: Builder>(
+    fn parse_after_token<P: Builder>(
         &mut self,
         alloc: Global,
         builder: P,
@@ -104,21 +104,21 @@ impl<'source> Tokens<'source> {
         match front {
             ValueStart::Alone(ty) => Ok(self.leaf(alloc, builder, ty)),
             ValueStart::Some => self.parse_some(alloc, builder, levels - 1),
-            ValueStart::Ok => self.parse_maybe(
+            ValueStart::Ok => self.parse_optional_payload(
                 alloc,
                 builder,
                 levels - 1,
                 NodeType::ResultOk,
                 NodeType::ResultOk,
             ),
-            ValueStart::Err => self.parse_maybe(
+            ValueStart::Err => self.parse_optional_payload(
                 alloc,
                 builder,
                 levels - 1,
                 NodeType::ResultErr,
                 NodeType::ResultErr,
             ),
-            ValueStart::Case => self.parse_maybe(
+            ValueStart::Case => self.parse_optional_payload(
                 alloc,
                 builder,
                 levels - 1,
@@ -162,7 +162,7 @@ impl<'source> Tokens<'source> {
     /// Reads the payload after a label, where an open parenthesis stands there.
     #[cycle(parser)]
     #[inline(never)]
-    fn parse_maybe<P: Builder>(
+    fn parse_optional_payload<P: Builder>(
         &mut self,
         alloc: Global,
         builder: P,

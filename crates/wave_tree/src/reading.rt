@@ -26,7 +26,7 @@ use wave_lex::lex::Span;
 use wave_read::error::ReadError;
 use wave_read::fault::or_error_at;
 use wave_read::records::left_out;
-use wave_read::values::{Frame, ValueBuilder, surrounded};
+use wave_read::values::{Frame, ValueBuilder, wrapped};
 use wave_wasm::wasm::{WasmType, WasmTypeKind, WasmValue};
 
 impl Node {
@@ -64,7 +64,7 @@ impl Node {
         }
         if let Some((around, ty)) = builder.record(self.ty()) {
             let made = self.read_record::<V>(alloc, ty, src);
-            return Ok(surrounded(alloc, around, ty, self.span(), made));
+            return Ok(wrapped(alloc, around, ty, self.span(), made));
         }
         if self.has_parts() {
             return self.make_of_parts(alloc, builder, src);

@@ -2,14 +2,14 @@ use Rattle.wave_read.proofs.FlatReading.{doomed_around, none_flat_within, begun_
 use Rattle.wave_read.proofs.values.Frame+V+Type+V.new.Goals as goal
 
 pub new-requires : goal.new-requires
-new-requires g c = none_flat_within g.V.Type.WasmType.tree (g.V.Type.WasmType.tree c.args.ty.now) c.args.of c.type_of_parts.result.0 c.type_of_parts.result.1 c.type_of_parts.ensures
+new-requires g c = none_flat_within g.V.Type.WasmType.tree (g.V.Type.WasmType.tree c.args.ty.now) c.args.of c.wrapper_and_type.result.0 c.wrapper_and_type.result.1 c.wrapper_and_type.ensures
 
 pub returns-clause-begun : goal.returns-clause-begun
 returns-clause-begun g c = λ w source parts. (
-  begun_around g.V.Type.WasmType.tree (g.V.Type.WasmType.tree c.args.ty.now) c.args.of g.V.WasmValue.tree g.V.WasmValue.is_of g.V.WasmValue.is_full w source c.type_of_parts.result.0 c.type_of_parts.result.1 (record { around = c.type_of_parts.result.0; parts = c.new.result }) c.type_of_parts.ensures (c.new.ensures.begun.begun w source parts),
-  plain_begun g.V.Type.WasmType.tree (g.V.Type.WasmType.tree c.args.ty.now) c.args.of c.type_of_parts.result.0 c.type_of_parts.result.1 c.new.result c.type_of_parts.ensures c.new.ensures.plain,
+  begun_around g.V.Type.WasmType.tree (g.V.Type.WasmType.tree c.args.ty.now) c.args.of g.V.WasmValue.tree g.V.WasmValue.is_of g.V.WasmValue.is_full w source c.wrapper_and_type.result.0 c.wrapper_and_type.result.1 (record { around = c.wrapper_and_type.result.0; parts = c.new.result }) c.wrapper_and_type.ensures (c.new.ensures.begun.begun w source parts),
+  plain_begun g.V.Type.WasmType.tree (g.V.Type.WasmType.tree c.args.ty.now) c.args.of c.wrapper_and_type.result.0 c.wrapper_and_type.result.1 c.new.result c.wrapper_and_type.ensures c.new.ensures.plain,
 )
 
 pub returns-clause-doomed : goal.returns-clause-doomed
 returns-clause-doomed g c =
-    doomed_around g.V.Type.WasmType.tree (g.V.Type.WasmType.tree c.args.ty.now) c.args.of g.V.WasmValue.tree g.V.WasmValue.is_of g.V.WasmValue.is_full c.type_of_parts.result.0 c.type_of_parts.result.1 c.new.result g.met.V.WasmValue.full_parts c.type_of_parts.ensures c.new.ensures.begun.doomed
+    doomed_around g.V.Type.WasmType.tree (g.V.Type.WasmType.tree c.args.ty.now) c.args.of g.V.WasmValue.tree g.V.WasmValue.is_of g.V.WasmValue.is_full c.wrapper_and_type.result.0 c.wrapper_and_type.result.1 c.new.result g.met.V.WasmValue.full_parts c.wrapper_and_type.ensures c.new.ensures.begun.doomed

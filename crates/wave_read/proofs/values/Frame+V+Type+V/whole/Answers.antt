@@ -9,18 +9,18 @@ whole-made-requires g c =
     let (w, due, source, ty, children, kept) = c.requires in
     kept_read g.V.Type.WasmType.tree g.V.WasmValue.tree g.V.WasmValue.is_of g.V.WasmValue.is_full w source ty due children c.args.self kept
 
-pub around-requires : goal.around-requires
-around-requires g c =
+pub wrap-requires : goal.wrap-requires
+wrap-requires g c =
     let (w, due, source, ty, children, kept) = c.requires in
     part_around g.V.Type.WasmType.tree g.V.WasmValue.tree g.V.WasmValue.is_of g.V.WasmValue.is_full w source ty children c.args.span due c.args.self c.in-Some.ty c.whole-made.result c.in-Some.is
     (λ U parts. c.whole-made.ensures.read w U source ty children parts) kept
 
 pub returns-in-Some : goal.returns-in-Some
 returns-in-Some g c = λ w due source ty children kept. (
-  whole_around g.V.Type.WasmType.tree g.V.WasmValue.tree g.V.WasmValue.is_of g.V.WasmValue.is_full w source ty children c.args.span due c.args.self c.in-Some.ty c.whole-made.result c.around.result c.in-Some.is
+  whole_around g.V.Type.WasmType.tree g.V.WasmValue.tree g.V.WasmValue.is_of g.V.WasmValue.is_full w source ty children c.args.span due c.args.self c.in-Some.ty c.whole-made.result c.wrap.result c.in-Some.is
       (λ U parts. c.whole-made.ensures.read w U source ty children parts)
-      (λ U flat read. c.around.ensures in_text w source (node ty c.args.span (node_trees children)) U flat refl read) kept,
-  around_spares g.V.Type.WasmType.tree g.V.WasmValue.tree g.V.WasmValue.is_of g.V.WasmValue.is_full w source ty children c.args.span due (node ty c.args.span (node_trees children)) c.args.self c.in-Some.ty c.around.result c.in-Some.is kept,
+      (λ U flat read. c.wrap.ensures in_text w source (node ty c.args.span (node_trees children)) U flat refl read) kept,
+  around_spares g.V.Type.WasmType.tree g.V.WasmValue.tree g.V.WasmValue.is_of g.V.WasmValue.is_full w source ty children c.args.span due (node ty c.args.span (node_trees children)) c.args.self c.in-Some.ty c.wrap.result c.in-Some.is kept,
 )
 
 pub returns-in-None : goal.returns-in-None

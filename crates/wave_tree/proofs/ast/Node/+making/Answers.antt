@@ -43,13 +43,13 @@ use Rattle.wave_read.proofs.Errors.{made_in, no_memory, same_or_memory, none_of,
 pub make-returns-in-Some : goal.make-returns-in-Some
 make-returns-in-Some g t c =
     let set : type_of c.args.self.now ≡ kind.TupleSet = sym c.ty.ensures ∙ c.in-Some.ensures.node in (
-      record_read g.V.WasmValue.tree g.V.WasmValue.is_of g.V.WasmValue.is_full by_type by_type g.V.Type.WasmType.tree c.args.src.now c.args.self.now (shown g.V.Type.WasmType.tree c.args.builder.due) c.in-Some.around c.in-Some.ty c.surrounded.result set c.in-Some.ensures.around
-          (λ T is. c.surrounded.ensures by_type by_type T c.args.src.now c.args.self.now is (sym c.span.ensures) c.read_record-made.ensures),
-      no_row_spares (shown g.V.Type.WasmType.tree c.args.builder.due) c.args.self.now c.surrounded.result (set_no_row (type_of c.args.self.now) set),
+      record_read g.V.WasmValue.tree g.V.WasmValue.is_of g.V.WasmValue.is_full by_type by_type g.V.Type.WasmType.tree c.args.src.now c.args.self.now (shown g.V.Type.WasmType.tree c.args.builder.due) c.in-Some.around c.in-Some.ty c.wrapped.result set c.in-Some.ensures.around
+          (λ T is. c.wrapped.ensures by_type by_type T c.args.src.now c.args.self.now is (sym c.span.ensures) c.read_record-made.ensures),
+      no_row_spares (shown g.V.Type.WasmType.tree c.args.builder.due) c.args.self.now c.wrapped.result (set_no_row (type_of c.args.self.now) set),
     )
 
-pub make-surrounded-requires : goal.make-surrounded-requires
-make-surrounded-requires g t c =
+pub make-wrapped-requires : goal.make-wrapped-requires
+make-wrapped-requires g t c =
     let set : type_of c.args.self.now ≡ kind.TupleSet = sym c.ty.ensures ∙ c.in-Some.ensures.node in
     due_within g.V.Type.WasmType.tree g.V.WasmValue.is_of kind.TupleSet c.read_record-made.result (shown g.V.Type.WasmType.tree c.args.builder.due) c.in-Some.around c.in-Some.ty c.in-Some.ensures.around c.read_record-made.ensures.typed
 

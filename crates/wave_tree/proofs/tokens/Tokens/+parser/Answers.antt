@@ -60,40 +60,40 @@ pub parse_part-returns-in_err-token-clause-led : goal.parse_part-returns-in_err-
 parse_part-returns-in_err-token-clause-led g t c = λ n s e. handed s _ _ c.from_residual.ensures.1
     (fails (inl tt) (λ _. Unit {0}) c.in_err-token.field-0.0 (here n due.value s _) (shallow n due.value s _ (omega arith)) (any_token n due.value s _ _) c.in_err-token.ensures.takes)
 
-pub parse_behind-returns-in-Alone-clause-led : goal.parse_behind-returns-in-Alone-clause-led
-parse_behind-returns-in-Alone-clause-led g t c = λ first there n s e. alone_led n s first c.args.self.now.place c.args.token c.in-Alone.ty (omega arith) there (subst (IsValueStart c.args.token (text_at c.args.self.now.place)) c.in-Alone.is c.requires.front)
+pub parse_after_token-returns-in-Alone-clause-led : goal.parse_after_token-returns-in-Alone-clause-led
+parse_after_token-returns-in-Alone-clause-led g t c = λ first there n s e. alone_led n s first c.args.self.now.place c.args.token c.in-Alone.ty (omega arith) there (subst (IsValueStart c.args.token (text_at c.args.self.now.place)) c.in-Alone.is c.requires.front)
 
-pub parse_behind-returns-in-Some-clause-led : goal.parse_behind-returns-in-Some-clause-led
-parse_behind-returns-in-Some-clause-led g t c = λ first there n s e.
+pub parse_after_token-returns-in-Some-clause-led : goal.parse_after_token-returns-in-Some-clause-led
+parse_after_token-returns-in-Some-clause-led g t c = λ first there n s e.
     let front = subst (IsValueStart c.args.token (text_at c.args.self.now.place)) c.in-Some.is c.requires.front in
     gives_then s _ c.parse_some.result (value_read n due.paren s s _ _ _ LabelOrKeyword (omega arith) there front.0 (ap (λ w. reads (due_behind w) s) front.1)) (c.parse_some.ensures.led n s (omega arith))
 
-pub parse_behind-returns-in-Ok-clause-led : goal.parse_behind-returns-in-Ok-clause-led
-parse_behind-returns-in-Ok-clause-led g t c = λ first there n s e.
+pub parse_after_token-returns-in-Ok-clause-led : goal.parse_after_token-returns-in-Ok-clause-led
+parse_after_token-returns-in-Ok-clause-led g t c = λ first there n s e.
     let front = subst (IsValueStart c.args.token (text_at c.args.self.now.place)) c.in-Ok.is c.requires.front in
-    gives_then s _ c.parse_maybe.result (value_read n due.behind_label s s _ _ _ LabelOrKeyword (omega arith) there front.0 (ap (λ w. reads (due_behind w) s) front.1)) (c.parse_maybe.ensures.led n s (omega arith))
+    gives_then s _ c.parse_optional_payload.result (value_read n due.behind_label s s _ _ _ LabelOrKeyword (omega arith) there front.0 (ap (λ w. reads (due_behind w) s) front.1)) (c.parse_optional_payload.ensures.led n s (omega arith))
 
-pub parse_behind-returns-in-Err-clause-led : goal.parse_behind-returns-in-Err-clause-led
-parse_behind-returns-in-Err-clause-led g t c = λ first there n s e.
+pub parse_after_token-returns-in-Err-clause-led : goal.parse_after_token-returns-in-Err-clause-led
+parse_after_token-returns-in-Err-clause-led g t c = λ first there n s e.
     let front = subst (IsValueStart c.args.token (text_at c.args.self.now.place)) c.in-Err.is c.requires.front in
-    gives_then s _ c.parse_maybe-in-Err.result (value_read n due.behind_label s s _ _ _ LabelOrKeyword (omega arith) there front.0 (ap (λ w. reads (due_behind w) s) front.1)) (c.parse_maybe-in-Err.ensures.led n s (omega arith))
+    gives_then s _ c.parse_optional_payload-in-Err.result (value_read n due.behind_label s s _ _ _ LabelOrKeyword (omega arith) there front.0 (ap (λ w. reads (due_behind w) s) front.1)) (c.parse_optional_payload-in-Err.ensures.led n s (omega arith))
 
-pub parse_behind-returns-in-Case-clause-led : goal.parse_behind-returns-in-Case-clause-led
-parse_behind-returns-in-Case-clause-led g t c = λ first there n s e.
+pub parse_after_token-returns-in-Case-clause-led : goal.parse_after_token-returns-in-Case-clause-led
+parse_after_token-returns-in-Case-clause-led g t c = λ first there n s e.
     let front = subst (IsValueStart c.args.token (text_at c.args.self.now.place)) c.in-Case.is c.requires.front in
-    gives_then s _ c.parse_maybe-in-Case.result (value_read n due.behind_label s s _ _ _ LabelOrKeyword (omega arith) there front.0 (ap (λ w. reads (due_behind w) s) front.1)) (c.parse_maybe-in-Case.ensures.led n s (omega arith))
+    gives_then s _ c.parse_optional_payload-in-Case.result (value_read n due.behind_label s s _ _ _ LabelOrKeyword (omega arith) there front.0 (ap (λ w. reads (due_behind w) s) front.1)) (c.parse_optional_payload-in-Case.ensures.led n s (omega arith))
 
-pub parse_behind-returns-in-Paren-clause-led : goal.parse_behind-returns-in-Paren-clause-led
-parse_behind-returns-in-Paren-clause-led g t c = λ first there n s e. gives_then s _ c.parse_items.result (value_read n due.first_item s (due.tuple ∷ s) _ _ _ ParenOpen (omega arith) there (subst (IsValueStart c.args.token (text_at c.args.self.now.place)) c.in-Paren.is c.requires.front) refl) (c.parse_items.ensures.led n s (omega arith))
+pub parse_after_token-returns-in-Paren-clause-led : goal.parse_after_token-returns-in-Paren-clause-led
+parse_after_token-returns-in-Paren-clause-led g t c = λ first there n s e. gives_then s _ c.parse_items.result (value_read n due.first_item s (due.tuple ∷ s) _ _ _ ParenOpen (omega arith) there (subst (IsValueStart c.args.token (text_at c.args.self.now.place)) c.in-Paren.is c.requires.front) refl) (c.parse_items.ensures.led n s (omega arith))
 
-pub parse_behind-returns-in-Bracket-clause-led : goal.parse_behind-returns-in-Bracket-clause-led
-parse_behind-returns-in-Bracket-clause-led g t c = λ first there n s e. gives_then s _ c.parse_items-in-Bracket.result (value_read n due.first_item s (due.list ∷ s) _ _ _ BracketOpen (omega arith) there (subst (IsValueStart c.args.token (text_at c.args.self.now.place)) c.in-Bracket.is c.requires.front) refl) (c.parse_items-in-Bracket.ensures.led n s (omega arith))
+pub parse_after_token-returns-in-Bracket-clause-led : goal.parse_after_token-returns-in-Bracket-clause-led
+parse_after_token-returns-in-Bracket-clause-led g t c = λ first there n s e. gives_then s _ c.parse_items-in-Bracket.result (value_read n due.first_item s (due.list ∷ s) _ _ _ BracketOpen (omega arith) there (subst (IsValueStart c.args.token (text_at c.args.self.now.place)) c.in-Bracket.is c.requires.front) refl) (c.parse_items-in-Bracket.ensures.led n s (omega arith))
 
-pub parse_behind-returns-in-Brace-clause-led : goal.parse_behind-returns-in-Brace-clause-led
-parse_behind-returns-in-Brace-clause-led g t c = λ first there n s e. gives_then s _ c.parse_braces.result (value_read n due.in_braces s s _ _ _ BraceOpen (omega arith) there (subst (IsValueStart c.args.token (text_at c.args.self.now.place)) c.in-Brace.is c.requires.front) refl) (c.parse_braces.ensures.led n s (omega arith))
+pub parse_after_token-returns-in-Brace-clause-led : goal.parse_after_token-returns-in-Brace-clause-led
+parse_after_token-returns-in-Brace-clause-led g t c = λ first there n s e. gives_then s _ c.parse_braces.result (value_read n due.in_braces s s _ _ _ BraceOpen (omega arith) there (subst (IsValueStart c.args.token (text_at c.args.self.now.place)) c.in-Brace.is c.requires.front) refl) (c.parse_braces.ensures.led n s (omega arith))
 
-pub parse_behind-returns-in-Nothing-clause-led : goal.parse_behind-returns-in-Nothing-clause-led
-parse_behind-returns-in-Nothing-clause-led g t c = λ first there n s e.
+pub parse_after_token-returns-in-Nothing-clause-led : goal.parse_after_token-returns-in-Nothing-clause-led
+parse_after_token-returns-in-Nothing-clause-led g t c = λ first there n s e.
     refuses_there s c.refuse_token.result c.refuse_token.ensures.never c.refuse_token.ensures.refused
     (λ x says. unexpected_there (inl tt) x c.args.token (here n due.value s _) there
     (level_open n s (token_of c.args.token (text_at c.args.self.now.place)) (omega arith) ∙ nothing_begins s c.args.token (text_at c.args.self.now.place) (subst (IsValueStart c.args.token (text_at c.args.self.now.place)) c.in-Nothing.is c.requires.front))
@@ -110,47 +110,47 @@ pub parse_some-returns-clause-asks : goal.parse_some-returns-clause-asks
 parse_some-returns-clause-asks g t c =
     asks_token c.args.self.now c.expect.new.self c.parse_payload.new.self ParenOpen c.in_ok-expect.ensures.takes c.expect.ensures.asks c.parse_payload.ensures.asks
 
-pub parse_behind-returns-in-Alone-clause-tree : goal.parse_behind-returns-in-Alone-clause-tree
-parse_behind-returns-in-Alone-clause-tree g t c = (node c.in-Alone.ty (span_at c.args.self.now.place) no_nodes, λ first there. alone_parsed c.args.levels first c.args.self.now.place c.args.token c.in-Alone.ty c.requires.levels there (subst (IsValueStart c.args.token (text_at c.args.self.now.place)) c.in-Alone.is c.requires.front), c.leaf.ensures)
+pub parse_after_token-returns-in-Alone-clause-tree : goal.parse_after_token-returns-in-Alone-clause-tree
+parse_after_token-returns-in-Alone-clause-tree g t c = (node c.in-Alone.ty (span_at c.args.self.now.place) no_nodes, λ first there. alone_parsed c.args.levels first c.args.self.now.place c.args.token c.in-Alone.ty c.requires.levels there (subst (IsValueStart c.args.token (text_at c.args.self.now.place)) c.in-Alone.is c.requires.front), c.leaf.ensures)
 
-pub parse_behind-returns-in-Some-clause-tree : goal.parse_behind-returns-in-Some-clause-tree
-parse_behind-returns-in-Some-clause-tree g t c =
+pub parse_after_token-returns-in-Some-clause-tree : goal.parse_after_token-returns-in-Some-clause-tree
+parse_after_token-returns-in-Some-clause-tree g t c =
     let front = subst (IsValueStart c.args.token (text_at c.args.self.now.place)) c.in-Some.is c.requires.front in
     built (g.P.Builder.is_made c.args.builder) c.args.self.now.place c.args.self.now.place (IsParsedBehind LabelOrKeyword (c.args.levels - 1 + 1) c.args.self.now.place c.parse_some.new.self.place) (IsParsedBehind c.args.token c.args.levels c.args.self.now.place c.parse_some.new.self.place) c.parse_some.result refl
     (λ n is first there. label_tied c.args.levels first c.args.self.now.place c.parse_some.new.self.place c.args.token (as_ok n) c.requires.levels there front.0 is) c.parse_some.ensures.tree
 
-pub parse_behind-returns-in-Ok-clause-tree : goal.parse_behind-returns-in-Ok-clause-tree
-parse_behind-returns-in-Ok-clause-tree g t c =
+pub parse_after_token-returns-in-Ok-clause-tree : goal.parse_after_token-returns-in-Ok-clause-tree
+parse_after_token-returns-in-Ok-clause-tree g t c =
     let front = subst (IsValueStart c.args.token (text_at c.args.self.now.place)) c.in-Ok.is c.requires.front in
-    built (g.P.Builder.is_made c.args.builder) c.args.self.now.place c.args.self.now.place (IsMaybe (c.args.levels - 1) kind_of_node.ResultOk kind_of_node.ResultOk c.args.self.now.place c.parse_maybe.new.self.place) (IsParsedBehind c.args.token c.args.levels c.args.self.now.place c.parse_maybe.new.self.place) c.parse_maybe.result refl
-    (λ n is first there. label_tied c.args.levels first c.args.self.now.place c.parse_maybe.new.self.place c.args.token (as_ok n) c.requires.levels there front.0 (ok_tied (c.args.levels - 1) c.args.self.now.place c.parse_maybe.new.self.place (as_ok n) front.1 is)) c.parse_maybe.ensures.tree
+    built (g.P.Builder.is_made c.args.builder) c.args.self.now.place c.args.self.now.place (IsMaybe (c.args.levels - 1) kind_of_node.ResultOk kind_of_node.ResultOk c.args.self.now.place c.parse_optional_payload.new.self.place) (IsParsedBehind c.args.token c.args.levels c.args.self.now.place c.parse_optional_payload.new.self.place) c.parse_optional_payload.result refl
+    (λ n is first there. label_tied c.args.levels first c.args.self.now.place c.parse_optional_payload.new.self.place c.args.token (as_ok n) c.requires.levels there front.0 (ok_tied (c.args.levels - 1) c.args.self.now.place c.parse_optional_payload.new.self.place (as_ok n) front.1 is)) c.parse_optional_payload.ensures.tree
 
-pub parse_behind-returns-in-Err-clause-tree : goal.parse_behind-returns-in-Err-clause-tree
-parse_behind-returns-in-Err-clause-tree g t c =
+pub parse_after_token-returns-in-Err-clause-tree : goal.parse_after_token-returns-in-Err-clause-tree
+parse_after_token-returns-in-Err-clause-tree g t c =
     let front = subst (IsValueStart c.args.token (text_at c.args.self.now.place)) c.in-Err.is c.requires.front in
-    built (g.P.Builder.is_made c.args.builder) c.args.self.now.place c.args.self.now.place (IsMaybe (c.args.levels - 1) kind_of_node.ResultErr kind_of_node.ResultErr c.args.self.now.place c.parse_maybe-in-Err.new.self.place) (IsParsedBehind c.args.token c.args.levels c.args.self.now.place c.parse_maybe-in-Err.new.self.place) c.parse_maybe-in-Err.result refl
-    (λ n is first there. label_tied c.args.levels first c.args.self.now.place c.parse_maybe-in-Err.new.self.place c.args.token (as_ok n) c.requires.levels there front.0 (err_tied (c.args.levels - 1) c.args.self.now.place c.parse_maybe-in-Err.new.self.place (as_ok n) front.1 is)) c.parse_maybe-in-Err.ensures.tree
+    built (g.P.Builder.is_made c.args.builder) c.args.self.now.place c.args.self.now.place (IsMaybe (c.args.levels - 1) kind_of_node.ResultErr kind_of_node.ResultErr c.args.self.now.place c.parse_optional_payload-in-Err.new.self.place) (IsParsedBehind c.args.token c.args.levels c.args.self.now.place c.parse_optional_payload-in-Err.new.self.place) c.parse_optional_payload-in-Err.result refl
+    (λ n is first there. label_tied c.args.levels first c.args.self.now.place c.parse_optional_payload-in-Err.new.self.place c.args.token (as_ok n) c.requires.levels there front.0 (err_tied (c.args.levels - 1) c.args.self.now.place c.parse_optional_payload-in-Err.new.self.place (as_ok n) front.1 is)) c.parse_optional_payload-in-Err.ensures.tree
 
-pub parse_behind-returns-in-Case-clause-tree : goal.parse_behind-returns-in-Case-clause-tree
-parse_behind-returns-in-Case-clause-tree g t c =
+pub parse_after_token-returns-in-Case-clause-tree : goal.parse_after_token-returns-in-Case-clause-tree
+parse_after_token-returns-in-Case-clause-tree g t c =
     let front = subst (IsValueStart c.args.token (text_at c.args.self.now.place)) c.in-Case.is c.requires.front in
-    built (g.P.Builder.is_made c.args.builder) c.args.self.now.place c.args.self.now.place (IsMaybe (c.args.levels - 1) kind_of_node.Label kind_of_node.VariantWithPayload c.args.self.now.place c.parse_maybe-in-Case.new.self.place) (IsParsedBehind c.args.token c.args.levels c.args.self.now.place c.parse_maybe-in-Case.new.self.place) c.parse_maybe-in-Case.result refl
-    (λ n is first there. label_tied c.args.levels first c.args.self.now.place c.parse_maybe-in-Case.new.self.place c.args.token (as_ok n) c.requires.levels there front.0 (case_tied (c.args.levels - 1) c.args.self.now.place c.parse_maybe-in-Case.new.self.place (as_ok n) front.1 is)) c.parse_maybe-in-Case.ensures.tree
+    built (g.P.Builder.is_made c.args.builder) c.args.self.now.place c.args.self.now.place (IsMaybe (c.args.levels - 1) kind_of_node.Label kind_of_node.VariantWithPayload c.args.self.now.place c.parse_optional_payload-in-Case.new.self.place) (IsParsedBehind c.args.token c.args.levels c.args.self.now.place c.parse_optional_payload-in-Case.new.self.place) c.parse_optional_payload-in-Case.result refl
+    (λ n is first there. label_tied c.args.levels first c.args.self.now.place c.parse_optional_payload-in-Case.new.self.place c.args.token (as_ok n) c.requires.levels there front.0 (case_tied (c.args.levels - 1) c.args.self.now.place c.parse_optional_payload-in-Case.new.self.place (as_ok n) front.1 is)) c.parse_optional_payload-in-Case.ensures.tree
 
-pub parse_behind-returns-in-Paren-clause-tree : goal.parse_behind-returns-in-Paren-clause-tree
-parse_behind-returns-in-Paren-clause-tree g t c =
+pub parse_after_token-returns-in-Paren-clause-tree : goal.parse_after_token-returns-in-Paren-clause-tree
+parse_after_token-returns-in-Paren-clause-tree g t c =
     let front = subst (IsValueStart c.args.token (text_at c.args.self.now.place)) c.in-Paren.is c.requires.front in
     built (g.P.Builder.is_made c.args.builder) c.args.self.now.place c.args.self.now.place (IsOfItems (c.args.levels - 1) ParenClose c.args.self.now.place c.parse_items.new.self.place) (IsParsedBehind c.args.token c.args.levels c.args.self.now.place c.parse_items.new.self.place) c.parse_items.result refl
     (λ n is first there. items_tied c.args.levels first c.args.self.now.place c.parse_items.new.self.place c.args.token ParenOpen ParenClose (inl (refl, refl)) (as_ok n) c.requires.levels there front is) c.parse_items.ensures.tree
 
-pub parse_behind-returns-in-Bracket-clause-tree : goal.parse_behind-returns-in-Bracket-clause-tree
-parse_behind-returns-in-Bracket-clause-tree g t c =
+pub parse_after_token-returns-in-Bracket-clause-tree : goal.parse_after_token-returns-in-Bracket-clause-tree
+parse_after_token-returns-in-Bracket-clause-tree g t c =
     let front = subst (IsValueStart c.args.token (text_at c.args.self.now.place)) c.in-Bracket.is c.requires.front in
     built (g.P.Builder.is_made c.args.builder) c.args.self.now.place c.args.self.now.place (IsOfItems (c.args.levels - 1) BracketClose c.args.self.now.place c.parse_items-in-Bracket.new.self.place) (IsParsedBehind c.args.token c.args.levels c.args.self.now.place c.parse_items-in-Bracket.new.self.place) c.parse_items-in-Bracket.result refl
     (λ n is first there. items_tied c.args.levels first c.args.self.now.place c.parse_items-in-Bracket.new.self.place c.args.token BracketOpen BracketClose (inr (refl, refl)) (as_ok n) c.requires.levels there front is) c.parse_items-in-Bracket.ensures.tree
 
-pub parse_behind-returns-in-Brace-clause-tree : goal.parse_behind-returns-in-Brace-clause-tree
-parse_behind-returns-in-Brace-clause-tree g t c =
+pub parse_after_token-returns-in-Brace-clause-tree : goal.parse_after_token-returns-in-Brace-clause-tree
+parse_after_token-returns-in-Brace-clause-tree g t c =
     let front = subst (IsValueStart c.args.token (text_at c.args.self.now.place)) c.in-Brace.is c.requires.front in
     built (g.P.Builder.is_made c.args.builder) c.args.self.now.place c.args.self.now.place (IsParsedBehind BraceOpen (c.args.levels - 1 + 1) c.args.self.now.place c.parse_braces.new.self.place) (IsParsedBehind c.args.token c.args.levels c.args.self.now.place c.parse_braces.new.self.place) c.parse_braces.result refl
     (λ n is first there. braces_tied c.args.levels first c.args.self.now.place c.parse_braces.new.self.place c.args.token (as_ok n) c.requires.levels there front is) c.parse_braces.ensures.tree
@@ -168,42 +168,42 @@ pub parse_some-returns-clause-memory : goal.parse_some-returns-clause-memory
 parse_some-returns-clause-memory g t c = answer_token (g.P.Builder.takes_memory c.args.builder) c.args.self.now.place c.expect.new.self.place ParenOpen c.parse_payload.result c.in_ok-expect.ensures.takes
     (wants_part (TakesPart kind_of_node.OptionSome) (λ front. g.P.Builder.are_parts c.args.builder c.expect.new.self.place.lexer.source kind_of_node.OptionSome front c.parts-parts.result) c.parse_payload.result (OnlyOutOfMemory (g.P.Builder.takes_memory c.args.builder) c.expect.new.self.place) c.parse_payload.ensures.memory [] refl (c.parts-parts.ensures c.expect.new.self.place.lexer.source tt))
 
-pub parse_behind-returns-in-Some-clause-memory : goal.parse_behind-returns-in-Some-clause-memory
-parse_behind-returns-in-Some-clause-memory g t c = λ first there. answer_token (g.P.Builder.takes_memory c.args.builder) first c.args.self.now.place c.args.token c.parse_some.result there c.parse_some.ensures.memory
+pub parse_after_token-returns-in-Some-clause-memory : goal.parse_after_token-returns-in-Some-clause-memory
+parse_after_token-returns-in-Some-clause-memory g t c = λ first there. answer_token (g.P.Builder.takes_memory c.args.builder) first c.args.self.now.place c.args.token c.parse_some.result there c.parse_some.ensures.memory
 
-pub parse_behind-returns-in-Ok-clause-memory : goal.parse_behind-returns-in-Ok-clause-memory
-parse_behind-returns-in-Ok-clause-memory g t c = λ first there. answer_token (g.P.Builder.takes_memory c.args.builder) first c.args.self.now.place c.args.token c.parse_maybe.result there c.parse_maybe.ensures.memory
+pub parse_after_token-returns-in-Ok-clause-memory : goal.parse_after_token-returns-in-Ok-clause-memory
+parse_after_token-returns-in-Ok-clause-memory g t c = λ first there. answer_token (g.P.Builder.takes_memory c.args.builder) first c.args.self.now.place c.args.token c.parse_optional_payload.result there c.parse_optional_payload.ensures.memory
 
-pub parse_behind-returns-in-Err-clause-memory : goal.parse_behind-returns-in-Err-clause-memory
-parse_behind-returns-in-Err-clause-memory g t c = λ first there. answer_token (g.P.Builder.takes_memory c.args.builder) first c.args.self.now.place c.args.token c.parse_maybe-in-Err.result there c.parse_maybe-in-Err.ensures.memory
+pub parse_after_token-returns-in-Err-clause-memory : goal.parse_after_token-returns-in-Err-clause-memory
+parse_after_token-returns-in-Err-clause-memory g t c = λ first there. answer_token (g.P.Builder.takes_memory c.args.builder) first c.args.self.now.place c.args.token c.parse_optional_payload-in-Err.result there c.parse_optional_payload-in-Err.ensures.memory
 
-pub parse_behind-returns-in-Case-clause-memory : goal.parse_behind-returns-in-Case-clause-memory
-parse_behind-returns-in-Case-clause-memory g t c = λ first there. answer_token (g.P.Builder.takes_memory c.args.builder) first c.args.self.now.place c.args.token c.parse_maybe-in-Case.result there c.parse_maybe-in-Case.ensures.memory
+pub parse_after_token-returns-in-Case-clause-memory : goal.parse_after_token-returns-in-Case-clause-memory
+parse_after_token-returns-in-Case-clause-memory g t c = λ first there. answer_token (g.P.Builder.takes_memory c.args.builder) first c.args.self.now.place c.args.token c.parse_optional_payload-in-Case.result there c.parse_optional_payload-in-Case.ensures.memory
 
-pub parse_behind-returns-in-Paren-clause-memory : goal.parse_behind-returns-in-Paren-clause-memory
-parse_behind-returns-in-Paren-clause-memory g t c = λ first there. answer_token (g.P.Builder.takes_memory c.args.builder) first c.args.self.now.place c.args.token c.parse_items.result there c.parse_items.ensures.memory
+pub parse_after_token-returns-in-Paren-clause-memory : goal.parse_after_token-returns-in-Paren-clause-memory
+parse_after_token-returns-in-Paren-clause-memory g t c = λ first there. answer_token (g.P.Builder.takes_memory c.args.builder) first c.args.self.now.place c.args.token c.parse_items.result there c.parse_items.ensures.memory
 
-pub parse_behind-returns-in-Bracket-clause-memory : goal.parse_behind-returns-in-Bracket-clause-memory
-parse_behind-returns-in-Bracket-clause-memory g t c = λ first there. answer_token (g.P.Builder.takes_memory c.args.builder) first c.args.self.now.place c.args.token c.parse_items-in-Bracket.result there c.parse_items-in-Bracket.ensures.memory
+pub parse_after_token-returns-in-Bracket-clause-memory : goal.parse_after_token-returns-in-Bracket-clause-memory
+parse_after_token-returns-in-Bracket-clause-memory g t c = λ first there. answer_token (g.P.Builder.takes_memory c.args.builder) first c.args.self.now.place c.args.token c.parse_items-in-Bracket.result there c.parse_items-in-Bracket.ensures.memory
 
-pub parse_behind-returns-in-Brace-clause-memory : goal.parse_behind-returns-in-Brace-clause-memory
-parse_behind-returns-in-Brace-clause-memory g t c = λ first there. answer_brace (g.P.Builder.takes_memory c.args.builder) first c.args.self.now.place c.parse_braces.result (class_as first c.args.self.now.place c.args.token BraceOpen there (subst (IsValueStart c.args.token (text_at c.args.self.now.place)) c.in-Brace.is c.requires.front))
+pub parse_after_token-returns-in-Brace-clause-memory : goal.parse_after_token-returns-in-Brace-clause-memory
+parse_after_token-returns-in-Brace-clause-memory g t c = λ first there. answer_brace (g.P.Builder.takes_memory c.args.builder) first c.args.self.now.place c.parse_braces.result (class_as first c.args.self.now.place c.args.token BraceOpen there (subst (IsValueStart c.args.token (text_at c.args.self.now.place)) c.in-Brace.is c.requires.front))
 
-pub parse_behind-returns-in-Nothing-clause-memory : goal.parse_behind-returns-in-Nothing-clause-memory
-parse_behind-returns-in-Nothing-clause-memory g t c = λ first there. wants_refused (g.P.Builder.takes_memory c.args.builder) first c.refuse_token.result c.refuse_token.ensures.refused
+pub parse_after_token-returns-in-Nothing-clause-memory : goal.parse_after_token-returns-in-Nothing-clause-memory
+parse_after_token-returns-in-Nothing-clause-memory g t c = λ first there. wants_refused (g.P.Builder.takes_memory c.args.builder) first c.refuse_token.result c.refuse_token.ensures.refused
     (λ x says. wants_other (g.P.Builder.takes_memory c.args.builder) first x because.UnexpectedToken (kind_is says) (λ z. cc))
 
-pub parse_maybe-returns-then-not-next_is-clause-led : goal.parse_maybe-returns-then-not-next_is-clause-led
-parse_maybe-returns-then-not-next_is-clause-led g t c = λ n s e.
+pub parse_optional_payload-returns-then-not-next_is-clause-led : goal.parse_optional_payload-returns-then-not-next_is-clause-led
+parse_optional_payload-returns-then-not-next_is-clause-led g t c = λ n s e.
     read_there (here_is n due.behind_label s _ _ c.next_is.ensures.stays) (subst (λ z. IsBehind due.behind_label z) (sym c.next_is.ensures.stays)
     (behind_bare c.args.self.now.place (λ next. untrue _ c.if-not-next_is.true (c.next_is.ensures.answer.1 next))))
 
-pub parse_maybe-returns-in_err-expect-clause-led : goal.parse_maybe-returns-in_err-expect-clause-led
-parse_maybe-returns-in_err-expect-clause-led g t c = λ n s e. handed s _ _ c.from_residual-in_err-expect.ensures.1
+pub parse_optional_payload-returns-in_err-expect-clause-led : goal.parse_optional_payload-returns-in_err-expect-clause-led
+parse_optional_payload-returns-in_err-expect-clause-led g t c = λ n s e. handed s _ _ c.from_residual-in_err-expect.ensures.1
     (expected c.args.self.now.place c.next_is.new.self.place c.expect.new.self.place ParenOpen c.in_err-expect.field-0.0 c.next_is.ensures.stays (c.if-not-next_is.ensures.answer.0 refl) c.in_err-expect.ensures.takes)
 
-pub parse_maybe-returns-clause-led : goal.parse_maybe-returns-clause-led
-parse_maybe-returns-clause-led g t c = λ n s e. gives_then s _ c.parse_payload.result (then_same ParenOpen (here_is n due.behind_label s _ _ c.next_is.ensures.stays) c.in_ok-expect.ensures.takes refl) (c.parse_payload.ensures.led n s (omega arith))
+pub parse_optional_payload-returns-clause-led : goal.parse_optional_payload-returns-clause-led
+parse_optional_payload-returns-clause-led g t c = λ n s e. gives_then s _ c.parse_payload.result (then_same ParenOpen (here_is n due.behind_label s _ _ c.next_is.ensures.stays) c.in_ok-expect.ensures.takes refl) (c.parse_payload.ensures.led n s (omega arith))
 
 pub parse_payload-returns-in_err-expect-clause-led : goal.parse_payload-returns-in_err-expect-clause-led
 parse_payload-returns-in_err-expect-clause-led g t c = λ n s e.
@@ -408,8 +408,8 @@ parse_entries-entries-smaller g t c =
     let four = token_less _ _ Colon c.in_ok-expect.ensures.takes in
     omega arith
 
-pub parse_maybe-returns-clause-asks : goal.parse_maybe-returns-clause-asks
-parse_maybe-returns-clause-asks g t c =
+pub parse_optional_payload-returns-clause-asks : goal.parse_optional_payload-returns-clause-asks
+parse_optional_payload-returns-clause-asks g t c =
     asks_looked c.args.self.now c.next_is.new.self c.parse_payload.new.self c.next_is.ensures.stays c.next_is.ensures.asks (asks_token c.next_is.new.self c.expect.new.self c.parse_payload.new.self ParenOpen c.in_ok-expect.ensures.takes c.expect.ensures.asks c.parse_payload.ensures.asks)
 
 pub parse_payload-returns-in_err-expect-clause-asks : goal.parse_payload-returns-in_err-expect-clause-asks
@@ -508,13 +508,13 @@ pub parse_entries-returns-in_err-push_key-clause-asks : goal.parse_entries-retur
 parse_entries-returns-in_err-push_key-clause-asks g t c =
     asks_entries c.args.levels c.args.self.now c.entries.self c.advance-in-entries.new.self c.entries.invariant.led c.entries.invariant.asks (asks_value c.args.levels c.entries.self c.parse_part.new.self c.advance-in-entries.new.self c.in_ok-parse_part.ensures.led c.parse_part.ensures.asks (asks_token c.parse_part.new.self c.advance.new.self c.advance-in-entries.new.self c.in_ok-token.token c.in_ok-token.ensures.takes c.advance.ensures.asks (asks_once c.advance.new.self c.advance-in-entries.new.self c.advance-in-entries.ensures.asks)))
 
-pub parse_maybe-returns-then-not-next_is-clause-tree : goal.parse_maybe-returns-then-not-next_is-clause-tree
-parse_maybe-returns-then-not-next_is-clause-tree g t c =
+pub parse_optional_payload-returns-then-not-next_is-clause-tree : goal.parse_optional_payload-returns-then-not-next_is-clause-tree
+parse_optional_payload-returns-then-not-next_is-clause-tree g t c =
     let stays = c.next_is.ensures.stays in
     (node c.args.alone (span_at c.args.self.now.place) no_nodes, inl (stays, refl), subst (λ (z : Place). g.P.Builder.is_made c.args.builder z.lexer.source (node c.args.alone (span_at z) no_nodes) c.leaf.result) stays c.leaf.ensures)
 
-pub parse_maybe-returns-clause-tree : goal.parse_maybe-returns-clause-tree
-parse_maybe-returns-clause-tree g t c =
+pub parse_optional_payload-returns-clause-tree : goal.parse_optional_payload-returns-clause-tree
+parse_optional_payload-returns-clause-tree g t c =
     let stays = c.next_is.ensures.stays in
     let label = label_children c.args.with (span_at c.next_is.new.self.place) in
     let behind : c.expect.new.self.place.lexer.source ≡ c.next_is.new.self.place.lexer.source = source_item c.next_is.new.self.place c.expect.new.self.place ParenOpen c.in_ok-expect.ensures.takes in
@@ -713,14 +713,14 @@ parse_part-returns-in_err-made-clause-led g t c = λ n s e. handed s _ _ c.from_
 pub parse_part-returns-clause-led : goal.parse_part-returns-clause-led
 parse_part-returns-clause-led g t c = λ n s e. gives_or_memory c.push_part-2.result c.push_part-2.ensures.memory (c.in_ok-made.ensures.led c.args.self.now.place c.in_ok-token.ensures.takes n s e)
 
-pub parse_maybe-returns-in_err-front-clause-memory : goal.parse_maybe-returns-in_err-front-clause-memory
-parse_maybe-returns-in_err-front-clause-memory g t c = error_handed (OnlyOutOfMemory (g.P.Builder.takes_memory c.args.builder) c.args.self.now.place) c.from_residual.result c.in_err-front.field-0.0 c.from_residual.ensures.1 (wants_taken (g.P.Builder.takes_memory c.args.builder) c.args.self.now.place c.in_err-front.field-0.0 (c.in_err-front.ensures.takes (payload_parts c.args.with c.requires.1)))
+pub parse_optional_payload-returns-in_err-front-clause-memory : goal.parse_optional_payload-returns-in_err-front-clause-memory
+parse_optional_payload-returns-in_err-front-clause-memory g t c = error_handed (OnlyOutOfMemory (g.P.Builder.takes_memory c.args.builder) c.args.self.now.place) c.from_residual.result c.in_err-front.field-0.0 c.from_residual.ensures.1 (wants_taken (g.P.Builder.takes_memory c.args.builder) c.args.self.now.place c.in_err-front.field-0.0 (c.in_err-front.ensures.takes (payload_parts c.args.with c.requires.1)))
 
-pub parse_maybe-returns-in_err-expect-clause-memory : goal.parse_maybe-returns-in_err-expect-clause-memory
-parse_maybe-returns-in_err-expect-clause-memory g t c = error_handed (OnlyOutOfMemory (g.P.Builder.takes_memory c.args.builder) c.args.self.now.place) c.from_residual-in_err-expect.result c.in_err-expect.field-0.0 c.from_residual-in_err-expect.ensures.1 (wants_fails (g.P.Builder.takes_memory c.args.builder) c.args.self.now.place c.next_is.new.self.place c.expect.new.self.place (λ k. k ≡ ParenOpen) c.in_err-expect.field-0.0 c.in_err-expect.ensures.takes)
+pub parse_optional_payload-returns-in_err-expect-clause-memory : goal.parse_optional_payload-returns-in_err-expect-clause-memory
+parse_optional_payload-returns-in_err-expect-clause-memory g t c = error_handed (OnlyOutOfMemory (g.P.Builder.takes_memory c.args.builder) c.args.self.now.place) c.from_residual-in_err-expect.result c.in_err-expect.field-0.0 c.from_residual-in_err-expect.ensures.1 (wants_fails (g.P.Builder.takes_memory c.args.builder) c.args.self.now.place c.next_is.new.self.place c.expect.new.self.place (λ k. k ≡ ParenOpen) c.in_err-expect.field-0.0 c.in_err-expect.ensures.takes)
 
-pub parse_maybe-returns-clause-memory : goal.parse_maybe-returns-clause-memory
-parse_maybe-returns-clause-memory g t c =
+pub parse_optional_payload-returns-clause-memory : goal.parse_optional_payload-returns-clause-memory
+parse_optional_payload-returns-clause-memory g t c =
     let stays = c.next_is.ensures.stays in
     let label = label_children c.args.with (span_at c.next_is.new.self.place) in
     let behind : c.expect.new.self.place.lexer.source ≡ c.next_is.new.self.place.lexer.source = source_item c.next_is.new.self.place c.expect.new.self.place ParenOpen c.in_ok-expect.ensures.takes in
@@ -780,7 +780,7 @@ parse_part-returns-in_err-made-clause-memory g t c = error_handed (λ e. (source
     (λ takes. g.met.P.Builder.next_takes c.args.builder source of children c.args.parts.now are (subst (λ z. g.P.Builder.takes_memory z) c.part-part.ensures takes)) (c.in_err-made.ensures.memory c.args.self.now.place c.in_ok-token.ensures.takes))
 
 pub parse_part-returns-in_err-made-clause-asks : goal.parse_part-returns-in_err-made-clause-asks
-parse_part-returns-in_err-made-clause-asks g t c = asks_token c.args.self.now c.advance.new.self c.parse_behind.new.self c.in_ok-token.token c.in_ok-token.ensures.takes c.advance.ensures.asks c.parse_behind.ensures.asks
+parse_part-returns-in_err-made-clause-asks g t c = asks_token c.args.self.now c.advance.new.self c.parse_after_token.new.self c.in_ok-token.token c.in_ok-token.ensures.takes c.advance.ensures.asks c.parse_after_token.ensures.asks
 
 pub parse_part-returns-clause-kept : goal.parse_part-returns-clause-kept
 parse_part-returns-clause-kept g t c =
@@ -794,15 +794,15 @@ pub parse_part-returns-clause-memory : goal.parse_part-returns-clause-memory
 parse_part-returns-clause-memory g t c = wants_any (λ (source : List ℕ) (of : NodeType) (children : List NodeTree). g.P.Builder.are_parts c.args.builder source of children c.args.parts.now) (g.P.Builder.takes_memory c.args.builder) (OnlyOutOfMemory (g.P.Builder.takes_memory c.args.builder) c.args.self.now.place) c.push_part-2.result c.push_part-2.ensures.takes (λ e takes. wants_taken (g.P.Builder.takes_memory c.args.builder) c.args.self.now.place e takes)
 
 pub parse_part-returns-clause-asks : goal.parse_part-returns-clause-asks
-parse_part-returns-clause-asks g t c = asks_token c.args.self.now c.advance.new.self c.parse_behind.new.self c.in_ok-token.token c.in_ok-token.ensures.takes c.advance.ensures.asks c.parse_behind.ensures.asks
+parse_part-returns-clause-asks g t c = asks_token c.args.self.now c.advance.new.self c.parse_after_token.new.self c.in_ok-token.token c.in_ok-token.ensures.takes c.advance.ensures.asks c.parse_after_token.ensures.asks
 
 -- ---- parts that a value is made of are those of its node's children
 
 pub parse_some-parse_payload-requires : goal.parse_some-parse_payload-requires
 parse_some-parse_payload-requires g t c κs within = (omega arith, (within.0, (within.1.0, (within.1.1, ([], refl, c.parts-parts.ensures c.expect.new.self.place.lexer.source tt)))))
 
-pub parse_maybe-parse_payload-requires : goal.parse_maybe-parse_payload-requires
-parse_maybe-parse_payload-requires g t c κs within =
+pub parse_optional_payload-parse_payload-requires : goal.parse_optional_payload-parse_payload-requires
+parse_optional_payload-parse_payload-requires g t c κs within =
     let label = label_children c.args.with (span_at c.next_is.new.self.place) in
     let behind : c.expect.new.self.place.lexer.source ≡ c.next_is.new.self.place.lexer.source = source_item c.next_is.new.self.place c.expect.new.self.place ParenOpen c.in_ok-expect.ensures.takes in
     (omega arith, (within.0, (within.1.0, (within.1.1, (label, payload_due c.args.with (span_at c.next_is.new.self.place) c.requires.1, subst (λ (s : List ℕ). g.P.Builder.are_parts c.args.builder s c.args.with label c.in_ok-front.front) (sym behind) (c.in_ok-front.ensures.made (payload_parts c.args.with c.requires.1)))))))

@@ -15,8 +15,8 @@ use Rattle.wave_tree.proofs.tokens.Tokens.+parser.Given as goal
 abbrev pub decreases-parse_part : goal.decreases-parse_part
 decreases-parse_part g l = 5 * l.levels
 
-abbrev pub decreases-parse_behind : goal.decreases-parse_behind
-decreases-parse_behind g l = 5 * l.levels - 1
+abbrev pub decreases-parse_after_token : goal.decreases-parse_after_token
+decreases-parse_after_token g l = 5 * l.levels - 1
 
 abbrev pub decreases-parse_payload : goal.decreases-parse_payload
 decreases-parse_payload g l = 5 * l.levels + 1
@@ -24,8 +24,8 @@ decreases-parse_payload g l = 5 * l.levels + 1
 abbrev pub decreases-parse_items : goal.decreases-parse_items
 decreases-parse_items g l = 5 * l.levels + 1
 
-abbrev pub decreases-parse_maybe : goal.decreases-parse_maybe
-decreases-parse_maybe g l = 5 * l.levels + 2
+abbrev pub decreases-parse_optional_payload : goal.decreases-parse_optional_payload
+decreases-parse_optional_payload g l = 5 * l.levels + 2
 
 abbrev pub decreases-parse_some : goal.decreases-parse_some
 decreases-parse_some g l = 5 * l.levels + 2

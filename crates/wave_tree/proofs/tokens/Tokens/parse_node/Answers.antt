@@ -27,16 +27,16 @@ pub returns-in_err-token-clause-memory : goal.returns-in_err-token-clause-memory
 returns-in_err-token-clause-memory g c = error_handed (OnlyOutOfMemory (g.P.Builder.takes_memory c.args.builder) c.args.self.now.place) c.from_residual.result c.in_err-token.field-0.0 c.from_residual.ensures.1 (wants_fails (g.P.Builder.takes_memory c.args.builder) c.args.self.now.place c.args.self.now.place c.advance.new.self.place (λ _. Unit {0}) c.in_err-token.field-0.0 c.in_err-token.ensures.takes)
 
 pub returns-clause-led : goal.returns-clause-led
-returns-clause-led g c = c.parse_behind.ensures.led c.args.self.now.place c.in_ok-token.ensures.takes
+returns-clause-led g c = c.parse_after_token.ensures.led c.args.self.now.place c.in_ok-token.ensures.takes
 
 pub returns-clause-tree : goal.returns-clause-tree
 returns-clause-tree g c =
-    built (g.P.Builder.is_made c.args.builder) c.args.self.now.place c.advance.new.self.place (IsParsedBehind c.in_ok-token.token c.args.levels c.advance.new.self.place c.parse_behind.new.self.place) (IsParsed c.args.levels c.args.self.now.place c.parse_behind.new.self.place) c.parse_behind.result
-    (source_item c.args.self.now.place c.advance.new.self.place c.in_ok-token.token c.in_ok-token.ensures.takes) (λ n is. is c.args.self.now.place c.in_ok-token.ensures.takes) c.parse_behind.ensures.tree
+    built (g.P.Builder.is_made c.args.builder) c.args.self.now.place c.advance.new.self.place (IsParsedBehind c.in_ok-token.token c.args.levels c.advance.new.self.place c.parse_after_token.new.self.place) (IsParsed c.args.levels c.args.self.now.place c.parse_after_token.new.self.place) c.parse_after_token.result
+    (source_item c.args.self.now.place c.advance.new.self.place c.in_ok-token.token c.in_ok-token.ensures.takes) (λ n is. is c.args.self.now.place c.in_ok-token.ensures.takes) c.parse_after_token.ensures.tree
 
 pub returns-clause-memory : goal.returns-clause-memory
-returns-clause-memory g c = c.parse_behind.ensures.memory c.args.self.now.place c.in_ok-token.ensures.takes
+returns-clause-memory g c = c.parse_after_token.ensures.memory c.args.self.now.place c.in_ok-token.ensures.takes
 
 pub returns-clause-asks : goal.returns-clause-asks
 returns-clause-asks g c =
-    asks_token c.args.self.now c.advance.new.self c.parse_behind.new.self c.in_ok-token.token c.in_ok-token.ensures.takes c.advance.ensures.asks c.parse_behind.ensures.asks
+    asks_token c.args.self.now c.advance.new.self c.parse_after_token.new.self c.in_ok-token.token c.in_ok-token.ensures.takes c.advance.ensures.asks c.parse_after_token.ensures.asks
