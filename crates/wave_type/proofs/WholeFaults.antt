@@ -1,5 +1,5 @@
 -- A text as a whole: what is refused of its tokens is refused of the text, at its place.
-use Rattle.std.proofs.Common.{◌≡◌, ℕ, zero, suc, ◌-◌, List, [], ◌∷◌, ◌++◌, inl, inr, Some, None, refl, sym, ap, subst, ◌∙◌, arith, length, take, drop, length-append, Result, Err, IfErr}
+use Rattle.std.proofs.Common.{◌≡◌, ℕ, zero, suc, ◌-◌, ◌≤◌, ◌<◌, List, [], ◌∷◌, ◌++◌, inl, inr, Some, None, refl, sym, ap, subst, ◌∙◌, arith, length, take, drop, length-append, Result, Err, IfErr}
 use Rattle.std.proofs.Math.Seq.{drop-append_seam}
 use Rattle.std.proofs.lemmas.List.{take-append-drop}
 use Rattle.std.specs.Prelude.{◌⊎◌}
@@ -88,42 +88,52 @@ memory_or kinds.InvalidCount = inr (λ e. cc)
 memory_or kinds.NestingTooDeep = inr (λ e. cc)
 memory_or kinds.OutOfMemory = inl refl
 
-module _ (text : List ℕ) (tokens : List Piece) (dues : List Expectation) (kind : TypeErrorKind) (left : Tokens) (e : TypeRefusal) (are : AreItems text 0 (items_of tokens)) (at : IsRefusalAt text (drop (length tokens - length left) (items_of tokens)) kind e) where
-  standing : refused (texts_of tokens) dues ≡ Some (kind, left) → (kind ≡ OutOfMemory → ⊥) → IsFaultOf dues text e
-  standing r other =
-      let n = length tokens - length left in
-      let items = items_of tokens in
-      let whole : take n items ++ drop n items ≡ items = take-append-drop n items in
-      let rest : texts_of_items (drop n items) ≡ left = left_of tokens left (is_left (texts_of tokens) dues kind left r) in (
-        take n items,
-        drop n items,
-        kind,
-        subst (AreItems text 0) (sym whole) are,
-        ap (λ l. refused (texts_of_items l) dues) whole ∙ (ap (λ us. refused us dues) (texts_of_kept tokens) ∙ (r ∙ ap (λ us. Some (kind, us)) (sym rest))),
-        at.stands other,
-      )
+-- a text of these tokens, which are the reader's
+module _ (text : List ℕ) (tokens : List Piece) (ts : Tokens) (are : AreItems text 0 (items_of tokens)) (same : ts ≡ texts_of tokens) where
+  cut : IsCutInto text (texts_of tokens)
+  cut = subst (IsCutInto text) (texts_of_kept tokens) (items_cut text 0 (items_of tokens) are)
 
-  -- a text of these tokens is refused as they are
-  pub text_fault : IsRefusal dues (texts_of tokens) kind left → (e ≡ for_memory) ⊎ IsFaultOf dues text e
-  text_fault (inl memory) = inl (at.memory memory)
-  text_fault (inr r) = elim (memory_or kind) as (λ _. (e ≡ for_memory) ⊎ IsFaultOf dues text e) [ inl memory ↦ inl (at.memory memory) | inr other ↦ inr (standing r other) ]
+  -- it spells what they spell
+  pub text_spells : (P : Tokens → Type 0) → P ts → (us : Tokens) × IsCutInto text us × P us
+  text_spells P h = (texts_of tokens, cut, subst P same h)
 
--- so of a type, or of a function
-pub no_type_of : (text : List ℕ) (tokens : List Piece) (kind : TypeErrorKind) (left : Tokens) (e : TypeRefusal) → AreItems text 0 (items_of tokens) → IsRefusalAt text (drop (length tokens - length left) (items_of tokens)) kind e → IsRefusal (due_of_type 100) (texts_of tokens) kind left → IsNoType text e.kind
-no_type_of text tokens kind left e are at (inl memory) = inl (ap (λ z. z.kind) (at.memory memory))
-no_type_of text tokens kind left e are at (inr r) =
-    inr (λ T h.
-    let cut : IsCutInto text (texts_of tokens) = subst (IsCutInto text) (texts_of_kept tokens) (items_cut text 0 (items_of tokens) are) in
-    let spelled : Spells T (texts_of tokens) [] = subst (λ us. Spells T us []) (one_cut h.0 (texts_of tokens) text h.1 cut) h.2 in
-    low 100 (levels_of T) (nat_lt 100 (levels_of T)) refl (λ le. let wrong : None ≡ Some (kind, left) = sym (type_runs 100 T (texts_of tokens) [] le spelled []) ∙ r in cc))
+  -- and nothing else
+  only_spells : (P : Tokens → Type 0) → (us : Tokens) × IsCutInto text us × P us → P ts
+  only_spells P h = subst P (one_cut h.0 (texts_of tokens) text h.1 cut ∙ sym same) h.2
 
-pub no_function_of : (text : List ℕ) (tokens : List Piece) (kind : TypeErrorKind) (left : Tokens) (e : TypeRefusal) → AreItems text 0 (items_of tokens) → IsRefusalAt text (drop (length tokens - length left) (items_of tokens)) kind e → IsRefusal (due_of_function 100) (texts_of tokens) kind left → IsNoFunction text e.kind
-no_function_of text tokens kind left e are at (inl memory) = inl (ap (λ z. z.kind) (at.memory memory))
-no_function_of text tokens kind left e are at (inr r) =
-    inr (λ f h.
-    let cut : IsCutInto text (texts_of tokens) = subst (IsCutInto text) (texts_of_kept tokens) (items_cut text 0 (items_of tokens) are) in
-    let spelled : SpellsFunction f (texts_of tokens) = subst (SpellsFunction f) (one_cut h.0 (texts_of tokens) text h.1 cut) h.2 in
-    low 100 (levels_of_function f) (nat_lt 100 (levels_of_function f)) refl (λ le. let wrong : None ≡ Some (kind, left) = sym (function_runs 100 f (texts_of tokens) le spelled) ∙ r in cc))
+  module _ (kind : TypeErrorKind) (left : Tokens) (n : ℕ) (e : TypeRefusal) (count : n ≡ length left) (stands : IsRefusalAt text (drop (length tokens - n) (items_of tokens)) kind e) where
+    module _ (dues : List Expectation) where
+      standing : refused ts dues ≡ Some (kind, left) → (kind ≡ OutOfMemory → ⊥) → IsFaultOf dues text e
+      standing r other =
+          let items = items_of tokens in
+          let whole : take (length tokens - n) items ++ drop (length tokens - n) items ≡ items = take-append-drop (length tokens - n) items in
+          let kept : refused (texts_of tokens) dues ≡ Some (kind, left) = ap (λ us. refused us dues) (sym same) ∙ r in
+          let rest : texts_of_items (drop (length tokens - n) items) ≡ left = ap (λ k. texts_of_items (drop (length tokens - k) items)) count ∙ left_of tokens left (is_left (texts_of tokens) dues kind left kept) in (
+            take (length tokens - n) items,
+            drop (length tokens - n) items,
+            kind,
+            subst (AreItems text 0) (sym whole) are,
+            ap (λ l. refused (texts_of_items l) dues) whole ∙ (ap (λ us. refused us dues) (texts_of_kept tokens) ∙ (kept ∙ ap (λ us. Some (kind, us)) (sym rest))),
+            stands.stands other,
+          )
+
+      -- it is refused as they are
+      pub text_fault : IsRefusal dues ts kind left → (e ≡ for_memory) ⊎ IsFaultOf dues text e
+      text_fault (inl memory) = inl (stands.memory memory)
+      text_fault (inr r) = elim (memory_or kind) as (λ _. (e ≡ for_memory) ⊎ IsFaultOf dues text e) [ inl memory ↦ inl (stands.memory memory) | inr other ↦ inr (standing r other) ]
+
+    -- so it spells nothing within a hundred levels that isn't refused
+    module _ {A : Type 0} (P : A → Tokens → Type 0) (levels : A → ℕ) (dues : List Expectation) (runs : (a : A) (us : Tokens) → levels a ≤ 100 → P a us → refused us dues ≡ None) where
+      none_spelled : IsRefusal dues ts kind left → (e.kind ≡ OutOfMemory) ⊎ ((a : A) → (us : Tokens) × IsCutInto text us × P a us → 100 < levels a)
+      none_spelled (inl memory) = inl (ap (λ z. z.kind) (stands.memory memory))
+      none_spelled (inr r) =
+          inr (λ a h. low 100 (levels a) (nat_lt 100 (levels a)) refl (λ le. let wrong : None ≡ Some (kind, left) = sym (runs a ts le (only_spells (P a) h)) ∙ r in cc))
+
+    pub no_type_of : IsRefusal (due_of_type 100) ts kind left → IsNoType text e.kind
+    no_type_of = none_spelled (λ T us. Spells T us []) levels_of (due_of_type 100) (λ T us le h. type_runs 100 T us [] le h [])
+
+    pub no_function_of : IsRefusal (due_of_function 100) ts kind left → IsNoFunction text e.kind
+    no_function_of = none_spelled SpellsFunction levels_of_function (due_of_function 100) (function_runs 100)
 
 -- ---- the tokens as a whole
 

@@ -1,35 +1,18 @@
-use Rattle.std.proofs.Common.{◌≡◌, ◌-◌, ◌∙◌, length, drop, ap, subst}
-use Rattle.wave_type.specs.Private.TypeTokens.{texts_of, items_of, IsRefusal, IsRefusalAt}
-use Rattle.wave_type.specs.TypeFaults.{due_of_function}
-use Rattle.wave_type.specs.TypeSpelling.{IsCutInto}
-use Rattle.wave_type.proofs.TypeTokens.{items_cut, texts_of_kept}
-use Rattle.wave_type.proofs.WholeFaults.{text_fault, no_function_of}
+use Rattle.std.proofs.Common.{◌∙◌, ap}
+use Rattle.wave_type.specs.Private.TypeTokens.{texts_of}
 use Rattle.wave_type.specs.FunctionSpelling.{SpellsFunction}
+use Rattle.wave_type.specs.TypeFaults.{due_of_function}
+use Rattle.wave_type.proofs.WholeFaults.{text_spells, text_fault, no_function_of}
 use Rattle.wave_type.proofs.func.FuncType.parse.Goals as goal
 
 pub returns-in-Ok-whole_function-clause-spelled : goal.returns-in-Ok-whole_function-clause-spelled
 returns-in-Ok-whole_function-clause-spelled c =
-    let tokens = c.in-Ok.tokens.items in
-    let same : c.new-reader.result ≡ texts_of tokens = c.new-reader.ensures ∙ ap texts_of c.as_slice.ensures.value in
-    let cut : IsCutInto c.args.text.now (texts_of tokens) = subst (IsCutInto c.args.text.now) (texts_of_kept tokens) (items_cut c.args.text.now 0 (items_of tokens) c.in-Ok.ensures) in
-    (texts_of tokens, cut, subst (SpellsFunction c.in-Ok-whole_function.function) same c.in-Ok-whole_function.ensures.spelled)
+    text_spells c.args.text.now c.in-Ok.tokens.items c.new-reader.result c.in-Ok.ensures (c.new-reader.ensures ∙ ap texts_of c.as_slice.ensures.value) (SpellsFunction c.in-Ok-whole_function.function) c.in-Ok-whole_function.ensures.spelled
 
 pub returns-clause-refused : goal.returns-clause-refused
 returns-clause-refused c =
-    let tokens = c.in-Ok.tokens.items in
-    let kind = c.in-Err-whole_function.kind in
-    let left = c.whole_function.new.reader in
-    let same : c.new-reader.result ≡ texts_of tokens = c.new-reader.ensures ∙ ap texts_of c.as_slice.ensures.value in
-    let r : IsRefusal (due_of_function 100) (texts_of tokens) kind left = subst (λ us. IsRefusal (due_of_function 100) us kind left) same c.in-Err-whole_function.ensures.refused in
-    let at : IsRefusalAt c.args.text.now (drop (length tokens - length left) (items_of tokens)) kind c.refusal.result = subst (λ n. IsRefusalAt c.args.text.now (drop (length tokens - n) (items_of tokens)) kind c.refusal.result) c.count.ensures c.refusal.ensures.stands in
-    no_function_of c.args.text.now tokens kind left c.refusal.result c.in-Ok.ensures at r
+    no_function_of c.args.text.now c.in-Ok.tokens.items c.new-reader.result c.in-Ok.ensures (c.new-reader.ensures ∙ ap texts_of c.as_slice.ensures.value) c.in-Err-whole_function.kind c.whole_function.new.reader c.count.result c.refusal.result c.count.ensures c.refusal.ensures.stands c.in-Err-whole_function.ensures.refused
 
 pub returns-clause-fault : goal.returns-clause-fault
 returns-clause-fault c =
-    let tokens = c.in-Ok.tokens.items in
-    let kind = c.in-Err-whole_function.kind in
-    let left = c.whole_function.new.reader in
-    let same : c.new-reader.result ≡ texts_of tokens = c.new-reader.ensures ∙ ap texts_of c.as_slice.ensures.value in
-    let r : IsRefusal (due_of_function 100) (texts_of tokens) kind left = subst (λ us. IsRefusal (due_of_function 100) us kind left) same c.in-Err-whole_function.ensures.refused in
-    let at : IsRefusalAt c.args.text.now (drop (length tokens - length left) (items_of tokens)) kind c.refusal.result = subst (λ n. IsRefusalAt c.args.text.now (drop (length tokens - n) (items_of tokens)) kind c.refusal.result) c.count.ensures c.refusal.ensures.stands in
-    text_fault c.args.text.now tokens (due_of_function 100) kind left c.refusal.result c.in-Ok.ensures at r
+    text_fault c.args.text.now c.in-Ok.tokens.items c.new-reader.result c.in-Ok.ensures (c.new-reader.ensures ∙ ap texts_of c.as_slice.ensures.value) c.in-Err-whole_function.kind c.whole_function.new.reader c.count.result c.refusal.result c.count.ensures c.refusal.ensures.stands (due_of_function 100) c.in-Err-whole_function.ensures.refused
