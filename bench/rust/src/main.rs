@@ -55,11 +55,18 @@ impl<'a> Types<'a> {
     fn ty(&mut self) -> Type {
         match self.name() {
             "bool" => Type::BOOL,
+            "s8" => Type::S8,
+            "s16" => Type::S16,
+            "s32" => Type::S32,
+            "s64" => Type::S64,
             "u8" => Type::U8,
             "u16" => Type::U16,
             "u32" => Type::U32,
+            "u64" => Type::U64,
+            "char" => Type::CHAR,
             "string" => Type::STRING,
             "list" => Type::list(self.part()),
+            "tuple" => Type::tuple(self.inner().into_iter().flatten().collect::<Vec<_>>()).unwrap(),
             "option" => Type::option(self.part()),
             "result" => {
                 let mut parts = self.inner().into_iter();
