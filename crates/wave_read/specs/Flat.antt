@@ -16,7 +16,7 @@ IsFlatAt (type.option P) ty U = (U ≡ P) × IsFlat P × (ty ≢ node_type.Optio
 IsFlatAt (type.result (type.a_type A) B) ty U = (U ≡ A) × IsFlat A × (ty ≢ node_type.ResultOk) × (ty ≢ node_type.ResultErr)
 IsFlatAt _ ty U = ⊥
 
--- the type of that payload; or nothing, where there is no such type
+-- the type of the payload that a node of this type stands for alone; or nothing, where there is no such type
 abbrev pub GivesFlatAt : TypeTree → NodeType → Option TypeTree → Type 0
 GivesFlatAt T ty (Some U) = IsFlatAt T ty U
 GivesFlatAt T ty None = (U : TypeTree) → IsFlatAt T ty U → ⊥

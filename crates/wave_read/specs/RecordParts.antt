@@ -47,7 +47,7 @@ IsNamedAt {S} {V} fields name i = (f : Field S V) × (slice_get fields i ≡ Som
 abbrev pub IsUnread : {S V : Type 0} → List (Field S V) → List ℕ → ℕ × Bor S → Type 0
 IsUnread {S} {V} fields name due = (f : Field S V) × (slice_get fields due.0 ≡ Some f) × (f.name.now ≡ name) × (f.ty ≡ due.1) × (f.value ≡ None)
 
--- a key of this type and text is the label of that field
+-- a key of this type and text is the label of a field that was not read yet, which has this place and type
 abbrev pub IsFieldKey : {S V : Type 0} → List (Field S V) → NodeType → List ℕ → ℕ × Bor S → Type 0
 IsFieldKey fields ty text due = (ty ≡ kind.Label) × IsUnread fields (name_of text) due
 

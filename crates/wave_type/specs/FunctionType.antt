@@ -16,7 +16,7 @@ pub record FunctionType : Type 0 where
 abbrev pub function_of : List (String Global × TypeTree) → List (String Global × TypeTree) → FunctionType
 function_of params results = record { params = map by_bytes params; results = map by_bytes results }
 
--- the same, with borrowed names
+-- the function type of these parameters and results, whose names are borrowed
 abbrev pub named_function : List (Bor (List ℕ) × TypeTree) → List (Bor (List ℕ) × TypeTree) → FunctionType
 named_function params results = record { params = named params; results = named results }
 
