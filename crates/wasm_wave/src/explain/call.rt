@@ -67,7 +67,7 @@ pub fn explain_call<F: WasmFunc>(
 ///  --> line 1, column 5
 ///   | f(1,
 ///   |     ^
-///   = the ( of line 1, column 2 is not closed
+///   = the ( at line 1, column 2 is not closed
 /// ```
 ///
 /// The only error is out of memory.

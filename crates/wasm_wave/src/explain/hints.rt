@@ -47,7 +47,7 @@ pub(crate) fn hints_of<T: WasmType>(
             ParserErrorKind::InvalidType => alone(form_hint(alloc, source, node, ty)?),
             ParserErrorKind::InvalidEscape => alone(line(alloc, ESCAPES)?),
             ParserErrorKind::DuplicateField => {
-                alone(line(alloc, "a field stands once in a record")?)
+                alone(line(alloc, "a field may be given only once")?)
             }
             _ => alone(String::new(alloc)),
         },
@@ -62,7 +62,10 @@ fn text_of<'source>(source: &'source str, node: &Node) -> &'source str {
 
 /// The escapes that there are.
 pub(crate) const ESCAPES: &str =
-    "escapes are \\', \\\", \\\\, \\t, \\n, \\r and \\u{..}, the number of a character in hexadecimal";
+    "the escapes are \\', \\\", \\\\, \\t, \\n, \\r and \\u{..} with the hexadecimal number of a character";
+
+/// What helps where a null stands.
+pub(crate) const NO_NULL: &str = "there is no null: an option without a value is written none";
 
 /// These lines, without a name that is marked.
 fn alone(lines: String) -> Result<Hints, AllocError> {
@@ -205,7 +208,7 @@ fn hints_of_cause<T: WasmType>(
         WasmValueError::MissingPayload(name) => {
             push_hint(
                 &mut lines,
-                "the payload stands in parentheses: ",
+                "the payload is written in parentheses: ",
                 name.as_str(),
                 "(..)",
             )?;
@@ -221,7 +224,7 @@ fn hints_of_cause<T: WasmType>(
         WasmValueError::UnsupportedType(_) => {
             push_hint(
                 &mut lines,
-                "no value of this type can be read: floats have none",
+                "floats are not supported: no value of this type can be read",
                 "",
                 "",
             )?;
@@ -254,11 +257,11 @@ fn push_missing<T: WasmType>(
 /// What is wrong with the text of a number.
 fn number_hint(text: &str, kind: WasmTypeKind) -> &'static str {
     if text.contains("inf") || text.contains("nan") {
-        "inf and nan are no whole numbers"
+        "inf and nan are not whole numbers"
     } else if text.contains('.') || text.contains('e') || text.contains('E') {
-        "a whole number is written without a fraction and an exponent"
+        "a whole number is written without a fraction or an exponent"
     } else if text.starts_with('-') && is_unsigned(kind) {
-        "an unsigned number is written without a sign"
+        "an unsigned number has no minus sign"
     } else {
         ""
     }
@@ -298,20 +301,15 @@ fn case_hint<T: WasmType>(
 ) -> Result<String, AllocError> {
     let word = first_word(text);
     if Keyword::decode(word).is_some() && has_case(alloc, ty, word)? {
-        let mut lines = String::new(alloc);
-        push_hint(
-            &mut lines,
-            "a keyword is the name of a case behind a percent sign: %",
-            word,
-            "",
-        )?;
-        return Ok(lines);
+        return format!(in alloc;
+            "  = {word} is a keyword: write %{word} for the case of that name\n"
+        );
     }
     line(
         alloc,
         match form {
             NodeType::String | NodeType::MultilineString => "a case is written without quotes",
-            NodeType::VariantWithPayload => "the cases of an enum have no payload",
+            NodeType::VariantWithPayload => "a case of an enum has no payload",
             _ => "",
         },
     )
@@ -352,10 +350,11 @@ fn plain_hint(text: &str, form: NodeType, kind: WasmTypeKind) -> &'static str {
         NodeType::TupleSet if kind == WasmTypeKind::Flags => flags_hint(text),
         NodeType::Flags if kind == WasmTypeKind::Record => "each field has a value: {name: value}",
         NodeType::Flags if kind == WasmTypeKind::Map => "each key has a value: {key: value}",
-        NodeType::Tuple if is_list(kind) => "a list stands in brackets: [..]",
-        NodeType::List if kind == WasmTypeKind::Tuple => "a tuple stands in parentheses: (..)",
-        NodeType::List if kind == WasmTypeKind::Map => "a map stands in braces: {key: value}",
-        NodeType::List if kind == WasmTypeKind::Flags => "flags stand in braces: {name, name}",
+        NodeType::Tuple if is_list(kind) => "a list is written in brackets: [..]",
+        NodeType::List if kind == WasmTypeKind::Tuple => "a tuple is written in parentheses: (..)",
+        NodeType::List if kind == WasmTypeKind::Map => "a map is written in braces: {key: value}",
+        NodeType::List if kind == WasmTypeKind::Flags =>
+            "flags are written in braces: {name, name}",
         _ => other_hint(kind),
     }
 }
@@ -363,8 +362,7 @@ fn plain_hint(text: &str, form: NodeType, kind: WasmTypeKind) -> &'static str {
 /// What helps where a name stands.
 fn label_hint(text: &str, kind: WasmTypeKind) -> &'static str {
     match text {
-        "null" | "NULL" | "nil" | "NIL" | "NONE" =>
-            "there is no null; an absent option is written none",
+        "null" | "NULL" | "nil" | "NIL" | "NONE" => NO_NULL,
         "TRUE" | "YES" | "ON" | "yes" | "on" if kind == WasmTypeKind::Bool =>
             "a bool is written true or false",
         "FALSE" | "NO" | "OFF" | "no" | "off" if kind == WasmTypeKind::Bool =>
@@ -377,7 +375,7 @@ fn label_hint(text: &str, kind: WasmTypeKind) -> &'static str {
 fn string_hint(kind: WasmTypeKind) -> &'static str {
     match kind {
         WasmTypeKind::Bool => "a bool is written without quotes",
-        WasmTypeKind::Char => "a char stands in single quotes",
+        WasmTypeKind::Char => "a char is written in single quotes",
         kind if is_whole(kind) => "a number is written without quotes",
         kind => other_hint(kind),
     }
@@ -386,7 +384,7 @@ fn string_hint(kind: WasmTypeKind) -> &'static str {
 /// What helps where entries stand in place of flags.
 fn flags_hint(text: &str) -> &'static str {
     if text.contains(',') || text.len() > 3 {
-        "flags are names alone: {name, name}"
+        "flags are names, without values: {name, name}"
     } else {
         "empty flags are written {}"
     }
@@ -395,9 +393,9 @@ fn flags_hint(text: &str) -> &'static str {
 /// What helps at a type, whatever stands there.
 fn other_hint(kind: WasmTypeKind) -> &'static str {
     match kind {
-        WasmTypeKind::String => "a string stands in double quotes",
-        WasmTypeKind::Char => "a char stands in single quotes",
-        WasmTypeKind::Option => "an option of such a type is written some(..) or none",
+        WasmTypeKind::String => "a string is written in double quotes",
+        WasmTypeKind::Char => "a char is written in single quotes",
+        WasmTypeKind::Option => "this option is written some(..) or none",
         _ => "",
     }
 }

@@ -6,7 +6,7 @@ ghost use Rattle.wasm_wave.specs.Private.Readings.{MayStandAs, TellsAs};
 
 use super::due::push_line;
 use super::escape::unknown_escape;
-use super::hints::{ESCAPES, line, push_hint};
+use super::hints::{ESCAPES, NO_NULL, line, push_hint};
 use super::is_invisible;
 use crate::ast::{Node, NodeType};
 use crate::expected::{Expected, expected_at, expected_in_call_at};
@@ -121,7 +121,7 @@ fn syntax_hint(
     match error.kind() {
         ParserErrorKind::UnexpectedEnd => unclosed(alloc, source, reading),
         ParserErrorKind::EmptyTuple => line(alloc, "a tuple has at least one item"),
-        ParserErrorKind::DuplicateFlag => line(alloc, "a flag stands once"),
+        ParserErrorKind::DuplicateFlag => line(alloc, "a flag may be given only once"),
         ParserErrorKind::OutOfMemory => line(alloc, ""),
         ParserErrorKind::InvalidToken => invalid_token(alloc, source, error.span().start),
         _ => beside_word(alloc, source, error.span().start),
@@ -136,7 +136,7 @@ fn call_hint(error: &ParserError, source: &str) -> &'static str {
         ParserErrorKind::UnexpectedEnd | ParserErrorKind::InvalidToken
             if name_end(source).is_none() => { "a call begins with the function's name" }
         ParserErrorKind::TrailingCharacters if begins_line(source, error.span().start) => {
-            "there is one call a text"
+            "a text has only one call"
         }
         _ => "",
     }
@@ -179,7 +179,7 @@ fn open_bracket(alloc: Global, source: &str, start: usize) -> Result<String, All
         _ => "{",
     };
     format!(in alloc;
-        "  = the {bracket} of line {}, column {} is not closed\n",
+        "  = the {bracket} at line {}, column {} is not closed\n",
         place.line, place.column
     )
 }
@@ -193,29 +193,29 @@ fn invalid_token(alloc: Global, source: &str, start: usize) -> Result<String, Al
     if after.starts_with("\"\"\"") {
         return line(
             alloc,
-            "the multiline string isn't closed: its last line is three quotes",
+            "the multiline string isn't closed: \"\"\" on a line of its own ends it",
         );
     }
     match after.chars().next() {
         Some('"') => quoted(alloc, source, at, '"'),
         Some('\'') => quoted(alloc, source, at, '\''),
         Some('‘' | '’' | '“' | '”' | '„' | '«' | '»' | '`') => {
-            line(alloc, "quotes are straight: \"text\", 'c'")
+            line(alloc, "write straight quotes: \"text\", 'c'")
         }
         Some('+') => line(alloc, "a number has no plus sign"),
         Some('=') => line(
             alloc,
-            "a name and its value are parted by a colon: {name: value}",
+            "a colon stands between a name and its value: {name: value}",
         ),
-        Some(';') => line(alloc, "parts are parted by commas"),
+        Some(';') => line(alloc, "values are separated by commas"),
         Some('#') => line(alloc, "a comment begins with //"),
         Some(scalar) if is_invisible(scalar) => {
             let mut lines = String::new(alloc);
             push_hint(
                 &mut lines,
-                "here stands ",
+                "this is ",
                 invisible_name(scalar),
-                ", which is not seen",
+                ", which can't be seen",
             )?;
             Ok(lines)
         }
@@ -245,11 +245,11 @@ fn quoted(alloc: Global, source: &str, at: usize, quote: char) -> Result<String,
         Some(mark) => escape_hint(alloc, source, mark),
         None if quote == '"' => line(
             alloc,
-            "the string isn't closed on its line; a string of more lines stands in \"\"\"",
+            "the string isn't closed on its line; a string of several lines is written in \"\"\"",
         ),
         None => line(
             alloc,
-            "a char is one character in single quotes; a string stands in double quotes",
+            "a char is one character in single quotes; a string is written in double quotes",
         ),
     }
 }
@@ -261,7 +261,7 @@ fn escape_hint(alloc: Global, source: &str, mark: Span) -> Result<String, AllocE
     if name == "\\u" && behind.starts_with('{') {
         return line(
             alloc,
-            "\\u{..} has one to six hexadecimal digits in braces, the number of a character",
+            "the braces of \\u{..} hold the number of a character, in one to six hexadecimal digits",
         );
     }
     let mut lines = String::new(alloc);
@@ -279,7 +279,7 @@ fn beside_word(alloc: Global, source: &str, start: usize) -> Result<String, Allo
     if after.starts_with(')') && before.trim_end().ends_with('(') {
         return line(
             alloc,
-            "a payload stands in the parentheses; a case without one is its name alone",
+            "the parentheses are empty: write a value in them, or the name without them",
         );
     }
     word_hint(alloc, word_at(source, at))
@@ -340,8 +340,11 @@ fn word_hint(alloc: Global, word: &str) -> Result<String, AllocError> {
     if word.starts_with(is_digit) {
         return line(alloc, digits_hint(word));
     }
+    if word == "Null" {
+        return line(alloc, NO_NULL);
+    }
     match keyword_meant(word) {
-        Some(keyword) => push_hint(&mut lines, "a keyword has small letters: ", keyword, "")?,
+        Some(keyword) => push_hint(&mut lines, "keywords are in lower case: ", keyword, "")?,
         None => {
             let name = kebab(alloc, word)?;
             if !word.is_empty() && name.as_str() != word && word_is_name(word) {
@@ -360,11 +363,11 @@ fn is_digit(scalar: char) -> bool {
 /// What is wrong with a word that begins with a digit.
 fn digits_hint(word: &str) -> &'static str {
     if word.starts_with("0x") || word.starts_with("0X") {
-        "numbers are decimal: there is no hexadecimal"
+        "numbers are written in decimal, not in hexadecimal"
     } else if word.starts_with("0b") || word.starts_with("0o") {
-        "numbers are decimal: there is no binary and no octal"
+        "numbers are written in decimal, not in binary or octal"
     } else if word.contains('_') {
-        "a number has no underscore"
+        "a number has no underscores"
     } else if word.starts_with('0') && word.len() > 1 {
         "a number has no leading zero"
     } else {
@@ -375,7 +378,7 @@ fn digits_hint(word: &str) -> &'static str {
 /// The keyword that the word is meant for.
 fn keyword_meant(word: &str) -> Option<&'static str> {
     match word {
-        "None" | "Null" => Some("none"),
+        "None" => Some("none"),
         "Some" => Some("some"),
         "Ok" => Some("ok"),
         "Err" => Some("err"),

@@ -59,21 +59,21 @@ const HINTS: [(&str, &str, &str); 23] = [
         "enum { ok, failed }",
         "ok",
         "  = expected enum { ok, failed }, found ok
-  = a keyword is the name of a case behind a percent sign: %ok
+  = ok is a keyword: write %ok for the case of that name
 ",
     ),
     (
         "variant { body(u8), err(string) }",
         "err(\"x\")",
         "  = expected variant { body(u8), err(string) }, found err
-  = a keyword is the name of a case behind a percent sign: %err
+  = err is a keyword: write %err for the case of that name
 ",
     ),
     (
         "variant { body(u8) }",
         "body",
         "  = expected variant { body(u8) }
-  = the payload stands in parentheses: body(..)
+  = the payload is written in parentheses: body(..)
 ",
     ),
     (
@@ -108,47 +108,47 @@ const HINTS: [(&str, &str, &str); 23] = [
         "flags { a }",
         "{a: true}",
         "  = expected flags { a }, found a record or a map
-  = flags are names alone: {name, name}
+  = flags are names, without values: {name, name}
 ",
     ),
     (
         "result<u8>",
         "Ok(1)",
         "  = expected u8, found a name
-  = a keyword has small letters: ok
+  = keywords are in lower case: ok
 ",
     ),
     (
         "u8",
         "\u{feff}1",
-        "  = here stands a byte order mark, U+FEFF, which is not seen
+        "  = this is a byte order mark, U+FEFF, which can't be seen
 ",
     ),
     (
         "list<u16>",
         "[300\u{200b}]",
-        "  = here stands a zero-width space, U+200B, which is not seen
+        "  = this is a zero-width space, U+200B, which can't be seen
 ",
     ),
     (
         "f32",
         "1.0",
         "  = expected f32
-  = no value of this type can be read: floats have none
+  = floats are not supported: no value of this type can be read
 ",
     ),
     (
         "list<u8>",
         "[1, [2",
         "  = expected ',' or ']'
-  = the [ of line 1, column 5 is not closed
+  = the [ at line 1, column 5 is not closed
 ",
     ),
     (
         "result",
         "ok()",
         "  = expected a value
-  = a payload stands in the parentheses; a case without one is its name alone
+  = the parentheses are empty: write a value in them, or the name without them
 ",
     ),
     (
@@ -161,14 +161,14 @@ const HINTS: [(&str, &str, &str); 23] = [
         "tuple<u8>",
         "[1]",
         "  = expected tuple<u8>, found a list
-  = a tuple stands in parentheses: (..)
+  = a tuple is written in parentheses: (..)
 ",
     ),
     (
         "list<u8>",
         "(1)",
         "  = expected list<u8>, found a tuple
-  = a list stands in brackets: [..]
+  = a list is written in brackets: [..]
 ",
     ),
     (
@@ -206,7 +206,7 @@ const CALLS: [(&str, &str, &str); 2] = [
   |   2)
   |   ^
   = expected string, found a number
-  = a string stands in double quotes
+  = a string is written in double quotes
 ",
     ),
 ];
@@ -229,7 +229,7 @@ const NO_CALLS: [(&str, &str); 2] = [
   | ns:pkg/face@1.0.0([{a: 1}
   |                          ^
   = expected ',' or ']'
-  = the [ of line 1, column 19 is not closed
+  = the [ at line 1, column 19 is not closed
 ",
     ),
 ];
@@ -280,7 +280,7 @@ fn unnamed_parameters(rt: HostRuntime) -> Result<(), Fail> {
   | f(1, 2)
   |      ^
   = expected string, found a number
-  = a string stands in double quotes
+  = a string is written in double quotes
 "
     );
     let block = explained_call(rt.alloc(), &func, "f(1)")?;
