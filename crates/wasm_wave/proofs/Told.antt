@@ -14,7 +14,7 @@ use Rattle.wave_grammar.specs.NodeTree.{NodeTree}
 use Rattle.wave_grammar.specs.ErrorSpans.{LiesInNode}
 use Rattle.wave_tree.specs.UntypedCall.{Called, IsCalledOf, IsNoCall}
 use Rattle.wasm_wave.specs.EscapeMarks.{IsSyntaxMark}
-use Rattle.wasm_wave.specs.ValueExplained.{is_of_type, TellsPart, IsWithin, IsUnexpected}
+use Rattle.wasm_wave.specs.ValueExplained.{is_of_type, TellsPart, IsPartMark, IsUnexpected}
 use Rattle.wasm_wave.specs.CallExplained.{name_or_number, Gives, TellsParameter, HasNoParameter, TellsExpectedInCall}
 
 -- the same is told of an equal node, by an equal path and equal lines
@@ -73,7 +73,7 @@ module _ {S : Type 0} (tree : S → TypeTree) where
 -- what a block of a call tells by its path and its lines
 abbrev pub Tells : List ℕ → Func → Diagnostic → Range ℕ → List ℕ → List ℕ → Type 0
 Tells source f e mark path lines =
-    TellsParameter source f e.span path lines × IsWithin e.span mark
+    TellsParameter source f e.span path lines × IsPartMark source e.span mark
     ⊎ (path ≡ []) × HasNoParameter e.kind source f.params e.span × IsSyntaxMark source e mark × (IsUnexpected e.kind → TellsExpectedInCall source e.span.start lines)
 
 -- the same is told by an equal path and equal lines

@@ -12,7 +12,7 @@ use Rattle.wave_tree.specs.declared.expected.Expected.{Expected}
 use Rattle.wave_tree.specs.Expected.{IsExpectedInCall, IsWithoutName}
 use Rattle.wave_tree.specs.UntypedCall.{Called, IsCalledOf, IsNoCall}
 use Rattle.wasm_wave.specs.EscapeMarks.{IsSyntaxMark}
-use Rattle.wasm_wave.specs.ValueExplained.{is_of_type, TellsPart, IsWithin, IsBlock, IsUnexpected, TellsExpected, IsSyntaxExplained}
+use Rattle.wasm_wave.specs.ValueExplained.{is_of_type, TellsPart, IsPartMark, IsBlock, IsUnexpected, TellsExpected, IsSyntaxExplained}
 
 -- the call gives the value of this node to the parameter at index i
 abbrev pub Gives : Called → ℕ → NodeTree → Type 0
@@ -67,7 +67,7 @@ pub record IsCallExplained (source : List ℕ) (f : Func) (e : Diagnostic) (text
   pub path : List ℕ
   pub lines : List ℕ
   pub told :
-      TellsParameter source f e.span path lines × IsWithin e.span mark
+      TellsParameter source f e.span path lines × IsPartMark source e.span mark
       ⊎ (path ≡ []) × HasNoParameter e.kind source f.params e.span × IsSyntaxMark source e mark
       × (IsUnexpected e.kind → TellsExpectedInCall source e.span.start lines)
   pub block : IsBlock source (error_text e) mark path lines text

@@ -7,6 +7,7 @@ use Rattle.wave_lex.specs.Tokens.{backslash, single_quote, double_quote, line_fe
 use Rattle.wave_lex.specs.Strings.{IsEscape, UnescapesTo}
 use Rattle.wave_lex.specs.Errors.{Diagnostic}
 use Rattle.wave_lex.specs.declared.error.ParserErrorKind.TheVariants.{InvalidToken}
+use Rattle.wasm_wave.specs.WordMarks.{IsWordMark}
 
 -- what may stand behind an opening quote: an escape, or a byte that is neither the quote, nor `\`, nor LF
 abbrev pub IsInside : ℕ → List ℕ → Type 0
@@ -30,6 +31,7 @@ pub record IsEscapeMark (source : List ℕ) (place : ℕ) (mark : Range ℕ) : T
   pub start : mark.start ≡ place + 1 + length run
   pub end : mark.end ≡ mark.start + 1 + length (encode_utf8 scalar)
 
--- what is marked of a refusal of syntax: its span; or, where no token begins at a quote, an escape that there isn't
+-- what is marked of a refusal of syntax: its span; or, where no token begins at a quote, an escape that there isn't; or the whole word
+-- that holds the span
 abbrev pub IsSyntaxMark : List ℕ → Diagnostic → Range ℕ → Type 0
-IsSyntaxMark source e mark = (mark ≡ e.span) ⊎ (e.kind ≡ InvalidToken) × IsEscapeMark source e.span.start mark
+IsSyntaxMark source e mark = (mark ≡ e.span) ⊎ (e.kind ≡ InvalidToken) × IsEscapeMark source e.span.start mark ⊎ IsWordMark source e.span mark

@@ -2,6 +2,7 @@ pub mod MainTheorem
 pub mod Places
 pub mod Shown
 pub mod Paths
+pub mod WordMarks
 pub mod EscapeMarks
 pub mod ValueExplained
 pub mod CallExplained

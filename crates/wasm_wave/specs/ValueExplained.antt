@@ -18,6 +18,7 @@ use Rattle.wave_tree.specs.Untyped.{Untyped, IsUntypedTaken}
 use Rattle.wasm_wave.specs.Places.{IsPlaceNear, IsMarked}
 use Rattle.wasm_wave.specs.Shown.{shown_lines}
 use Rattle.wasm_wave.specs.Paths.{Step, IsPartAt, shown_first, path_text}
+use Rattle.wasm_wave.specs.WordMarks.{IsWordMark}
 use Rattle.wasm_wave.specs.EscapeMarks.{IsSyntaxMark}
 
 -- the kinds that tell a fault of a value at its type
@@ -61,6 +62,10 @@ TellsPartOfValue source span T path lines = (u : Untyped) × IsFront source u ×
 -- what is marked is the span, or a name within it
 abbrev pub IsWithin : Range ℕ → Range ℕ → Type 0
 IsWithin span mark = (mark ≡ span) ⊎ (span.start ≤ mark.start) × (mark.start ≤ mark.end) × (mark.end ≤ span.end)
+
+-- or the whole word that holds the span
+abbrev pub IsPartMark : List ℕ → Range ℕ → Range ℕ → Type 0
+IsPartMark source span mark = IsWithin span mark ⊎ IsWordMark source span mark
 
 -- `, at ` before a path, where there is one
 abbrev pub before_path : List ℕ → List ℕ
@@ -121,6 +126,6 @@ pub record IsValueExplained (source : List ℕ) (T : TypeTree) (e : Diagnostic) 
   pub path : List ℕ
   pub lines : List ℕ
   pub told :
-      TellsPartOfValue source e.span T path lines × IsWithin e.span mark
+      TellsPartOfValue source e.span T path lines × IsPartMark source e.span mark
       ⊎ (path ≡ []) × HasNoPart e.kind source × IsSyntaxMark source e mark × (IsUnexpected e.kind → TellsExpectedAt source e.span.start lines)
   pub block : IsBlock source (error_text e) mark path lines text

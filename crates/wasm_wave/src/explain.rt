@@ -23,6 +23,7 @@ mod params;
 mod path;
 mod syntax;
 mod value;
+mod word;
 
 pub use call::{explain_call, explain_untyped_call};
 pub use value::{explain_untyped, explain_value};

@@ -9,7 +9,7 @@ ghost use Rattle.wave_grammar.specs.ErrorSpans.{LiesInNode};
 ghost use Rattle.wave_grammar.specs.TypedReading.{IsValueOf};
 ghost use Rattle.wave_tree.specs.UntypedCall.{IsCalledOf, IsNoCall};
 ghost use Rattle.wasm_wave.specs.EscapeMarks.{IsSyntaxMark};
-ghost use Rattle.wasm_wave.specs.ValueExplained.{is_of_type, IsWithin, IsUnexpected};
+ghost use Rattle.wasm_wave.specs.ValueExplained.{is_of_type, IsPartMark, IsUnexpected};
 ghost use Rattle.wasm_wave.specs.CallExplained.{Gives, parameter_text, TellsParameter, HasNoParameter, TellsExpectedInCall, IsCallExplained, IsUntypedCallExplained};
 
 use super::params::params_lines;
@@ -165,7 +165,7 @@ fn tell_params<F: WasmFunc>(
     requires lines { string_bytes lines.old ≡ [] }
     requires call { IsCalledOf source.now call.now }
     requires kind { IsUnexpected error.now.kind → ⊥ }
-    ensures { IfOk result (λ mark. TellsParameter source.now (F.func func.now) error.now.span (string_bytes path.new) (string_bytes lines.new) × IsWithin error.now.span mark
+    ensures { IfOk result (λ mark. TellsParameter source.now (F.func func.now) error.now.span (string_bytes path.new) (string_bytes lines.new) × IsPartMark source.now error.now.span mark
         ⊎ (string_bytes path.new ≡ []) × HasNoParameter error.now.kind source.now (F.func func.now).params error.now.span × IsSyntaxMark source.now error.now mark
         × (IsUnexpected error.now.kind → TellsExpectedInCall source.now error.now.span.start (string_bytes lines.new))) }
 {

@@ -4,20 +4,23 @@ ghost use Rattle.wave_lex.specs.Tokens.{backslash, single_quote, double_quote};
 ghost use Rattle.wave_lex.specs.Strings.{UnescapesTo};
 ghost use Rattle.wasm_wave.specs.EscapeMarks.{IsRun, IsEscapeMark, IsSyntaxMark};
 
+use super::word::wrong_word;
 use wave_lex::error::{ParserError, ParserErrorKind};
 use wave_lex::lex::Span;
 use wave_lex::strings::unescape;
 
 /// What is marked of a refusal of syntax: its span; or, where no token begins at a quote, the first escape
-/// behind it that there isn't.
+/// after it that there isn't; or the whole word that holds the span, where that is wrong.
 pub(crate) fn syntax_mark(error: &ParserError, source: &str) -> Span
     ensures { IsSyntaxMark source.now error.now result }
 {
     let span = error.span();
-    if error.kind() != ParserErrorKind::InvalidToken {
-        return span;
+    if error.kind() == ParserErrorKind::InvalidToken {
+        if let Some(mark) = unknown_escape(source, span.start) {
+            return mark;
+        }
     }
-    match unknown_escape(source, span.start) {
+    match wrong_word(source, &span) {
         Some(mark) => mark,
         None => span,
     }

@@ -1,7 +1,7 @@
 //! How a fault of a value at its type may be mended.
 use super::names::push_names;
 use super::path::{push_first, type_of_field};
-use super::syntax::broken_word;
+use super::word::word_hint;
 use crate::ast::{Node, NodeType};
 use crate::wasm::{DisplayType, WasmType, WasmTypeKind, WasmValueError};
 use std::alloc::{AllocError, Global};
@@ -30,7 +30,7 @@ pub(crate) fn hints_of<T: WasmType>(
     node: &Node,
     ty: &T,
 ) -> Result<Hints, AllocError> {
-    let broken = broken_word(alloc, source, node)?;
+    let broken = word_hint(alloc, source, &node.span())?;
     if !broken.is_empty() {
         return alone(broken);
     }

@@ -6,9 +6,9 @@ ghost use Rattle.wasm_wave.specs.Private.Readings.{MayStandAs, TellsAs};
 
 use super::due::push_line;
 use super::escape::unknown_escape;
-use super::hints::{ESCAPES, NO_NULL, line, push_hint};
+use super::hints::{ESCAPES, line, push_hint};
 use super::is_invisible;
-use crate::ast::{Node, NodeType};
+use super::word::word_hint;
 use crate::expected::{Expected, expected_at, expected_in_call_at};
 use crate::parser::MAX_LEVELS;
 use crate::place::place_of;
@@ -123,8 +123,8 @@ fn syntax_hint(
         ParserErrorKind::EmptyTuple => line(alloc, "a tuple has at least one item"),
         ParserErrorKind::DuplicateFlag => line(alloc, "a flag may be given only once"),
         ParserErrorKind::OutOfMemory => line(alloc, ""),
-        ParserErrorKind::InvalidToken => invalid_token(alloc, source, error.span().start),
-        _ => beside_word(alloc, source, error.span().start),
+        ParserErrorKind::InvalidToken => invalid_token(alloc, source, &error.span()),
+        _ => beside_word(alloc, source, &error.span()),
     }
 }
 
@@ -187,8 +187,8 @@ fn open_bracket(alloc: Global, source: &str, start: usize) -> Result<String, All
 // ---- invalid tokens
 
 /// What helps where no token begins.
-fn invalid_token(alloc: Global, source: &str, start: usize) -> Result<String, AllocError> {
-    let at = source.floor_char_boundary(start);
+fn invalid_token(alloc: Global, source: &str, span: &Span) -> Result<String, AllocError> {
+    let at = source.floor_char_boundary(span.start);
     let after = source.split_at(at).1;
     if after.starts_with("\"\"\"") {
         return line(
@@ -219,7 +219,7 @@ fn invalid_token(alloc: Global, source: &str, start: usize) -> Result<String, Al
             )?;
             Ok(lines)
         }
-        _ => beside_word(alloc, source, at),
+        _ => beside_word(alloc, source, span),
     }
 }
 
@@ -273,148 +273,13 @@ fn escape_hint(alloc: Global, source: &str, mark: Span) -> Result<String, AllocE
 // ---- words
 
 /// What helps with the word at the place, or with the parentheses around it.
-fn beside_word(alloc: Global, source: &str, start: usize) -> Result<String, AllocError> {
-    let at = source.floor_char_boundary(start);
-    let (before, after) = source.split_at(at);
+fn beside_word(alloc: Global, source: &str, span: &Span) -> Result<String, AllocError> {
+    let (before, after) = source.split_at(source.floor_char_boundary(span.start));
     if after.starts_with(')') && before.trim_end().ends_with('(') {
         return line(
             alloc,
             "the parentheses are empty: write a value in them, or the name without them",
         );
     }
-    word_hint(alloc, word_at(source, at))
-}
-
-/// The bytes around the place that may stand in a name or a number.
-fn word_at(source: &str, at: usize) -> &str {
-    let (before, after) = source.split_at(source.floor_char_boundary(at));
-    let start = before.len().saturating_sub(count_at_end(before));
-    let end = before.len().saturating_add(count_at_start(after));
-    source.get(start..end).unwrap_or("")
-}
-
-/// How many bytes at the end of the text may stand in a name or a number.
-fn count_at_end(text: &str) -> usize {
-    let mut count = 0_usize;
-    for byte in text.bytes() {
-        count = if is_of_word(byte) {
-            count.saturating_add(1)
-        } else {
-            0
-        };
-    }
-    count
-}
-
-/// How many bytes at the start of the text may stand in a name or a number.
-fn count_at_start(text: &str) -> usize {
-    let mut count = 0_usize;
-    for byte in text.bytes() {
-        if !is_of_word(byte) {
-            break;
-        }
-        count = count.saturating_add(1);
-    }
-    count
-}
-
-/// Whether the byte may stand in what is meant for a name or a number.
-fn is_of_word(byte: u8) -> bool {
-    byte.is_ascii_alphanumeric() || byte == b'_' || byte == b'-'
-}
-
-/// What helps with a word that a name is only the front of, as `not_found` and `None`.
-pub(crate) fn broken_word(alloc: Global, source: &str, node: &Node) -> Result<String, AllocError> {
-    let span = node.span();
-    let word = word_at(source, span.start);
-    if node.ty() == NodeType::Label && word.len() > span.end.saturating_sub(span.start) {
-        word_hint(alloc, word)
-    } else {
-        line(alloc, "")
-    }
-}
-
-/// What helps with a word.
-fn word_hint(alloc: Global, word: &str) -> Result<String, AllocError> {
-    let mut lines = String::new(alloc);
-    if word.starts_with(is_digit) {
-        return line(alloc, digits_hint(word));
-    }
-    if word == "Null" {
-        return line(alloc, NO_NULL);
-    }
-    match keyword_meant(word) {
-        Some(keyword) => push_hint(&mut lines, "keywords are in lower case: ", keyword, "")?,
-        None => {
-            let name = kebab(alloc, word)?;
-            if !word.is_empty() && name.as_str() != word && word_is_name(word) {
-                push_hint(&mut lines, "names are in kebab-case: ", name.as_str(), "")?;
-            }
-        }
-    }
-    Ok(lines)
-}
-
-/// Whether the scalar is a decimal digit.
-fn is_digit(scalar: char) -> bool {
-    scalar.is_ascii_digit()
-}
-
-/// What is wrong with a word that begins with a digit.
-fn digits_hint(word: &str) -> &'static str {
-    if word.starts_with("0x") || word.starts_with("0X") {
-        "numbers are written in decimal, not in hexadecimal"
-    } else if word.starts_with("0b") || word.starts_with("0o") {
-        "numbers are written in decimal, not in binary or octal"
-    } else if word.contains('_') {
-        "a number has no underscores"
-    } else if word.starts_with('0') && word.len() > 1 {
-        "a number has no leading zero"
-    } else {
-        ""
-    }
-}
-
-/// The keyword that the word is meant for.
-fn keyword_meant(word: &str) -> Option<&'static str> {
-    match word {
-        "None" => Some("none"),
-        "Some" => Some("some"),
-        "Ok" => Some("ok"),
-        "Err" => Some("err"),
-        "True" => Some("true"),
-        "False" => Some("false"),
-        _ => None,
-    }
-}
-
-/// Whether the word has letters of both cases in one part, or an underscore.
-fn word_is_name(word: &str) -> bool {
-    word.contains('_') || word.contains(is_capital)
-}
-
-/// Whether the scalar is a capital letter.
-fn is_capital(scalar: char) -> bool {
-    scalar.is_ascii_uppercase()
-}
-
-/// The name in kebab-case: words in small letters, parted by `-`.
-fn kebab(alloc: Global, word: &str) -> Result<String, AllocError> {
-    let mut name = String::new(alloc);
-    let mut small = false;
-    for scalar in word.chars() {
-        if scalar == '_' || scalar == '-' {
-            small = false;
-            if !name.is_empty() && !name.as_str().ends_with('-') {
-                name.push('-')?;
-            }
-        } else {
-            if scalar.is_ascii_uppercase() && small {
-                name.push('-')?;
-            }
-            small = !scalar.is_ascii_uppercase();
-            name.push(scalar.to_ascii_lowercase())?;
-        }
-    }
-    Ok(name)
+    word_hint(alloc, source, span)
 }

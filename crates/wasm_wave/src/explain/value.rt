@@ -4,7 +4,7 @@ ghost use Rattle.std.specs.String.{string_bytes};
 ghost use Rattle.wave_wasm.specs.Types.{TypeTree};
 ghost use Rattle.wave_lex.specs.Errors.{error_text};
 ghost use Rattle.wave_grammar.specs.TypedReading.{IsValueOf};
-ghost use Rattle.wasm_wave.specs.ValueExplained.{is_of_type, HasNoPart, IsFront, TellsPart, IsWithin, IsBlock, IsUntypedExplained, IsSyntaxExplained, IsValueExplained, heading_with_path, before_path};
+ghost use Rattle.wasm_wave.specs.ValueExplained.{is_of_type, HasNoPart, IsFront, TellsPart, IsPartMark, IsBlock, IsUntypedExplained, IsSyntaxExplained, IsValueExplained, heading_with_path, before_path};
 ghost use Rattle.wasm_wave.specs.Private.Readings.{TellsAs};
 
 use super::due::push_expected;
@@ -12,6 +12,7 @@ use super::escape::syntax_mark;
 use super::hints::hints_of;
 use super::path::part_at;
 use super::syntax::{Reading, syntax_lines};
+use super::word::wrong_word;
 use super::{marked_of, shown_lines};
 use crate::ast::Node;
 use crate::parser::{MAX_LEVELS, Parser};
@@ -37,8 +38,9 @@ use wave_lex::lex::Span;
 /// A path has `.name` for the value of a record's field and for the payload of a case, `.some`, `.ok` and
 /// `.err` for other payloads, `[0]` for an item of a list or a tuple, and `["key"]` for an entry of a map;
 /// it is empty for the whole value. Where the fault is a name within the place, as that of a field that
-/// the type hasn't, that name is marked. A type that takes more than 60 scalars is truncated. A refusal of
-/// syntax is explained as by `explain_untyped`.
+/// the type hasn't, that name is marked, and where the place is within a word that is wrong as a whole, as
+/// `True`, that word. A type that takes more than 60 scalars is truncated. A refusal of syntax is explained
+/// as by `explain_untyped`.
 ///
 /// The text is read anew, without a type, for the explanation. The error, the text and the type need not
 /// belong together: an explanation is always made, and the only error is out of memory.
@@ -85,7 +87,7 @@ fn explain_part<T: WasmType>(
 /// The refusal of a text that is read without a type, as by `UntypedValue::parse`: what `explain` shows,
 /// and beside it what might have stood there and hints how to mend it, on at most three lines that begin
 /// with `=`. In a string or a char an escape that there isn't is marked, with its place, and not the
-/// quote where no token begins:
+/// quote where no token begins; of a word that is wrong as a whole, as `0512`, all is marked:
 ///
 /// ```text
 /// unexpected token: Number at 3..4
@@ -187,24 +189,28 @@ pub(crate) fn tell_part<T: WasmType>(
     requires value { IsValueOf source.now node.now }
     ensures told { IfOk result (λ _. (way : List ℕ) × (string_bytes path.new ≡ string_bytes path.old ++ way)
         × TellsPart source.now error.now.span node.now (T.tree ty.now) way (string_bytes lines.new)) }
-    ensures within { IfOk result (λ mark. IsWithin error.now.span mark) }
+    ensures mark { IfOk result (λ mark. IsPartMark source.now error.now.span mark) }
 {
     let span = error.span();
     let part = part_at(alloc, source, node, ty, &span, path)?;
     push_expected(alloc, lines, error, part.0, part.1)?;
     let hints = hints_of(alloc, error, source, part.0, part.1)?;
     lines.push_str(hints.lines.as_str())?;
-    Ok(within(span, hints.mark))
+    Ok(part_mark(source, span, hints.mark))
 }
 
-/// The mark, where it lies within the span; else the span.
-fn within(span: Span, mark: Option<Span>) -> Span
-    ensures { IsWithin span result }
+/// The mark, where it lies within the span; else the word that holds the span, where that is wrong, or the
+/// span.
+fn part_mark(source: &str, span: Span, mark: Option<Span>) -> Span
+    ensures { IsPartMark source.now span result }
 {
     match mark {
         Some(mark) if span.start <= mark.start && mark.start <= mark.end && mark.end <= span.end =>
             mark,
-        _ => span,
+        _ => match wrong_word(source, &span) {
+            Some(word) => word,
+            None => span,
+        },
     }
 }
 

@@ -29,7 +29,7 @@ returns-in-Some g c =
         part = told.2;
       },
       within,
-    )) c.tell_part.ensures.told c.tell_part.ensures.within
+    )) c.tell_part.ensures.told c.tell_part.ensures.mark
 
 pub returns : goal.returns
 returns g c =
