@@ -1,13 +1,14 @@
 //! How a fault of a value at its type may be mended.
+use super::forms::form_hint;
 use super::names::push_names;
+use super::own::{own_line, own_or_line, whole_number, word_before};
 use super::path::{push_first, type_of_field};
 use super::word::word_hint;
-use crate::ast::{Node, NodeType};
+use crate::ast::Node;
 use crate::wasm::{DisplayType, WasmType, WasmTypeKind, WasmValueError};
 use std::alloc::{AllocError, Global};
 use wave_lex::error::{ParserError, ParserErrorKind};
 use wave_lex::lex::{Lexer, Span, Token};
-use wave_wasm::keyword::Keyword;
 
 /// How many scalars of a name or a type are shown.
 const SHOWN: usize = 40;
@@ -38,13 +39,13 @@ pub(crate) fn hints_of<T: WasmType>(
         Some(WasmValueError::UnknownCase(name)) => {
             unknown_name(alloc, name.as_str(), source, node, ty)
         }
-        Some(cause) => alone(hints_of_cause(alloc, cause, ty)?),
+        Some(cause) => alone(hints_of_cause(alloc, cause, text_of(source, node), ty)?),
         None => match error.kind() {
             ParserErrorKind::InvalidValue => match ty.kind() {
                 WasmTypeKind::Record => unknown_field(alloc, source, node, ty),
-                kind => alone(line(alloc, number_hint(text_of(source, node), kind))?),
+                kind => alone(number_hint(alloc, text_of(source, node), kind)?),
             },
-            ParserErrorKind::InvalidType => alone(form_hint(alloc, source, node, ty)?),
+            ParserErrorKind::InvalidType => alone(form_hint(alloc, error, source, node, ty)?),
             ParserErrorKind::InvalidEscape => alone(line(alloc, ESCAPES)?),
             ParserErrorKind::DuplicateField => {
                 alone(line(alloc, "a field may be given only once")?)
@@ -55,7 +56,7 @@ pub(crate) fn hints_of<T: WasmType>(
 }
 
 /// The text at the node.
-fn text_of<'source>(source: &'source str, node: &Node) -> &'source str {
+pub(crate) fn text_of<'source>(source: &'source str, node: &Node) -> &'source str {
     let span = node.span();
     source.get(span.start..span.end).unwrap_or("")
 }
@@ -167,7 +168,7 @@ fn is_label(item: &Result<Token, Span>) -> bool {
 }
 
 /// The name of a label.
-fn without_percent(label: &str) -> &str {
+pub(crate) fn without_percent(label: &str) -> &str {
     label.strip_prefix('%').unwrap_or(label)
 }
 
@@ -196,42 +197,36 @@ fn case_names<T: WasmType>(alloc: Global, ty: &T) -> Result<Vec<&str>, AllocErro
 
 // ---- causes
 
-/// What helps where the value could not be made.
+/// What helps where the value of this text could not be made.
 fn hints_of_cause<T: WasmType>(
     alloc: Global,
     cause: &WasmValueError,
+    text: &str,
     ty: &T,
 ) -> Result<String, AllocError> {
-    let mut lines = String::new(alloc);
     match cause {
-        WasmValueError::MissingField(name) => push_missing(alloc, &mut lines, name.as_str(), ty)?,
+        WasmValueError::MissingField(name) => {
+            let mut lines = String::new(alloc);
+            push_missing(alloc, &mut lines, name.as_str(), ty)?;
+            Ok(lines)
+        }
         WasmValueError::MissingPayload(name) => {
-            push_hint(
-                &mut lines,
-                "the payload is written in parentheses: ",
-                name.as_str(),
-                "(..)",
-            )?;
+            let kind = payload_kind(alloc, ty, name.as_str())?;
+            own_line(alloc, "write ", "", text, empty_payload(kind))
         }
-        WasmValueError::UnexpectedPayload(name) => {
-            push_hint(
-                &mut lines,
-                "write ",
-                name.as_str(),
-                " alone, without a payload",
-            )?;
-        }
-        WasmValueError::UnsupportedType(_) => {
-            push_hint(
-                &mut lines,
-                "floats are not supported: no value of this type can be read",
-                "",
-                "",
-            )?;
-        }
-        _ => {}
+        WasmValueError::UnexpectedPayload(_) => own_line(
+            alloc,
+            "write ",
+            "",
+            word_before(text),
+            " alone, without a payload",
+        ),
+        WasmValueError::UnsupportedType(_) => line(
+            alloc,
+            "floats are not supported: no value of this type can be read",
+        ),
+        _ => line(alloc, ""),
     }
-    Ok(lines)
 }
 
 /// Adds the field that is missing, and its type.
@@ -252,163 +247,74 @@ fn push_missing<T: WasmType>(
     lines.push_str(" is missing\n")
 }
 
+/// The kind of the payload of the case of this name, or of `ok` or `err`.
+fn payload_kind<T: WasmType>(
+    alloc: Global,
+    ty: &T,
+    name: &str,
+) -> Result<Option<WasmTypeKind>, AllocError> {
+    let payload = match ty.result_types() {
+        Some((ok, err)) => if name == "ok" { ok } else { err },
+        None => match ty.kind() {
+            WasmTypeKind::Variant => match ty.variant_case(alloc, name)? {
+                Some((_, payload)) => payload,
+                None => None,
+            },
+            _ => None,
+        },
+    };
+    match payload {
+        Some(payload) => Ok(Some(payload.kind())),
+        None => Ok(None),
+    }
+}
+
+/// How a payload of the kind is written, with `..` for what is in it.
+fn empty_payload(kind: Option<WasmTypeKind>) -> &'static str {
+    match kind {
+        Some(WasmTypeKind::List | WasmTypeKind::FixedLengthList) => "([..])",
+        Some(WasmTypeKind::Tuple) => "((..))",
+        Some(WasmTypeKind::Record | WasmTypeKind::Map | WasmTypeKind::Flags) => "({..})",
+        Some(WasmTypeKind::String) => "(\"..\")",
+        _ => "(..)",
+    }
+}
+
 // ---- numbers
 
 /// What is wrong with the text of a number.
-fn number_hint(text: &str, kind: WasmTypeKind) -> &'static str {
+fn number_hint(alloc: Global, text: &str, kind: WasmTypeKind) -> Result<String, AllocError> {
     if text.contains("inf") || text.contains("nan") {
-        "inf and nan are not whole numbers"
+        line(alloc, "inf and nan are not whole numbers")
     } else if text.contains('.') || text.contains('e') || text.contains('E') {
-        "a whole number is written without a fraction or an exponent"
+        own_or_line(
+            alloc,
+            "a whole number is written without a fraction or an exponent: ",
+            "",
+            without_zeros(text),
+            "",
+        )
     } else if text.starts_with('-') && is_unsigned(kind) {
-        "an unsigned number has no minus sign"
+        line(alloc, "an unsigned number has no minus sign")
     } else {
-        ""
+        line(alloc, "")
+    }
+}
+
+/// The number before a fraction of zeros alone.
+fn without_zeros(text: &str) -> Option<&str> {
+    let (number, fraction) = text.split_once('.')?;
+    if fraction.trim_matches('0').is_empty() {
+        whole_number(number)
+    } else {
+        None
     }
 }
 
 /// Whether the numbers of the type have no sign.
-fn is_unsigned(kind: WasmTypeKind) -> bool {
+pub(crate) fn is_unsigned(kind: WasmTypeKind) -> bool {
     matches!(
         kind,
         WasmTypeKind::U8 | WasmTypeKind::U16 | WasmTypeKind::U32 | WasmTypeKind::U64
     )
-}
-
-// ---- forms
-
-/// What helps where a value of another form is due.
-fn form_hint<T: WasmType>(
-    alloc: Global,
-    source: &str,
-    node: &Node,
-    ty: &T,
-) -> Result<String, AllocError> {
-    let text = text_of(source, node);
-    match ty.kind() {
-        WasmTypeKind::Variant | WasmTypeKind::Enum => case_hint(alloc, text, node.ty(), ty),
-        WasmTypeKind::Result => line(alloc, result_hint(ty)),
-        kind => line(alloc, plain_hint(text, node.ty(), kind)),
-    }
-}
-
-/// What helps where a case is due: a keyword that is the name of one takes a `%`.
-fn case_hint<T: WasmType>(
-    alloc: Global,
-    text: &str,
-    form: NodeType,
-    ty: &T,
-) -> Result<String, AllocError> {
-    let word = first_word(text);
-    if Keyword::decode(word).is_some() && has_case(alloc, ty, word)? {
-        return format!(in alloc;
-            "  = {word} is a keyword: write %{word} for the case of that name\n"
-        );
-    }
-    line(
-        alloc,
-        match form {
-            NodeType::String | NodeType::MultilineString => "a case is written without quotes",
-            NodeType::VariantWithPayload => "a case of an enum has no payload",
-            _ => "",
-        },
-    )
-}
-
-/// Whether the type has a case of this name.
-fn has_case<T: WasmType>(alloc: Global, ty: &T, name: &str) -> Result<bool, AllocError> {
-    match ty.kind() {
-        WasmTypeKind::Enum => ty.has_enum_case(alloc, name),
-        _ => Ok(ty.variant_case(alloc, name)?.is_some()),
-    }
-}
-
-/// The small letters that the text begins with.
-fn first_word(text: &str) -> &str {
-    match text.find('(') {
-        Some(end) => text.split_at(end).0.trim_end(),
-        None => text,
-    }
-}
-
-/// How a result is written.
-fn result_hint<T: WasmType>(ty: &T) -> &'static str {
-    match ty.result_types() {
-        Some((Some(_), Some(_))) => "a result is written ok(..) or err(..)",
-        Some((Some(_), None)) => "a result is written ok(..) or err",
-        Some((None, Some(_))) => "a result is written ok or err(..)",
-        _ => "a result is written ok or err",
-    }
-}
-
-/// What helps at other types.
-fn plain_hint(text: &str, form: NodeType, kind: WasmTypeKind) -> &'static str {
-    match form {
-        NodeType::Label => label_hint(text, kind),
-        NodeType::String | NodeType::MultilineString => string_hint(kind),
-        NodeType::EmptySet if kind == WasmTypeKind::Record => "an empty record is written {:}",
-        NodeType::TupleSet if kind == WasmTypeKind::Flags => flags_hint(text),
-        NodeType::Flags if kind == WasmTypeKind::Record => "each field has a value: {name: value}",
-        NodeType::Flags if kind == WasmTypeKind::Map => "each key has a value: {key: value}",
-        NodeType::Tuple if is_list(kind) => "a list is written in brackets: [..]",
-        NodeType::List if kind == WasmTypeKind::Tuple => "a tuple is written in parentheses: (..)",
-        NodeType::List if kind == WasmTypeKind::Map => "a map is written in braces: {key: value}",
-        NodeType::List if kind == WasmTypeKind::Flags =>
-            "flags are written in braces: {name, name}",
-        _ => other_hint(kind),
-    }
-}
-
-/// What helps where a name stands.
-fn label_hint(text: &str, kind: WasmTypeKind) -> &'static str {
-    match text {
-        "null" | "NULL" | "nil" | "NIL" | "NONE" => NO_NULL,
-        "TRUE" | "YES" | "ON" | "yes" | "on" if kind == WasmTypeKind::Bool =>
-            "a bool is written true or false",
-        "FALSE" | "NO" | "OFF" | "no" | "off" if kind == WasmTypeKind::Bool =>
-            "a bool is written true or false",
-        _ => other_hint(kind),
-    }
-}
-
-/// What helps where a string stands.
-fn string_hint(kind: WasmTypeKind) -> &'static str {
-    match kind {
-        WasmTypeKind::Bool => "a bool is written without quotes",
-        WasmTypeKind::Char => "a char is written in single quotes",
-        kind if is_whole(kind) => "a number is written without quotes",
-        kind => other_hint(kind),
-    }
-}
-
-/// What helps where entries stand in place of flags.
-fn flags_hint(text: &str) -> &'static str {
-    if text.contains(',') || text.len() > 3 {
-        "flags are names, without values: {name, name}"
-    } else {
-        "empty flags are written {}"
-    }
-}
-
-/// What helps at a type, whatever stands there.
-fn other_hint(kind: WasmTypeKind) -> &'static str {
-    match kind {
-        WasmTypeKind::String => "a string is written in double quotes",
-        WasmTypeKind::Char => "a char is written in single quotes",
-        WasmTypeKind::Option => "this option is written some(..) or none",
-        _ => "",
-    }
-}
-
-/// Whether values of the kind are lists.
-fn is_list(kind: WasmTypeKind) -> bool {
-    matches!(kind, WasmTypeKind::List | WasmTypeKind::FixedLengthList)
-}
-
-/// Whether values of the kind are whole numbers.
-fn is_whole(kind: WasmTypeKind) -> bool {
-    matches!(
-        kind,
-        WasmTypeKind::S8 | WasmTypeKind::S16 | WasmTypeKind::S32 | WasmTypeKind::S64
-    ) || is_unsigned(kind)
 }

@@ -3,6 +3,7 @@ ghost use Rattle.std.specs.Prelude.{ℕ, ◌≡◌, ◌≤◌, ◌<◌, ◌-◌,
 ghost use Rattle.wasm_wave.specs.WordMarks.{IsOfWord, IsWordMark};
 
 use super::hints::{NO_NULL, line, push_hint};
+use super::own::{are_digits, own_or_line, whole_number};
 use std::alloc::{AllocError, Global};
 use wave_lex::lex::Span;
 
@@ -13,7 +14,7 @@ pub(crate) fn word_hint(alloc: Global, source: &str, span: &Span) -> Result<Stri
         None => "",
     };
     if word.starts_with(is_digit) {
-        return line(alloc, digits_hint(word));
+        return number_hint(alloc, word);
     }
     if word == "Null" {
         return line(alloc, NO_NULL);
@@ -101,7 +102,7 @@ fn is_of_word(byte: u8) -> bool
 /// Whether the word is neither a number nor a name.
 fn is_wrong(word: &str) -> bool {
     if word.starts_with(is_digit) {
-        !digits_hint(word).is_empty()
+        NumberFault::of(word).is_some()
     } else {
         word.contains('_') || word.split('-').any(is_mixed)
     }
@@ -128,17 +129,106 @@ fn is_digit(scalar: char) -> bool {
 }
 
 /// What is wrong with a word that begins with a digit.
-fn digits_hint(word: &str) -> &'static str {
-    if word.starts_with("0x") || word.starts_with("0X") {
-        "numbers are written in decimal, not in hexadecimal"
-    } else if word.starts_with("0b") || word.starts_with("0o") {
-        "numbers are written in decimal, not in binary or octal"
-    } else if word.contains('_') {
-        "a number has no underscores"
-    } else if word.starts_with('0') && word.len() > 1 {
-        "a number has no leading zero"
-    } else {
-        ""
+#[derive(Clone, Copy)]
+enum NumberFault {
+    /// It is written with a base: 16, 8 or 2.
+    Base(u32),
+    /// It has an underscore.
+    Underscore,
+    /// It has a zero before other digits.
+    LeadingZero,
+}
+
+impl NumberFault {
+    /// That of the word, where it is one of these.
+    fn of(word: &str) -> Option<NumberFault> {
+        if word.starts_with("0x") || word.starts_with("0X") {
+            Some(NumberFault::Base(16))
+        } else if word.starts_with("0b") || word.starts_with("0B") {
+            Some(NumberFault::Base(2))
+        } else if word.starts_with("0o") || word.starts_with("0O") {
+            Some(NumberFault::Base(8))
+        } else if word.contains('_') {
+            Some(NumberFault::Underscore)
+        } else if word.starts_with('0') && word.len() > 1 && are_digits(word) {
+            Some(NumberFault::LeadingZero)
+        } else {
+            None
+        }
+    }
+}
+
+/// What is wrong with a word that begins with a digit, and the number as it is to be written.
+fn number_hint(alloc: Global, word: &str) -> Result<String, AllocError> {
+    match NumberFault::of(word) {
+        Some(NumberFault::Base(16)) => {
+            based_hint(
+                alloc,
+                word,
+                "numbers are written in decimal, not in hexadecimal: ",
+                16,
+            )
+        }
+        Some(NumberFault::Base(8)) => {
+            based_hint(
+                alloc,
+                word,
+                "numbers are written in decimal, not in octal: ",
+                8,
+            )
+        }
+        Some(NumberFault::Base(_)) => {
+            based_hint(
+                alloc,
+                word,
+                "numbers are written in decimal, not in binary: ",
+                2,
+            )
+        }
+        Some(NumberFault::Underscore) => {
+            let number = without_underscores(alloc, word)?;
+            own_or_line(
+                alloc,
+                "a number has no underscores: ",
+                "",
+                whole_number(number.as_str()),
+                "",
+            )
+        }
+        Some(NumberFault::LeadingZero) => {
+            let digits = word.trim_start_matches('0');
+            let number = if digits.is_empty() { "0" } else { digits };
+            own_or_line(
+                alloc,
+                "a number has no leading zero: ",
+                "",
+                Some(number),
+                "",
+            )
+        }
+        None => line(alloc, ""),
+    }
+}
+
+/// The word without its underscores.
+fn without_underscores(alloc: Global, word: &str) -> Result<String, AllocError> {
+    let mut number = String::new(alloc);
+    for part in word.split('_') {
+        number.push_str(part)?;
+    }
+    Ok(number)
+}
+
+/// The hint, and the number that the digits after the first two bytes of the word have in this base.
+fn based_hint(alloc: Global, word: &str, hint: &str, base: u32) -> Result<String, AllocError>
+    requires { (2 ≤ base) × (base ≤ 36) }
+{
+    match u64::from_str_radix(word.get(2..).unwrap_or(""), base) {
+        Ok(number) => {
+            let text = format!(in alloc; "{number}")?;
+            own_or_line(alloc, hint, "", Some(text.as_str()), "")
+        }
+        Err(_) => own_or_line(alloc, hint, "", None, ""),
     }
 }
 

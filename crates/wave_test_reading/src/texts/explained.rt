@@ -59,21 +59,21 @@ const HINTS: [(&str, &str, &str); 23] = [
         "enum { ok, failed }",
         "ok",
         "  = expected enum { ok, failed }, found ok
-  = ok is a keyword: write %ok for the case of that name
+  = ok is a keyword: write %ok
 ",
     ),
     (
         "variant { body(u8), err(string) }",
         "err(\"x\")",
         "  = expected variant { body(u8), err(string) }, found err
-  = err is a keyword: write %err for the case of that name
+  = err is a keyword: write %err(\"x\")
 ",
     ),
     (
         "variant { body(u8) }",
         "body",
         "  = expected variant { body(u8) }
-  = the payload is written in parentheses: body(..)
+  = write body(..)
 ",
     ),
     (
@@ -161,14 +161,14 @@ const HINTS: [(&str, &str, &str); 23] = [
         "tuple<u8>",
         "[1]",
         "  = expected tuple<u8>, found a list
-  = a tuple is written in parentheses: (..)
+  = a tuple is written in parentheses: (1)
 ",
     ),
     (
         "list<u8>",
         "(1)",
         "  = expected list<u8>, found a tuple
-  = a list is written in brackets: [..]
+  = a list is written in brackets: [1]
 ",
     ),
     (
@@ -181,7 +181,7 @@ const HINTS: [(&str, &str, &str); 23] = [
         "enum { red }",
         "\"red\"",
         "  = expected enum { red }, found a string
-  = a case is written without quotes
+  = a case is written without quotes: red
 ",
     ),
 ];
@@ -206,7 +206,7 @@ const CALLS: [(&str, &str, &str); 2] = [
   |   2)
   |   ^
   = expected string, found a number
-  = a string is written in double quotes
+  = a string is written in double quotes: \"2\"
 ",
     ),
 ];
@@ -280,7 +280,7 @@ fn unnamed_parameters(rt: HostRuntime) -> Result<(), Fail> {
   | f(1, 2)
   |      ^
   = expected string, found a number
-  = a string is written in double quotes
+  = a string is written in double quotes: \"2\"
 "
     );
     let block = explained_call(rt.alloc(), &func, "f(1)")?;
