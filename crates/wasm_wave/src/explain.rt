@@ -20,6 +20,7 @@ mod escape;
 mod forms;
 mod hints;
 mod names;
+mod open;
 mod own;
 mod params;
 mod path;

@@ -12,10 +12,11 @@ ghost use Rattle.wasm_wave.specs.EscapeMarks.{IsSyntaxMark};
 ghost use Rattle.wasm_wave.specs.ValueExplained.{is_of_type, IsPartMark, IsUnexpected};
 ghost use Rattle.wasm_wave.specs.CallExplained.{Gives, parameter_text, TellsParameter, HasNoParameter, TellsExpectedInCall, IsCallExplained, IsUntypedCallExplained};
 
+use super::open::open_line_in_call;
 use super::params::params_lines;
 use super::path::item_at;
 use super::syntax::Reading;
-use super::value::{block, explain_syntax, is_of_type, tell_part};
+use super::value::{block, explain_syntax, first_refused, is_of_type, tell_part};
 use crate::ast::Node;
 use crate::untyped::UntypedFuncCall;
 use crate::wasm::WasmFunc;
@@ -40,7 +41,8 @@ use wave_lex::lex::Span;
 /// A path begins with the parameter's name, or with its number, counted from 1, where the function gives
 /// no names, as `parameter 2`; the rest is as that of `explain_value`. Where there are too few values or
 /// too many, there is no path, and the lines say which parameter is missing, and which there are. A
-/// refusal of syntax is explained as by `explain_untyped_call`.
+/// refusal of syntax is explained as by `explain_untyped_call`, with a line for the path and the type where
+/// it is within the value of a parameter.
 ///
 /// The text is read anew, without types, for the explanation. The error, the text and the function need
 /// not belong together: an explanation is always made, and the only error is out of memory.
@@ -78,7 +80,7 @@ pub fn explain_untyped_call(
 ) -> Result<String, AllocError>
     ensures { IfOk result (λ text. IsUntypedCallExplained source.now error.now (string_bytes text)) }
 {
-    explain_syntax(alloc, error, source, Reading::Call)
+    explain_syntax(alloc, error, source, Reading::Call, "")
 }
 
 /// The explanation by the call that the source is.
@@ -117,7 +119,9 @@ fn explain_call_alone<F: WasmFunc>(
     requires { (is_of_type error.now.kind ≡ false) ⊎ IsNoCall source.now }
     ensures { IfOk result (λ text. IsCallExplained source.now (F.func func.now) error.now (string_bytes text)) }
 {
-    explain_untyped_call(alloc, error, source)
+    let at = first_refused(error, source);
+    let more = open_line_in_call(alloc, error.kind(), source, at, func)?;
+    explain_syntax(alloc, error, source, Reading::Call, more.as_str())
 }
 
 /// The call that the source is, read without types, where the refusal tells a fault of its parameters.
@@ -211,7 +215,11 @@ fn value_at<'a>(
 }
 
 /// Adds which parameter it is.
-fn push_parameter(path: &mut String, names: &Vec<&str>, i: usize) -> Result<(), AllocError>
+pub(crate) fn push_parameter(
+    path: &mut String,
+    names: &Vec<&str>,
+    i: usize,
+) -> Result<(), AllocError>
     requires { i + 1 < 2 ^ 64 }
     ensures { IfOk result (λ _. string_bytes path.new ≡ string_bytes path.old ++ parameter_text (texts names.now.items) i) }
 {

@@ -299,7 +299,7 @@ fn step_to_case<'a, T: WasmType>(
 }
 
 /// The payload's type of the first case of this name.
-fn type_of_case<'a, T: WasmType>(
+pub(crate) fn type_of_case<'a, T: WasmType>(
     alloc: Global,
     ty: &'a T,
     name: &str,
@@ -419,7 +419,7 @@ fn stands_alone(node: &Node) -> bool
 }
 
 /// The type of a payload that may stand alone.
-fn type_alone<T: WasmType>(ty: &T) -> Option<&T>
+pub(crate) fn type_alone<T: WasmType>(ty: &T) -> Option<&T>
     ensures none { IfNone result ((U : TypeTree) → HoldsAlone (T.tree ty.now) U → ⊥) }
     ensures some { IfSome result (λ t. HoldsAlone (T.tree ty.now) (T.tree t.now)) }
 {
@@ -499,7 +499,7 @@ fn holds(node: &Node, span: &Span) -> bool
 }
 
 /// Adds the step to an item.
-fn push_item(path: &mut String, i: usize) -> Result<(), AllocError>
+pub(crate) fn push_item(path: &mut String, i: usize) -> Result<(), AllocError>
     ensures { IfOk result (λ _. string_bytes path.new ≡ string_bytes path.old ++ step.step_text (step.item i)) }
 {
     match write!(path, "[{i}]") {
@@ -509,7 +509,7 @@ fn push_item(path: &mut String, i: usize) -> Result<(), AllocError>
 }
 
 /// Adds the step to the value or the payload of this name.
-fn push_name(path: &mut String, name: &str) -> Result<(), AllocError>
+pub(crate) fn push_name(path: &mut String, name: &str) -> Result<(), AllocError>
     ensures { IfOk result (λ _. string_bytes path.new ≡ string_bytes path.old ++ step.step_text (step.field name.now)) }
 {
     path.push_str(".")?;
@@ -517,7 +517,7 @@ fn push_name(path: &mut String, name: &str) -> Result<(), AllocError>
 }
 
 /// Adds the step to an entry whose key has this text.
-fn push_key(path: &mut String, text: &str) -> Result<(), AllocError>
+pub(crate) fn push_key(path: &mut String, text: &str) -> Result<(), AllocError>
     ensures { IfOk result (λ _. string_bytes path.new ≡ string_bytes path.old ++ step.step_text (step.entry text.now)) }
 {
     path.push_str("[")?;

@@ -10,6 +10,7 @@ ghost use Rattle.wasm_wave.specs.Private.Readings.{TellsAs};
 use super::due::push_expected;
 use super::escape::syntax_mark;
 use super::hints::hints_of;
+use super::open::open_line;
 use super::path::part_at;
 use super::syntax::{Reading, syntax_lines};
 use super::word::wrong_word;
@@ -40,7 +41,7 @@ use wave_lex::lex::Span;
 /// it is empty for the whole value. Where the fault is a name within the place, as that of a field that
 /// the type hasn't, that name is marked, and where the place is within a word that is wrong as a whole, as
 /// `True`, that word. A type that takes more than 60 scalars is truncated. A refusal of syntax is explained
-/// as by `explain_untyped`.
+/// as by `explain_untyped`, with a line for the path and the type where it is within a part of the value.
 ///
 /// The text is read anew, without a type, for the explanation. The error, the text and the type need not
 /// belong together: an explanation is always made, and the only error is out of memory.
@@ -54,7 +55,7 @@ pub fn explain_value<T: WasmType>(
 {
     match untyped(alloc, error.kind(), source)? {
         Some(value) => explain_part(alloc, error, source, &value, ty),
-        None => explain_alone(alloc, error, source),
+        None => explain_alone(alloc, error, source, ty),
     }
 }
 
@@ -105,19 +106,22 @@ pub fn explain_untyped(
 ) -> Result<String, AllocError>
     ensures { IfOk result (λ text. IsUntypedExplained source.now error.now (string_bytes text)) }
 {
-    explain_syntax(alloc, error, source, Reading::Value)
+    explain_syntax(alloc, error, source, Reading::Value, "")
 }
 
-/// The refusal of a text that is read without a type, as a value or as a call.
+/// The refusal of a text that is read without a type, as a value or as a call, with these lines behind the
+/// others.
 pub(crate) fn explain_syntax(
     alloc: Global,
     error: &ParserError,
     source: &str,
     reading: Reading,
+    more: &str,
 ) -> Result<String, AllocError>
     ensures { IfOk result (λ text. IsSyntaxExplained (TellsAs reading) source.now error.now (string_bytes text)) }
 {
-    let lines = syntax_lines(alloc, error, source, reading)?;
+    let mut lines = syntax_lines(alloc, error, source, reading)?;
+    lines.push_str(more)?;
     let message = error.to_string(alloc)?;
     block(
         alloc,
@@ -130,11 +134,27 @@ pub(crate) fn explain_syntax(
 }
 
 /// The explanation where no part is looked for.
-fn explain_alone(alloc: Global, error: &ParserError, source: &str) -> Result<String, AllocError>
+fn explain_alone<T: WasmType>(
+    alloc: Global,
+    error: &ParserError,
+    source: &str,
+    ty: &T,
+) -> Result<String, AllocError>
     requires { HasNoPart error.now.kind source.now }
-    ensures { IfOk result (λ text. (T : TypeTree) → IsValueExplained source.now T error.now (string_bytes text)) }
+    ensures { IfOk result (λ text. IsValueExplained source.now (T.tree ty.now) error.now (string_bytes text)) }
 {
-    explain_untyped(alloc, error, source)
+    let at = first_refused(error, source);
+    let more = open_line(alloc, error.kind(), source, at, ty)?;
+    explain_syntax(alloc, error, source, Reading::Value, more.as_str())
+}
+
+/// Where the refusal begins, or the word that it is within, where that is wrong.
+pub(crate) fn first_refused(error: &ParserError, source: &str) -> usize {
+    let span = error.span();
+    match wrong_word(source, &span) {
+        Some(word) => word.start,
+        None => span.start,
+    }
 }
 
 /// The value that begins the source, read without a type, where the refusal tells a fault of type.

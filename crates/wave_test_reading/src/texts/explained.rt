@@ -142,6 +142,7 @@ const HINTS: [(&str, &str, &str); 23] = [
         "[1, [2",
         "  = expected ',' or ']'
   = the [ at line 1, column 5 is not closed
+  = the type of [1] is u8
 ",
     ),
     (

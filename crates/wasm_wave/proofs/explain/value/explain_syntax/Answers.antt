@@ -1,7 +1,7 @@
-use Rattle.std.proofs.Common.{[], sym, subst, string_bytes, ◌∙◌}
+use Rattle.std.proofs.Common.{[], subst, string_bytes, ◌∙◌}
 use Rattle.wasm_wave.specs.ValueExplained.{IsBlock}
-use Rattle.wasm_wave.specs.Private.Readings.{TellsAs}
 use Rattle.wasm_wave.proofs.Steps.{ok_so}
+use Rattle.wasm_wave.proofs.Expecting.{more_as}
 use Rattle.wasm_wave.proofs.explain.value.explain_syntax.Goals as goal
 
 pub returns : goal.returns
@@ -10,6 +10,8 @@ returns c =
       mark = c.syntax_mark.result;
       is_mark = c.syntax_mark.ensures;
       lines = c.as_str-2.result.now;
-      told = λ unexpected. subst (TellsAs c.args.reading c.args.source.now c.args.error.now.span.start) (sym c.as_str-2.ensures.value) (c.in_ok-lines.ensures unexpected);
+      told = λ unexpected.
+          more_as c.args.reading c.args.source.now c.args.error.now.span.start (string_bytes c.in_ok-lines.lines) c.args.more.now c.as_str-2.result.now
+          (c.as_str-2.ensures.value ∙ c.in_ok-push_str.ensures.bytes) (c.in_ok-lines.ensures unexpected);
       block = subst (λ m. IsBlock c.args.source.now m c.syntax_mark.result [] c.as_str-2.result.now (string_bytes text)) (c.as_str.ensures.value ∙ c.in_ok-message.ensures.ok) block;
     }) c.block.ensures
