@@ -1,19 +1,19 @@
 -- How a line is put together from what is read.
 use Rattle.std.proofs.Common.{ℕ, suc, ◌≡◌, ◌≢◌, ◌+◌, ◌-◌, ◌<◌, ◌≤◌, ◌==◌, Bool, true, false, List, [], ◌∷◌, ◌++◌, length, take, drop, get_or, Option, Some, None, refl, sym, ap, subst, ◌∙◌, arith, append_assoc, length-append}
-use Rattle.std.specs.Prelude.{slice_range, slice_index, if◌then◌else◌, MatchBool}
+use Rattle.std.specs.Prelude.{slice_range, slice_index, if◌then◌else◌, MatchBool, MatchOption}
 use Rattle.std.specs.List.{slice_split}
 use Rattle.std.specs.Io.KnownBytes.{Consumes, IsAtEnd, prepend_known}
 use Rattle.std.specs.Str.Lines.{lines, lines_of_parts, strip_carriage_return}
 use Rattle.std.proofs.KnownBytes.{Consumes-trans}
 use Rattle.std.proofs.lemmas.Bool.{false_from_ne_true}
-use Rattle.std.proofs.lemmas.List.{append-nil, length-take, take-append-drop, drop-take, drop-drop, get_or-take, get_or_default}
+use Rattle.std.proofs.lemmas.List.{append-nil, length-take, take_all, take-append-drop, drop-take, drop-drop, get_or-take, get_or_default}
 use Rattle.std.proofs.lemmas.List.Elements.{All-append}
 use Rattle.std.proofs.lemmas.List.Splits.{slice_split_none, slice_split_at, length-slice_split}
 use Rattle.std.proofs.Math.Seq.{drop-cons}
-use Rattle.memchr.specs.Find.{Nowhere, Passes, is_byte}
+use Rattle.memchr.specs.Find.{IsFirstByte, Nowhere, Passes, is_byte}
 use Rattle.wave.specs.declared.input.Input.{Input}
 use Rattle.wave.specs.declared.lines.Unread.{Unread}
-use Rattle.wave.specs.Private.InputLines.{IsInOneLine, IsEndKnown, TakesLine, left, most_lines, unread_bytes}
+use Rattle.wave.specs.Private.InputLines.{IsInOneLine, EndsFirstLine, IsEndKnown, TakesLine, left, most_lines, unread_bytes}
 
 -- the first bytes of a range are taken
 pub skipped : (chunk : List ℕ) (start end count : ℕ) → count ≤ length (slice_range chunk start end) → slice_range chunk (start + count) end ≡ drop count (slice_range chunk start end)
@@ -35,6 +35,13 @@ cut_at bytes at fits is =
     let feed : get_or bytes at 0 ≡ 10 = grind arith in
     let next : suc at ≡ at + 1 = omega arith in
     sym (take-append-drop at bytes) ∙ ap (λ l. take at bytes ++ l) (drop-cons bytes at 0 fits ∙ λ i. feed i ∷ drop (next i) bytes)
+
+-- where the first line feed stands, if there is one
+pub first_end : (bytes : List ℕ) (found : Option ℕ) → IsFirstByte (is_byte 10) bytes found → MatchOption found (IsInOneLine bytes) (EndsFirstLine bytes)
+first_end bytes None none = subst IsInOneLine (take_all (length bytes) bytes (omega arith)) (none_before bytes (length bytes) (omega arith) none)
+first_end bytes (Some place) (first, is) =
+    let below = first.high in
+    (below, none_before bytes place (omega (arith, below)) first.before, cut_at bytes place below is)
 
 -- ---- lines
 
@@ -104,6 +111,17 @@ partly false A B is h = h
 -- ---- the loop over what is read
 
 module _ {R : Type 0} (remaining : R → Option (List ℕ)) where
+  -- a line was taken of what is unread
+  pub line_taken : (input : Input R) (unread more : Unread) (place : ℕ) (text : List ℕ) → EndsFirstLine (unread_bytes unread) place → unread_bytes more ≡ drop (place + 1) (unread_bytes unread)
+      → text ≡ strip_carriage_return (take place (unread_bytes unread)) → TakesLine (left remaining input unread) (left remaining input more) text × (most_lines input more + 1 ≤ most_lines input unread)
+  line_taken input unread more place text (below, one, is) rest stripped =
+      let first = take place (unread_bytes unread) in
+      let all : unread_bytes unread ≡ first ++ 10 ∷ unread_bytes more = is ∙ ap (λ z. first ++ 10 ∷ z) (sym rest) in (
+        subst (TakesLine (left remaining input unread) (left remaining input more)) (sym stripped)
+            (takes_ended _ _ first one (taken_unread (remaining input.reader) (unread_bytes unread) (unread_bytes more) (first ++ 10 ∷ []) (all ∙ sym (append_assoc first (10 ∷ []) (unread_bytes more))))),
+        omega (arith, ap length all, length-append first (10 ∷ unread_bytes more)),
+      )
+
   -- the line so far was taken, and as many lines fewer can come as it has bytes
   pub record IsGathered (first : Input R) (first_unread : Unread) (now : Input R) (unread : Unread) (line : List ℕ) : Type 0 where
     pub in_line : IsInOneLine line

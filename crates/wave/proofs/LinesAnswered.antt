@@ -17,8 +17,8 @@ use Rattle.wave.specs.ByLines.{IsLineAnswer, AreAnswered, IsStatusOf, IsPlaceSho
 use Rattle.wave.specs.Counts.{CountsOne}
 use Rattle.wave.specs.Lines.{line}
 use Rattle.wave.specs.ReadFaults.{IsUnread}
-use Rattle.wave.specs.Written.{WritesWhole, WritesLess}
-use Rattle.wave.specs.Private.ByLines.{IsNoNextAnswer, ShowsLast}
+use Rattle.wave.specs.Written.{WritesWhole, WritesLess, Prints}
+use Rattle.wave.specs.Private.ByLines.{IsUnansweredLine, IsNoNextAnswer, ShowsLast, Releases}
 use Rattle.wave.specs.Private.InputLines.{IsCutOff, IsEndKnown, TakesLine, TakesLines, left, most_lines, unread_bytes}
 
 -- ---- lines
@@ -98,14 +98,43 @@ module _ {W : Type 0} (contents : W → Option (List ℕ)) where
   whole_less a b c s t (first, well) (one, front, rest, is, some, later) =
       (subst (λ n. CountsOne n c.failures) well one, s ++ front, rest, ap (λ z. s ++ z) is ∙ sym (append_assoc s front rest), some, Appends-trans _ _ _ s front first later)
 
-  less_more : (a b : Output W) (s t : List ℕ) → WritesLess contents a b s → WritesLess contents a b (s ++ t)
+  pub less_more : (a b : Output W) (s t : List ℕ) → WritesLess contents a b s → WritesLess contents a b (s ++ t)
   less_more a b s t (one, front, rest, is, some, wrote) = (one, front, rest ++ t, ap (λ z. z ++ t) is ∙ append_assoc front rest t, longer rest t some, wrote)
 
   -- a fault was told behind what was printed
-  ends_behind : (a b c : Output W) (fault : Fault) (number count : ℕ) (s last : List ℕ) (ended : Ended) → WritesWhole contents a b s → number ≡ count → EndsAtFault contents b c fault number [] last ended → EndsAtFault contents a c fault count s last ended
-  ends_behind a b c fault number count s last ended whole same (three, inl (later, shown)) =
-      (three, inl (whole_whole a b c s (line (words_of_fault fault)) whole later, subst (λ n. IsPlaceShown n fault last ended.shown) same shown))
-  ends_behind a b c fault number count s last ended whole same (three, inr (later, nothing)) = (three, inr (whole_less a b c s (line (words_of_fault fault)) whole later, nothing))
+  ends_behind : (a b c : Output W) (fault : Fault) (number count : ℕ) (s t last : List ℕ) (ended : Ended) → WritesWhole contents a b s → number ≡ count → EndsAtFault contents b c fault number t last ended → EndsAtFault contents a c fault count (s ++ t) last ended
+  ends_behind a b c fault number count s t last ended whole same (three, inl (later, shown)) = (
+    three,
+    inl (
+      subst (WritesWhole contents a c) (sym (append_assoc s t (line (words_of_fault fault)))) (whole_whole a b c s (t ++ line (words_of_fault fault)) whole later),
+      subst (λ n. IsPlaceShown n fault last ended.shown) same shown,
+    ),
+  )
+  ends_behind a b c fault number count s t last ended whole same (three, inr (later, nothing)) =
+      (three, inr (subst (WritesLess contents a c) (sym (append_assoc s t (line (words_of_fault fault)))) (whole_less a b c s (t ++ line (words_of_fault fault)) whole later), nothing))
+
+  -- all that was held was written, and one text more, or a beginning of it
+  none_held : (s front rest : List ℕ) → s ≡ front ++ rest → rest ≡ [] → s ≡ front
+  none_held s front rest is none = is ∙ (ap (λ z. front ++ z) none ∙ append-nil front)
+
+  pub released_with : (a b c : Output W) (s t rest : List ℕ) → Releases contents a b s rest → rest ≡ [] → WritesWhole contents b c t → Releases contents a c (s ++ t) rest
+  released_with a b c s t rest (front, is, wrote) none later =
+      (front ++ t, ap (λ z. z ++ t) (none_held s front rest is none) ∙ (sym (append-nil (front ++ t)) ∙ ap (λ z. (front ++ t) ++ z) (sym none)), whole_whole a b c front t wrote later)
+
+  pub released_less : (a b c : Output W) (s t rest : List ℕ) → Releases contents a b s rest → rest ≡ [] → WritesLess contents b c t → WritesLess contents a c (s ++ t)
+  released_less a b c s t rest (front, is, wrote) none less = subst (λ z. WritesLess contents a c (z ++ t)) (sym (none_held s front rest is none)) (whole_less a b c front t wrote less)
+
+  -- the answers that wait were not written whole, or a fault behind them was not told whole, or it was
+  pub unwritten : (a b : Output W) (fault : Fault) (number : ℕ) (s : List ℕ) (ended : Ended) → WritesLess contents a b s → ended.status ≡ 3 → ended.shown ≡ Ok tt → EndsAtFault contents a b fault number s [] ended
+  unwritten a b fault number s ended less three quiet = (three, inr (less_more a b s (line (words_of_fault fault)) less, (refl, quiet)))
+
+  pub untold : (a b c : Output W) (fault : Fault) (number : ℕ) (s : List ℕ) (ended : Ended) → WritesWhole contents a b s → WritesLess contents b c (line (words_of_fault fault)) → ended.status ≡ 3 → ended.shown ≡ Ok tt
+      → EndsAtFault contents a c fault number s [] ended
+  untold a b c fault number s ended whole less three quiet = (three, inr (whole_less a b c s (line (words_of_fault fault)) whole less, (refl, quiet)))
+
+  pub all_told : (a b c : Output W) (fault : Fault) (number : ℕ) (s last : List ℕ) (ended : Ended) → WritesWhole contents a b s → WritesWhole contents b c (line (words_of_fault fault)) → ended.status ≡ 3 → IsPlaceShown number fault last ended.shown
+      → EndsAtFault contents a c fault number s last ended
+  all_told a b c fault number s last ended whole later three is = (three, inl (whole_whole a b c s (line (words_of_fault fault)) whole later, is))
 
   -- the explanations were written while all writes went well
   told_more : (a b c : Output W) (s t : List ℕ) (was is : Bool) → MatchBool was (WritesWhole contents a b s) (WritesLess contents a b s)
@@ -156,6 +185,12 @@ cut_from : {R : Type 0} (rest : List (List ℕ)) (first now new : Input R) → n
 cut_from rest first now new well (inl (one, goes_on)) = inl (subst (λ n. CountsOne n new.failures) well one, goes_on)
 cut_from rest first now new well (inr (none, goes_on, fine)) = inr (inl (none, goes_on, fine ∙ well))
 
+-- why a line that was taken is not answered
+pub taken_unanswered : {R : Type 0} (left rest : Option (List ℕ)) (text : List ℕ) (old new : Input R) (fault : Fault) → TakesLine left rest text → new.failures ≡ old.failures → IsUnansweredLine text fault → IsNoNextAnswer left rest old new fault
+taken_unanswered left rest text old new (NotUtf8 place) taken fine is = (text, taken, is, fine)
+taken_unanswered left rest text old new InputFailed taken fine is = absurd is
+taken_unanswered left rest text old new OutOfMemory taken fine is = fine
+
 -- what is empty has no bytes
 pub emptiness : (t : List ℕ) (empty : Bool) → empty ≡ (length t == 0) → MatchBool empty (t ≡ []) (t ≢ [])
 emptiness [] true e = refl
@@ -166,14 +201,16 @@ emptiness (b ∷ t) false e = λ is. cc
 -- ---- the loop over the lines
 
 module _ {R W E : Type 0} (remaining : R → Option (List ℕ)) (contents : W → Option (List ℕ)) (held : E → Option (List ℕ)) where
-  -- the first lines were answered, the next has this number, and as many as the input has bytes can come
-  pub record AreAnsweredSoFar (request : Request) (first now : Input R) (unread : Unread) (before after : Output W) (errors_before errors_after : Output E) (number : ℕ) (is_refused is_shown : Bool) : Type 0 where
+  -- the first lines were answered, of which some answers wait, the next has this number, and as many as the input has bytes can come
+  pub record AreAnsweredSoFar (request : Request) (first now : Input R) (unread : Unread) (before after : Output W) (waiting : List ℕ) (errors_before errors_after : Output E) (number : ℕ) (is_refused is_shown : Bool) : Type 0 where
     pub texts : List (List ℕ)
     pub said : List ℕ
+    pub written : List ℕ
     pub shown : List ℕ
     pub taken : TakesLines (remaining first.reader) (left remaining now unread) texts
     pub answered : AreAnswered request 1 texts said shown
-    pub printed : WritesWhole contents before after said
+    pub said_is : said ≡ written ++ waiting
+    pub printed : WritesWhole contents before after written
     pub told : MatchBool is_shown (WritesWhole held errors_before errors_after shown) (WritesLess held errors_before errors_after shown)
     pub refused : MatchBool is_refused (shown ≢ []) (shown ≡ [])
     pub number_is : number ≡ 1 + length texts
@@ -183,14 +220,16 @@ module _ {R W E : Type 0} (remaining : R → Option (List ℕ)) (contents : W �
     pub counted : now.reads_left ≤ first.reads_left
 
   -- nothing was read
-  pub at_start : (request : Request) (first : Input R) (unread : Unread) (before : Output W) (errors : Output E) → unread_bytes unread ≡ [] → first.has_ended ≡ false
-      → AreAnsweredSoFar request first first unread before before errors errors 1 false true
-  at_start request first unread before errors none goes_on = record {
+  pub at_start : (request : Request) (first : Input R) (unread : Unread) (before : Output W) (waiting : List ℕ) (errors : Output E) → unread_bytes unread ≡ [] → waiting ≡ [] → first.has_ended ≡ false
+      → AreAnsweredSoFar request first first unread before before waiting errors errors 1 false true
+  at_start request first unread before waiting errors none no_answers goes_on = record {
     texts = [];
     said = [];
+    written = [];
     shown = [];
     taken = no_lines (remaining first.reader) (unread_bytes unread) none;
     answered = (refl, refl);
+    said_is = sym no_answers;
     printed = whole_nothing contents before;
     told = whole_nothing held errors;
     refused = refl;
@@ -220,12 +259,32 @@ module _ {R W E : Type 0} (remaining : R → Option (List ℕ)) (contents : W �
     nothing None = tt
     nothing (Some ys) = refl
 
-  module _ (request : Request) (first now : Input R) (unread : Unread) (before after : Output W) (errors_before errors_after : Output E) (number : ℕ) (is_refused is_shown : Bool)
-      (g : AreAnsweredSoFar request first now unread before after errors_before errors_after number is_refused is_shown) where
-    -- the input has no more lines
-    pub all_answered : (new : Input R) (status : ℕ) (ended : Ended) → first.has_ended ≡ false → IsAtEnd (left remaining now unread) → new.has_ended ≡ true → new.failures ≡ now.failures → status ≡ (if is_refused then 1 else 0)
-        → ended.status ≡ status → ended.shown ≡ Ok tt → AnswersLines contents held request (remaining first.reader) first new before after errors_before errors_after ended
-    all_answered new status ended goes_on end at_end fine is same quiet = record {
+  module _ (request : Request) (first now : Input R) (unread : Unread) (before after : Output W) (waiting : List ℕ) (errors_before errors_after : Output E) (number : ℕ) (is_refused is_shown : Bool)
+      (g : AreAnsweredSoFar request first now unread before after waiting errors_before errors_after number is_refused is_shown) where
+    -- a beginning of the answers that wait was written
+    pub released : (later : Output W) (rest : List ℕ) → Releases contents after later waiting rest → AreAnsweredSoFar request first now unread before later rest errors_before errors_after number is_refused is_shown
+    released later rest (front, is, wrote) = record {
+      texts = g.texts;
+      said = g.said;
+      written = g.written ++ front;
+      shown = g.shown;
+      taken = g.taken;
+      answered = g.answered;
+      said_is = g.said_is ∙ (ap (λ z. g.written ++ z) is ∙ sym (append_assoc g.written front rest));
+      printed = whole_whole contents before after later g.written front g.printed wrote;
+      told = g.told;
+      refused = g.refused;
+      number_is = g.number_is;
+      fewer = g.fewer;
+      known = g.known;
+      well = g.well;
+      counted = g.counted;
+    }
+
+    -- they were not written whole
+    pub cut_short : (new : Input R) (later : Output W) (ended : Ended) → WritesLess contents after later waiting → ended.status ≡ 3 → ended.shown ≡ Ok tt
+        → AnswersLines contents held request (remaining first.reader) first new before later errors_before errors_after ended
+    cut_short new later ended wrote three quiet = record {
       texts = g.texts;
       rest = rest_of (left remaining now unread);
       said = g.said;
@@ -233,14 +292,37 @@ module _ {R W E : Type 0} (remaining : R → Option (List ℕ)) (contents : W �
       last = [];
       are_lines = with_rest _ _ g.texts g.taken;
       answered = g.answered;
-      ends = inl (no_rest (left remaining now unread) end, (goes_on, at_end, fine ∙ g.well), status_of g.shown is_refused ended.status g.refused (same ∙ is), g.printed, (refl, quiet));
+      ends = inr (inr (three, subst (WritesLess contents before later) (sym g.said_is) (whole_less contents before after later g.written waiting g.printed wrote), (refl, quiet)));
+      told = told_all held errors_before errors_after g.shown is_shown g.told;
+    }
+
+    -- the input has no more lines
+    pub all_answered : (new : Input R) (later : Output W) (printed : List ℕ) (status result : ℕ) (ended : Ended) → first.has_ended ≡ false → IsAtEnd (left remaining now unread) → new.has_ended ≡ true → new.failures ≡ now.failures → status ≡ (if is_refused then 1 else 0)
+        → printed ≡ waiting → Prints contents after later printed status result → ended.status ≡ result → ended.shown ≡ Ok tt → AnswersLines contents held request (remaining first.reader) first new before later errors_before errors_after ended
+    all_answered new later printed status result ended goes_on end at_end fine is all (inr (three, wrote)) same quiet = cut_short new later ended (subst (WritesLess contents after later) all wrote) (same ∙ three) quiet
+    all_answered new later printed status result ended goes_on end at_end fine is all (inl (due, wrote)) same quiet = record {
+      texts = g.texts;
+      rest = rest_of (left remaining now unread);
+      said = g.said;
+      shown = g.shown;
+      last = [];
+      are_lines = with_rest _ _ g.texts g.taken;
+      answered = g.answered;
+      ends =
+          inl (
+            no_rest (left remaining now unread) end,
+            (goes_on, at_end, fine ∙ g.well),
+            status_of g.shown is_refused ended.status g.refused (same ∙ (due ∙ is)),
+            subst (WritesWhole contents before later) (sym g.said_is) (whole_whole contents before after later g.written waiting g.printed (subst (WritesWhole contents after later) all wrote)),
+            (refl, quiet),
+          );
       told = told_all held errors_before errors_after g.shown is_shown g.told;
     }
 
     module _ (new : Input R) (more : Unread) (later : Output W) (errors_then : Output E) (ended : Ended) where
       -- a fault is told in place of the next line
       faulty : (fault : Fault) (last : List ℕ) (rest : List (List ℕ)) → IfSome (remaining first.reader) (λ bytes. lines bytes ≡ g.texts ++ rest) → IsLineFault rest first new fault
-          → EndsAtFault contents after later fault number [] last ended → ShowsLast held errors_after errors_then is_shown last
+          → EndsAtFault contents after later fault number waiting last ended → ShowsLast held errors_after errors_then is_shown last
           → AnswersLines contents held request (remaining first.reader) first new before later errors_before errors_then ended
       faulty fault last rest are is ends shows = record {
         texts = g.texts;
@@ -250,13 +332,14 @@ module _ {R W E : Type 0} (remaining : R → Option (List ℕ)) (contents : W �
         last = last;
         are_lines = are;
         answered = g.answered;
-        ends = inr (inl (fault, is, ends_behind contents before after later fault number (1 + length g.texts) g.said last ended g.printed g.number_is ends));
+        ends =
+            inr (inl (fault, is, subst (λ z. EndsAtFault contents before later fault (1 + length g.texts) z last ended) (sym g.said_is) (ends_behind contents before after later fault number (1 + length g.texts) g.written waiting last ended g.printed g.number_is ends)));
         told = told_last held errors_before errors_after errors_then g.shown last is_shown g.told shows;
       }
 
       -- the next line is not answered
       pub cut_off : (fault : Fault) → IsNoNextAnswer (left remaining now unread) (left remaining new more) now new fault
-          → (last : List ℕ) × EndsAtFault contents after later fault number [] last ended × ShowsLast held errors_after errors_then is_shown last
+          → (last : List ℕ) × EndsAtFault contents after later fault number waiting last ended × ShowsLast held errors_after errors_then is_shown last
           → AnswersLines contents held request (remaining first.reader) first new before later errors_before errors_then ended
       cut_off (NotUtf8 place) (bad, next, wrong, fine) (last, ends, shows) =
           faulty (NotUtf8 place) last (bad ∷ rest_of (left remaining new more)) (with_bad _ _ _ g.texts bad g.taken next) (bad, rest_of (left remaining new more), refl, wrong, fine ∙ g.well) ends shows
@@ -274,21 +357,27 @@ module _ {R W E : Type 0} (remaining : R → Option (List ℕ)) (contents : W �
       answered_then : AreAnswered request 1 (g.texts ++ text ∷ []) (g.said ++ line answer) (g.shown ++ explained)
       answered_then = answered_more request 1 g.texts g.said g.shown text answer explained g.answered (subst (λ n. IsLineAnswer request n text answer explained) g.number_is is)
 
+      -- the answers so far, of which a beginning was written
+      said_then : g.said ++ line answer ≡ g.written ++ (waiting ++ printed)
+      said_then = ap (λ z. z ++ line answer) g.said_is ∙ (append_assoc g.written waiting (line answer) ∙ ap (λ z. g.written ++ (waiting ++ z)) (sym printed_is))
+
       -- the next line was answered
-      pub one_answered : (later : Output W) (empty : Bool) → WritesWhole contents after later printed → MatchBool empty (explained ≡ []) (explained ≢ [])
+      pub one_answered : (later : Output W) (rest : List ℕ) (empty : Bool) → Releases contents after later (waiting ++ printed) rest → MatchBool empty (explained ≡ []) (explained ≢ [])
           → most_lines new more + 1 ≤ most_lines now unread → IsEndKnown remaining new → new.failures ≡ now.failures → new.reads_left ≤ now.reads_left
-          → AreAnsweredSoFar request first new more before later errors_before errors_then (number + 1) (is_refused || not empty) shows
-      one_answered later empty wrote emptiness progress known fine fewer_reads =
+          → AreAnsweredSoFar request first new more before later rest errors_before errors_then (number + 1) (is_refused || not empty) shows
+      one_answered later rest empty (front, is_front, wrote) emptiness progress known fine fewer_reads =
           let old = g.fewer in
           let numbered = g.number_is in
           let reads = g.counted in
           record {
             texts = g.texts ++ text ∷ [];
             said = g.said ++ line answer;
+            written = g.written ++ front;
             shown = g.shown ++ explained;
             taken = takes_more _ _ _ g.texts text g.taken next;
             answered = answered_then;
-            printed = whole_whole contents before after later g.said (line answer) g.printed (subst (WritesWhole contents after later) printed_is wrote);
+            said_is = said_then ∙ (ap (λ z. g.written ++ z) is_front ∙ sym (append_assoc g.written front rest));
+            printed = whole_whole contents before after later g.written front g.printed wrote;
             told = told_then;
             refused = refused_more g.shown explained is_refused empty g.refused emptiness;
             number_is = omega (arith, numbered, length-append g.texts (text ∷ []));
@@ -298,10 +387,10 @@ module _ {R W E : Type 0} (remaining : R → Option (List ℕ)) (contents : W �
             counted = omega (arith, reads, fewer_reads);
           }
 
-      -- its answer was not written whole
-      pub cut_short : (later : Output W) (ended : Ended) → WritesLess contents after later printed → ended.status ≡ 3 → ended.shown ≡ Ok tt
+      -- its answer and those that wait were not written whole
+      pub cut_behind : (later : Output W) (ended : Ended) → WritesLess contents after later (waiting ++ printed) → ended.status ≡ 3 → ended.shown ≡ Ok tt
           → AnswersLines contents held request (remaining first.reader) first new before later errors_before errors_then ended
-      cut_short later ended wrote three quiet = record {
+      cut_behind later ended wrote three quiet = record {
         texts = g.texts ++ text ∷ [];
         rest = rest_of (left remaining new more);
         said = g.said ++ line answer;
@@ -309,6 +398,6 @@ module _ {R W E : Type 0} (remaining : R → Option (List ℕ)) (contents : W �
         last = [];
         are_lines = with_rest _ _ (g.texts ++ text ∷ []) (takes_more _ _ _ g.texts text g.taken next);
         answered = answered_then;
-        ends = inr (inr (three, whole_less contents before after later g.said (line answer) g.printed (subst (WritesLess contents after later) printed_is wrote), (refl, quiet)));
+        ends = inr (inr (three, subst (WritesLess contents before later) (sym (said_then)) (whole_less contents before after later g.written (waiting ++ printed) g.printed wrote), (refl, quiet)));
         told = told_all held errors_before errors_then (g.shown ++ explained) shows told_then;
       }

@@ -1,10 +1,10 @@
 // What a request answers on each line of an input.
-ghost use Rattle.std.specs.Prelude.{ℕ, List, [], ◌≡◌, ◌≢◌, ◌+◌, ◌≤◌, ◌<◌, ◌^◌, ◌⊎◌, true, false, IfOk, IfErr, OnOk, MatchOption, MatchBool, if◌then◌else◌, string_bytes};
+ghost use Rattle.std.specs.Prelude.{ℕ, List, [], ◌≡◌, ◌≢◌, ◌++◌, ◌+◌, ◌≤◌, ◌<◌, ◌^◌, ◌⊎◌, true, false, IfOk, IfErr, OnOk, MatchOption, MatchBool, if◌then◌else◌, string_bytes};
 ghost use Rattle.std.specs.Io.KnownBytes.{IsAtEnd};
 ghost use Rattle.wave_lex.specs.declared.error.ParserErrorKind.TheVariants as kind;
 ghost use Rattle.wave.specs.ByLines.{IsBlank, HasItem, IsLineExplained, IsLineAnswer, IsPlaceShown, numbered_place, EndsAtFault, AnswersLines};
 ghost use Rattle.wave.specs.Lines.{line};
-ghost use Rattle.wave.specs.Private.ByLines.{IsUnansweredLine, IsNoNextAnswer, ShowsLast};
+ghost use Rattle.wave.specs.Private.ByLines.{IsUnansweredLine, IsNoNextAnswer, ShowsLast, Releases};
 ghost use Rattle.wave.specs.Private.InputLines.{left, IsEndKnown, TakesLine, most_lines};
 ghost use Rattle.wave.specs.Private.Requests.{IsFit};
 ghost use Rattle.wave.specs.Written.{WritesWhole, WritesLess};
@@ -14,11 +14,14 @@ use crate::explained::explain_refusal;
 use crate::input::{Fault, Input};
 use crate::lines::Unread;
 use crate::output::Output;
-use crate::program::{Ended, fault_line, line_of, place_line, write_whole};
+use crate::program::{Ended, fault_line, line_of, place_line, print, write_whole};
 use crate::request::Request;
 use std::alloc::{AllocError, Global};
 use std::io::{Read, Write};
 use wasm_wave::parser::{Parser, ParserError, ParserErrorKind};
+
+/// So many bytes of answers are written at the latest.
+const MOST_HELD: usize = 65_536;
 
 /// What is written of a line.
 #[derive(Drop)]
@@ -33,7 +36,8 @@ struct LineAnswer {
 /// for a line that is blank or refused, and shows a refusal. Gives the status to end with: 1 where a
 /// line was refused, else 0; 3 behind a fault, which is said in place of the lines that are left, and
 /// where a write failed. Of a line that is no text it is shown where what is none begins, unless there is
-/// no memory for that. After a failed write to `errors` no more is written there.
+/// no memory for that. After a failed write to `errors` no more is written there. Answers are written before
+/// more of the input is read, and before a refusal of a line behind theirs is shown.
 pub fn answer_lines<R: Read, W: Write, E: Write>(
     alloc: Global,
     request: &Request,
@@ -47,26 +51,62 @@ pub fn answer_lines<R: Read, W: Write, E: Write>(
     ensures counted { input.new.reads_left ≤ input.old.reads_left }
 {
     if input.has_ended() {
-        return fail_at(alloc, output, errors, Fault::InputFailed, 1, true);
+        return fail_at(alloc, output, "", errors, Fault::InputFailed, 1, true);
     }
     let mut unread = Unread::new();
+    let mut held = String::new(alloc);
     let mut number = 1;
     let mut is_refused = false;
     let mut is_shown = true;
     'lines: loop {
+        if !write_due(output, &mut held, unread.line_end().is_none()) {
+            return Ended::at(3);
+        }
         let answer = match next_answer(alloc, request, number, input, &mut unread) {
             Ok(Some(answer)) => answer,
-            Ok(None) => return Ended::at(status_of(is_refused)),
-            Err(fault) => return fail_at(alloc, output, errors, fault, number, is_shown),
+            Ok(None) => return Ended::at(print(output, &held, status_of(is_refused))),
+            Err(fault) => return fail_at(alloc, output, &held, errors, fault, number, is_shown),
         };
         number += 1;
         let shown = answer.shown.as_str();
+        if !write_due(output, &mut held, !shown.is_empty()) {
+            return Ended::at(3);
+        }
         is_refused |= !shown.is_empty();
         is_shown = show(errors, shown, is_shown);
-        if !write_whole(output, answer.printed.as_bytes()) {
+        if !hold(output, &mut held, answer.printed.as_str()) {
             return Ended::at(3);
         }
     }
+}
+
+/// Writes the answers that are held, where that is due. Whether no write failed.
+fn write_due<W: Write>(output: &mut Output<W>, held: &mut String, is_due: bool) -> bool
+    ensures whole { result ≡ true → Releases W.contents output.old output.new (string_bytes held.old) (string_bytes held.new) }
+    ensures cut { result ≡ false → WritesLess W.contents output.old output.new (string_bytes held.old) }
+    ensures due { result ≡ true → is_due ≡ true → string_bytes held.new ≡ [] }
+{
+    if !is_due {
+        return true;
+    }
+    if !write_whole(output, held.as_bytes()) {
+        return false;
+    }
+    held.clear();
+    true
+}
+
+/// Holds one answer more, or writes it and those held before, where they are many or there is no memory to
+/// hold it. Whether no write failed.
+fn hold<W: Write>(output: &mut Output<W>, held: &mut String, printed: &str) -> bool
+    ensures whole { result ≡ true → Releases W.contents output.old output.new (string_bytes held.old ++ printed.now) (string_bytes held.new) }
+    ensures cut { result ≡ false → WritesLess W.contents output.old output.new (string_bytes held.old ++ printed.now) }
+{
+    if held.push_str(printed).is_ok() {
+        let is_due = held.len() >= MOST_HELD;
+        return write_due(output, held, is_due);
+    }
+    write_due(output, held, true) && write_whole(output, printed.as_bytes())
 }
 
 /// The status where all lines were answered.
@@ -85,19 +125,23 @@ fn show<E: Write>(errors: &mut Output<E>, shown: &str, is_shown: bool) -> bool
     is_shown && write_whole(errors, shown.as_bytes())
 }
 
-/// Says the fault in place of the line of this number and those after it, and shows where the line is no
-/// text, where that was printed.
+/// Writes the answers that are held, says the fault in place of the line of this number and those after it,
+/// and shows where the line is no text, where that was printed.
 fn fail_at<W: Write, E: Write>(
     alloc: Global,
     output: &mut Output<W>,
+    held: &str,
     errors: &mut Output<E>,
     fault: Fault,
     number: u64,
     is_shown: bool,
 ) -> Ended
-    ensures { (last : List ℕ) × EndsAtFault W.contents output.old output.new fault number [] last result
+    ensures { (last : List ℕ) × EndsAtFault W.contents output.old output.new fault number held.now last result
         × ShowsLast E.contents errors.old errors.new is_shown last }
 {
+    if !write_whole(output, held.as_bytes()) {
+        return Ended::at(3);
+    }
     if !write_whole(output, fault_line(fault).as_bytes()) {
         return Ended::at(3);
     }
@@ -162,6 +206,11 @@ fn next_answer<R: Read>(
         (left R.remaining input.old unread.old) (left R.remaining input.new unread.new) input.old input.new) }
     ensures counted { input.new.reads_left ≤ input.old.reads_left }
 {
+    if let Some(end) = unread.line_end() {
+        let answer = line_answer(alloc, request, number, unread.line_before(end));
+        unread.skip(end + 1);
+        return Ok(Some(answer?));
+    }
     match unread.next_line(alloc, input)? {
         Some(line) => Ok(Some(line_answer(alloc, request, number, line.as_slice())?)),
         None => Ok(None),

@@ -20,9 +20,9 @@ pub struct Unread {
 }
 
 impl Unread {
-    ghost use Rattle.std.specs.Prelude.{ℕ, List, [], ◌∷◌, ◌≢◌, ◌++◌, ◌+◌, true, false, length, drop, IfOk, IfErr, OnOk, MatchOption, MatchBool};
+    ghost use Rattle.std.specs.Prelude.{ℕ, List, [], ◌∷◌, ◌≢◌, ◌++◌, ◌+◌, true, false, length, take, drop, IfOk, IfErr, OnOk, MatchOption, MatchBool};
     ghost use Rattle.std.specs.Io.KnownBytes.{Consumes, IsAtEnd};
-    ghost use Rattle.wave.specs.Private.InputLines.{IsInOneLine, left, IsCutOff, IsEndKnown, TakesLine, unread_bytes, most_lines};
+    ghost use Rattle.wave.specs.Private.InputLines.{IsInOneLine, EndsFirstLine, left, IsCutOff, IsEndKnown, TakesLine, unread_bytes, most_lines};
 
     /// Nothing was read.
     pub fn new() -> Unread
@@ -42,8 +42,28 @@ impl Unread {
         &self.chunk[self.start..self.end]
     }
 
+    /// Where the first line feed stands in that; none where it has none.
+    pub fn line_end(&self) -> Option<usize>
+        ensures { MatchOption result (IsInOneLine (unread_bytes self.now)) (EndsFirstLine (unread_bytes self.now)) }
+    {
+        memchr(b'\n', self.bytes())
+    }
+
+    /// The line before this line feed, the first, without its end.
+    pub fn line_before(&self, end: usize) -> &[u8]
+        requires { end ≤ length (unread_bytes self.now) }
+        ensures { result.now ≡ strip_carriage_return (take end (unread_bytes self.now)) }
+    {
+        let line = &self.bytes()[..end];
+        if line.last() == Some(&b'\r') {
+            &line[..end - 1]
+        } else {
+            line
+        }
+    }
+
     /// Takes the first bytes.
-    fn skip(&mut self, count: usize)
+    pub fn skip(&mut self, count: usize)
         requires { count ≤ length (unread_bytes self.old) }
         ensures { unread_bytes self.new ≡ drop count (unread_bytes self.old) }
     {
@@ -89,10 +109,10 @@ impl Unread {
             ((unread_bytes self.old ≡ part) × (unread_bytes self.new ≡ []))) }
     {
         let bytes = self.bytes();
-        match memchr(b'\n', bytes) {
-            Some(at) => {
-                line.extend_from_slice(&bytes[..at])?;
-                self.skip(at + 1);
+        match self.line_end() {
+            Some(end) => {
+                line.extend_from_slice(&bytes[..end])?;
+                self.skip(end + 1);
                 Ok(true)
             }
             None => {

@@ -302,8 +302,8 @@ pub fn fault_line(fault: Fault) -> &'static str
     }
 }
 
-/// The status, or 3 where a write failed before all of the line was written.
-fn print<W: Write>(output: &mut Output<W>, line: &str, status: u8) -> u8
+/// The status, or 3 where a write failed before all of the text was written.
+pub fn print<W: Write>(output: &mut Output<W>, line: &str, status: u8) -> u8
     ensures { Prints W.contents output.old output.new line.now status result }
 {
     if write_whole(output, line.as_bytes()) {

@@ -1,5 +1,5 @@
 -- What a request on each line of an input comes to, line by line.
-use Rattle.std.specs.Prelude.{ℕ, ◌≡◌, ◌⊎◌, ⊤, Bool, List, MatchBool}
+use Rattle.std.specs.Prelude.{ℕ, ◌≡◌, ◌⊎◌, ◌++◌, ⊤, Bool, List, MatchBool}
 use Rattle.std.specs.declared.option.Option.{Option}
 use Rattle.wave.specs.declared.input.Input.{Input}
 use Rattle.wave.specs.declared.input.Fault.{Fault}
@@ -24,3 +24,7 @@ IsNoNextAnswer left rest old new OutOfMemory = new.failures ≡ old.failures
 -- the last text was written, or a beginning of it where a write failed; nothing where one had failed before
 abbrev pub ShowsLast : {E : Type 0} → (E → Option (List ℕ)) → Output E → Output E → Bool → List ℕ → Type 0
 ShowsLast held old new is_shown last = MatchBool is_shown (WritesWhole held old new last ⊎ WritesLess held old new last) (new ≡ old)
+
+-- a beginning of the text that was held was written, and the rest is held
+abbrev pub Releases : {W : Type 0} → (W → Option (List ℕ)) → Output W → Output W → List ℕ → List ℕ → Type 0
+Releases contents before after held rest = (front : List ℕ) × (held ≡ front ++ rest) × WritesWhole contents before after front

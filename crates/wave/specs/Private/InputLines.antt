@@ -1,5 +1,5 @@
 -- The lines of an input that is read chunk by chunk.
-use Rattle.std.specs.Prelude.{ℕ, ◌≡◌, ◌+◌, ◌*◌, ◌⊎◌, ◌==◌, true, false, List, ◌∷◌, ◌++◌, length, slice_range, ⊤, Some, None}
+use Rattle.std.specs.Prelude.{ℕ, ◌≡◌, ◌+◌, ◌*◌, ◌<◌, ◌⊎◌, ◌==◌, true, false, List, ◌∷◌, ◌++◌, length, take, drop, slice_range, ⊤, Some, None}
 use Rattle.std.specs.declared.option.Option.{Option}
 use Rattle.std.specs.Io.KnownBytes.{IsAtEnd, prepend_known}
 use Rattle.std.specs.List.{All}
@@ -25,6 +25,10 @@ TakesLines (Some xs) (Some ys) texts = lines xs ≡ texts ++ lines ys
 -- no byte is a line feed
 abbrev pub IsInOneLine : List ℕ → Type 0
 IsInOneLine bytes = All (λ b. (b == 10) ≡ false) bytes
+
+-- a line feed stands at this place, and none before it
+abbrev pub EndsFirstLine : List ℕ → ℕ → Type 0
+EndsFirstLine bytes place = (place < length bytes) × IsInOneLine (take place bytes) × (bytes ≡ take place bytes ++ 10 ∷ drop (place + 1) bytes)
 
 -- the bytes that were read and not taken yet
 abbrev pub unread_bytes : Unread → List ℕ
