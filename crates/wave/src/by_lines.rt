@@ -234,20 +234,20 @@ fn line_answer(
         Ok(text) => text,
         Err(error) => return Err(Fault::NotUtf8(error.valid_up_to())),
     };
-    if is_blank(text) {
-        return Ok(LineAnswer {
-            printed: line_of(String::new(alloc))?,
-            shown: String::new(alloc),
-        });
-    }
     match answer(alloc, request, text) {
         Ok(answer) => Ok(LineAnswer {
             printed: line_of(answer)?,
             shown: String::new(alloc),
         }),
-        Err(Unanswered::Refused(refusal)) => Ok(refused_line(
-            alloc, request, number, &refusal, text,
-        )?),
+        Err(Unanswered::Refused(refusal)) => {
+            if is_blank(text) {
+                return Ok(LineAnswer {
+                    printed: line_of(String::new(alloc))?,
+                    shown: String::new(alloc),
+                });
+            }
+            Ok(refused_line(alloc, request, number, &refusal, text)?)
+        }
         Err(Unanswered::OutOfMemory) => Err(Fault::OutOfMemory),
     }
 }
