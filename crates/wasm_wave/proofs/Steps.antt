@@ -10,14 +10,14 @@ use borrow.Author.Count.{below_more}
 use Rattle.wave_wasm.specs.Lists.{AllOf, SomeOf}
 use Rattle.wave_wasm.specs.Types as type
 use Rattle.wave_wasm.specs.Types.{TypeTree, MaybeType, Types, Fields, Cases, Simple, type_option, type_list, field_list, case_list, list_part, tuple_parts, record_parts, variant_parts, option_part, result_parts, map_parts}
-use Rattle.wave_wasm.specs.Shared.Types.{depth, depth_of_maybe, depth_of_types, depth_of_fields, depth_of_cases}
+use Rattle.wave_wasm.specs.Types.{depth, depth_of_maybe, depth_of_types, depth_of_fields, depth_of_cases}
 use Rattle.wave_grammar.specs.LeafTokens.{name_of}
 use Rattle.wave_grammar.specs.NodeTree.{NodeTree, type_of, children_of}
 use Rattle.wave_grammar.specs.NodeAccessors.{node_pairs, node_text, first_of, GivesOption, GivesResult, GivesVariant}
 use Rattle.wave_grammar.specs.TypedReading.{IsValueOf}
 use Rattle.wave_grammar.specs.declared.form.NodeType.TheVariants as form
 use Rattle.wave_wasm.specs.Borrowed.{shown, shown_all, shown_fields}
-use Rattle.wave_wasm.proofs.MappedSearch.{find-map}
+use Rattle.wave_wasm.proofs.Names.MappedSearch.{find-map}
 use Rattle.wave_grammar.specs.ErrorSpans.{LiesInNode}
 use Rattle.wasm_wave.specs.Paths.{Step, field, case, entry, key, item, some, ok, err, alone, field_type, case_type, StepsTo, IsDeepest, IsPartAt, StandsAlone, HoldsAlone, step_text, path_text}
 use Rattle.wasm_wave.specs.Private.Steps.{LeadsNowhere, IsTaken, NoneHolds, IsNamed}

@@ -11,8 +11,8 @@ use Rattle.wave_wasm.specs.Values as value
 use Rattle.wave_wasm.specs.Values.{Value, MaybeValue, FieldValues, Leaf, no_value, a_value, values, IsSound}
 use Rattle.wave_wasm.specs.HasType.{HasType, HasPayload, HasTypes, HasFields, HasCase, IsLeafOf}
 use Rattle.wave_wasm.specs.declared.wasm.WasmTypeKind.TheVariants as kinds
-use Rattle.wave_wasm.proofs.Sequence.{at_item, at_end}
-use Rattle.wave_wasm.proofs.TypeKinds.{formed_as}
+use Rattle.wave_wasm.proofs.CanonicalText.Sequences.{at_item, at_end}
+use Rattle.wave_wasm.proofs.TypesOfValues.TypeOfKind.{formed_as}
 use Rattle.wave.specs.Types.{HasValue}
 use Rattle.wave.specs.Private.Inhabited.{inhabited, payload_inhabited, types_inhabited, fields_inhabited, cases_inhabited}
 

@@ -5,7 +5,7 @@ use Rattle.wave_lex.specs.Errors.{Diagnostic}
 use Rattle.wave_lex.specs.declared.error.ParserErrorKind.TheVariants as kind
 use Rattle.wave_tree.specs.FromStr.{IsValueTaken, RefusesValue, IsRead, BlamesText}
 use Rattle.wave_tree.specs.ParserState.{Parsing, Finishes, first_at, limited, start_of}
-use Rattle.wave_tree.proofs.ValueReading.{whole_text}
+use Rattle.wave_tree.proofs.TextReading.TypedTexts.{whole_text}
 use Rattle.wave_grammar.specs.ParserPosition.{Place}
 use Rattle.wave_wasm.specs.Types.{TypeTree, HasDistinctNames}
 use Rattle.wave_value.specs.FullTypes.{IsFull}

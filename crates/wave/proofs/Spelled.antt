@@ -11,10 +11,10 @@ use Rattle.wave_type.specs.FunctionType.{FunctionType, types_of}
 use Rattle.wave_type.specs.TypeSpelling.{Tokens, Names, Spells, SpellsTypes, SpellsFields, SpellsCases, SpellsPayload, IsTypeOf, IsNoType, levels_of, levels_of_fields}
 use Rattle.wave_type.specs.declared.error.TypeErrorKind.{TypeErrorKind}
 use Rattle.wave_type.specs.declared.error.TypeErrorKind.TheVariants.{OutOfMemory}
-use Rattle.wave_type.proofs.SpelledNames.{function_text_good}
-use Rattle.wave_type.proofs.TypeComplete.{one_spelling, fields_all, read_complete, name_stands, paren}
-use Rattle.wave_type.proofs.TypeLists.{field_list-fields_of}
-use Rattle.wave_type.proofs.TypeTokens.{one_cut}
+use Rattle.wave_type.proofs.TypeReading.SpelledNames.{function_text_good}
+use Rattle.wave_type.proofs.TypeReading.Complete.{one_spelling, fields_all, read_complete, name_stands, paren}
+use Rattle.wave_type.proofs.TypeTrees.Lists.{field_list-fields_of}
+use Rattle.wave_type.proofs.TypeReading.TextTokens.{one_cut}
 use Rattle.wave.specs.Types.{HasValue, NamesType, NamesFunction, text_of}
 
 mutual

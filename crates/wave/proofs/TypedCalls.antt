@@ -28,7 +28,7 @@ use Rattle.wave_grammar.specs.declared.form.NodeType.TheVariants as form
 use Rattle.wave_grammar.proofs.ByKind.Leaves.{tree_is}
 use Rattle.wave_grammar.proofs.ByKind.Lists.{trees_are}
 use Rattle.wave_grammar.proofs.ChildNodes.Inside.{From, inside}
-use Rattle.wave_grammar.proofs.Parameters.{omitted_values, item_values, items_fault, fault_none}
+use Rattle.wave_grammar.proofs.Elaboration.ParamsInTurn.{omitted_values, item_values, items_fault, fault_none}
 use Rattle.wave_tree.specs.UntypedCall.{Called, IsCalledOf, MeansParams, RefusesCall, GivesParamsAt, RefusesParamsAt}
 use Rattle.wave.specs.TypedCalls.{IsCallAt, HasParamsFault}
 use Rattle.wave.specs.declared.request.Request.TheVariants.{CallAt}

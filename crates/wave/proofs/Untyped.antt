@@ -10,7 +10,7 @@ use Rattle.wave_grammar.specs.Nodes.{placed_of}
 use Rattle.wave_tree.specs.NodeDisplay.{shown_placed, shown_at}
 use Rattle.wave_tree.specs.ParserState.{Parsing, Finishes, first_at, limited, start_of}
 use Rattle.wave_tree.specs.Untyped.{Untyped, IsUntypedTaken, IsUntypedOf, RefusesTree}
-use Rattle.wave_tree.proofs.ValueReading.{whole_tree}
+use Rattle.wave_tree.proofs.TextReading.TypedTexts.{whole_tree}
 use Rattle.wave_grammar.specs.ParserPosition.{Place}
 use Rattle.wave_grammar.specs.PrefixAutomaton.{value}
 use Rattle.wave_grammar.specs.SyntaxErrors.{LeadsBehindValue, FailsBySyntax}

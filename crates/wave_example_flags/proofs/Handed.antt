@@ -10,8 +10,8 @@ use Rattle.wave_wasm.specs.Types as type
 use Rattle.wave_wasm.specs.Types.{flags_names}
 use Rattle.wave_wasm.specs.Values.{flags}
 use Rattle.wave_wasm.specs.ConstructorContracts.{MakesFlags}
-use Rattle.wave_wasm.proofs.NameTests.{is_one, passes, none_of, distinct_more}
-use Rattle.wave_wasm.proofs.Picked.{picked_of}
+use Rattle.wave_wasm.proofs.Names.NameTests.{is_one, passes, none_of, distinct_more}
+use Rattle.wave_wasm.proofs.Names.Subsequences.{picked_of}
 use Rattle.wave_example_flags.specs.OrderedFlags.{AreFlagsOf, TakesNames}
 
 -- a test of what f makes

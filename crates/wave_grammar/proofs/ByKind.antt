@@ -11,3 +11,5 @@ pub mod Results
 pub mod Variants
 pub mod Flags
 pub mod Wholes
+pub mod MakerAnswers
+pub mod Unreadable

@@ -1,3 +1,4 @@
 pub mod GrammarToTree
 pub mod TreeToGrammar
 pub mod Params
+pub mod ParamsInTurn

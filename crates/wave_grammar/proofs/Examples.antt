@@ -1,3 +1,4 @@
 pub mod Readings
 pub mod Refusals
 pub mod Faults
+pub mod Nodes

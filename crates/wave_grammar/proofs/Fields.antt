@@ -5,3 +5,4 @@ pub mod Refused
 pub mod LeftOut
 pub mod FieldOrder
 pub mod EntryOrder
+pub mod Names

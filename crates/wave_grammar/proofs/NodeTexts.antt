@@ -1,3 +1,4 @@
 pub mod Chars
 pub mod Quoted
 pub mod Nodes
+pub mod Slices

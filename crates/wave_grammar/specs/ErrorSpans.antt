@@ -66,3 +66,15 @@ pub record StandsIn (n : NodeTree) (e : Diagnostic) : Type 0 where
 abbrev pub IsCausedInParams : Range ℕ → Option NodeTree → Diagnostic → Type 0
 IsCausedInParams name None e = IsAtPlace name e
 IsCausedInParams name (Some n) e = IsCausedIn n e
+
+-- the refusal stands at the node, and is of a kind of reading at types
+abbrev pub RefusesAt : NodeTree → Diagnostic → Type 0
+RefusesAt n e = IsAtNode n e × HasTypeKind e
+
+-- so it stands in the node
+abbrev pub RefusesIn : NodeTree → Diagnostic → Type 0
+RefusesIn n e = StandsIn n e × HasTypeKind e
+
+-- so at the node, or in that of its part
+abbrev pub RefusesInPart : NodeTree → Option NodeTree → Diagnostic → Type 0
+RefusesInPart n part e = RefusesAt n e ⊎ ((m : NodeTree) × (part ≡ Some m) × RefusesIn m e)

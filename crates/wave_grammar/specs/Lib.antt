@@ -1,6 +1,5 @@
 pub mod Token
 pub mod NumberText
-pub mod Shared
 pub mod Private
 pub mod LeafTokens
 pub mod CommaSeparated
@@ -39,3 +38,5 @@ pub mod ErrorSpans
 pub mod NodeLaws
 pub mod FlagParts
 pub mod NodeParts
+pub mod FlagOrder
+pub mod PartReading

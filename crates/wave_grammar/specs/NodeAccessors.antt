@@ -19,6 +19,7 @@ use Rattle.wave_lex.specs.Errors.{Diagnostic, Says}
 use Rattle.wave_grammar.specs.TypedReading.{IsValueOf, IsKeyOf}
 use Rattle.wave_grammar.specs.declared.form.NodeType.{NodeType}
 use Rattle.wave_grammar.specs.declared.form.NodeType.TheVariants as kind
+use Rattle.wave_wasm.specs.Text.{bool_text}
 
 -- the text at a node
 abbrev pub node_text : List ℕ → NodeTree → List ℕ
@@ -144,3 +145,13 @@ GivesParts source n (Ok parts) =
 GivesParts source n (Err e) =
     (type_of n ≢ kind.String) × (type_of n ≢ kind.MultilineString) × RefusedAs InvalidType n e
     ⊎ (type_of n ≡ kind.MultilineString) × (inside : List ℕ) × IsInside source n inside × OpeningRefused inside ((place_of n).start + 3) e
+
+-- the node is of this type; or `InvalidType` at the node
+abbrev pub OfType : NodeType → NodeTree → Result Unit Diagnostic → Type 0
+OfType ty n (Ok done) = type_of n ≡ ty
+OfType ty n (Err e) = (type_of n ≢ ty) × RefusedAs InvalidType n e
+
+-- the bool of a key, whose label is its word; or `InvalidType` where it is none
+abbrev pub GivesBoolKey : List ℕ → NodeTree → Result Bool Diagnostic → Type 0
+GivesBoolKey source n (Ok b) = (type_of n ≡ kind.Label) × (node_text source n ≡ bool_text b)
+GivesBoolKey source n (Err e) = ((b : Bool) → type_of n ≡ kind.Label → node_text source n ≢ bool_text b) × RefusedAs InvalidType n e

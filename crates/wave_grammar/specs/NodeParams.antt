@@ -84,3 +84,7 @@ RefusesNone Full Ts at e =
     (e.kind ≡ OutOfMemory)
     ⊎ SomeOf IsNoOption Ts × Says e InvalidParams at (Some (no_params (length Ts)))
     ⊎ RefusesNoValue Full Ts at e
+
+-- out of memory, or the refusal of a `none`
+abbrev pub RefusesOmitted : (TypeTree → Type 0) → List TypeTree → Range ℕ → Diagnostic → Type 0
+RefusesOmitted Full Ts at e = (e.kind ≡ OutOfMemory) ⊎ RefusesNoValue Full Ts at e

@@ -1,5 +1,5 @@
 -- What a `Node` is: its type, its place in the source and its children.
-use Rattle.std.specs.Prelude.{ℕ, List, [], ◌∷◌}
+use Rattle.std.specs.Prelude.{ℕ, List, [], ◌∷◌, suc, max}
 use Rattle.std.specs.declared.ops.Range.{Range}
 use Rattle.wave_grammar.specs.declared.form.NodeType.{NodeType}
 
@@ -34,3 +34,13 @@ children_of (node ty p children) = node_list children
 abbrev pub node_trees : List NodeTree → NodeTrees
 node_trees [] = no_nodes
 node_trees (n ∷ ns) = node_and n (node_trees ns)
+
+-- how deep nodes nest below a node
+abbrev mutual
+  pub depth : NodeTree → ℕ
+  depth (node ty p children) = nodes_depth children
+
+  -- how many of these nodes stand in one another
+  pub nodes_depth : NodeTrees → ℕ
+  nodes_depth no_nodes = 0
+  nodes_depth (node_and n more) = max (suc (depth n)) (nodes_depth more)

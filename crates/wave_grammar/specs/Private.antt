@@ -1,2 +1,3 @@
 pub mod NumberText
 pub mod StringAssembly
+pub mod FlatPayloads

@@ -5,9 +5,9 @@ ghost use Rattle.std.specs.Str.{bytes_eq};
 ghost use Rattle.wave_wasm.specs.Borrowed.{shown};
 ghost use Rattle.wave_wasm.specs.Merge.{merge};
 ghost use Rattle.wave_wasm.specs.Names.{AreDistinct};
-ghost use Rattle.wave_wasm.specs.Shared.Fingerprints.{fingerprint};
+ghost use Rattle.wave_wasm.specs.Fingerprints.{fingerprint};
 ghost use Rattle.wave_wasm.specs.Text.{text};
-ghost use Rattle.wave_grammar.specs.Shared.TypedReading.{GivesFlat};
+ghost use Rattle.wave_grammar.specs.Private.FlatPayloads.{GivesFlat};
 
 use std::alloc::{AllocError, Global};
 use wave_wasm::fingerprints::{all_differ, fingerprint};

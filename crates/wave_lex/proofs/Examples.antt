@@ -15,10 +15,10 @@ use Rattle.wave_lex.specs.Labels.{IsLabel}
 use Rattle.wave_lex.specs.Strings.{CharMeans, StringMeans, UnescapesTo, IsBadEscapeAt, short_escape}
 use Rattle.wave_lex.specs.Multiline.{MultilineMeans, MultilineFault, closing, opening, indentation, fault_span, spaces}
 use Rattle.wave_lex.specs.Errors.{error_text}
-use Rattle.wave_lex.proofs.Unescape.{none_long}
-use Rattle.wave_lex.proofs.Derive.{matches_from}
-use Rattle.wave_lex.proofs.LongestMatch.{longest_here, token_here, no_token_here}
-use Rattle.wave_lex.proofs.Cutting.{no_token_quoted}
+use Rattle.wave_lex.proofs.StringDecoding.EscapesFound.{none_long}
+use Rattle.wave_lex.proofs.RegularShapes.Derivatives.{matches_from}
+use Rattle.wave_lex.proofs.LongestPrefix.ByComputing.{longest_here, token_here, no_token_here}
+use Rattle.wave_lex.proofs.Tokenization.OneCut.{no_token_quoted}
 
 -- texts that a test tells apart
 apart : (a b : List ℕ) → bytes_eq a b ≡ false → a ≢ b

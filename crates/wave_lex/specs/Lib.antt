@@ -3,7 +3,6 @@ pub mod LongestMatch
 pub mod Tokens
 pub mod Tokenization
 pub mod LexerRuns
-pub mod Shared
 pub mod Private
 pub mod Labels
 pub mod LabelWords
@@ -13,3 +12,8 @@ pub mod Multiline
 pub mod Errors
 pub mod Remaining
 pub mod Parts
+pub mod Derive
+pub mod ErrorDetails
+pub mod Machines
+pub mod NameMachine
+pub mod Classes

@@ -181,3 +181,8 @@ abbrev pub OneLineJoins : Type 0
 OneLineJoins = (s : Undecoded) (ps : List StringPart)
     → (LinesRunTo (one_line s) ps None → Decodes s.rest (part_texts ps))
     × ((e : Diagnostic) → LinesRunTo (one_line s) ps (Some e) → (i : ℕ) × IsBadEscapeAt s.rest i × TellsBadEscape e (s.pos + i))
+
+-- the parts that came so far, and what is left
+abbrev pub LinesRun : LinesLeft → List StringPart → LinesLeft → Type 0
+LinesRun l [] m = l ≡ m
+LinesRun l (p ∷ ps) m = (t : LinesLeft) × LinePartIs l (Some (Ok p)) t × LinesRun t ps m

@@ -1,2 +1,4 @@
 pub mod Lines
 pub mod Runs
+pub mod Machines
+pub mod Reading

@@ -3,7 +3,7 @@ ghost use Rattle.std.specs.Prelude.{◌≡◌, Some, option_map};
 ghost use Rattle.std.specs.String.{string_bytes};
 ghost use Rattle.wave_wasm.specs.ValueErrors.{cause_of};
 ghost use Rattle.wave_lex.specs.Errors.{plainly, with_detail, refused_by, kept, refusal_of, kind_words, error_text, IsNoMemory};
-ghost use Rattle.wave_lex.specs.Shared.Errors.{detail_cause, detail_text, error_with};
+ghost use Rattle.wave_lex.specs.ErrorDetails.{detail_cause, detail_text, error_with};
 
 use crate::lex::Span;
 use std::alloc::AllocError;
@@ -122,7 +122,7 @@ impl Model for ParserError {
     ghost Value = { Diagnostic };
 
     ghost use Rattle.wave_lex.specs.Errors.{IsNoMemory};
-    ghost use Rattle.wave_lex.specs.Shared.Errors.{detail_cause, detail_text};
+    ghost use Rattle.wave_lex.specs.ErrorDetails.{detail_cause, detail_text};
 
     ghost view = { λ e.
         record { kind = e.kind; span = e.span; detail = detail_text e.detail; cause = detail_cause e.detail } };

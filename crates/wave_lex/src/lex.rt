@@ -5,7 +5,8 @@ ghost use Rattle.wave_lex.specs.Errors.{class_name, name_class_name};
 ghost use Rattle.wave_lex.specs.LongestMatch.{Greatest, IsPrefixOf};
 ghost use Rattle.wave_lex.specs.Tokens.{shape, invalid};
 ghost use Rattle.wave_lex.specs.Tokenization.{Lexed, Stands, NextIs, item_of, remainder_of, span};
-ghost use Rattle.wave_lex.specs.Shared.Reading.{class_of, ClassAt, TokenAt, IsMark, IsFirstMark};
+ghost use Rattle.wave_lex.specs.Classes.{class_of, ClassAt};
+ghost use Rattle.wave_lex.specs.Private.Reading.{TokenAt, IsMark, IsFirstMark};
 
 pub use self::func_name::FuncNameLexer;
 use self::scan::{gap_at, label_at, mark_at, multiline_at, number_at, string_at};

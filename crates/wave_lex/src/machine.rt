@@ -1,7 +1,7 @@
 //! Machines that read the shapes of tokens, and the scanner that runs one.
 ghost use Rattle.std.specs.Prelude.{◌≡◌, ℕ, ◌≤◌, length};
 ghost use Rattle.wave_lex.specs.Regex.{Regex};
-ghost use Rattle.wave_lex.specs.Shared.Derive.{nullable, derivative, after_next};
+ghost use Rattle.wave_lex.specs.Derive.{nullable, derivative, after_next};
 ghost use Rattle.wave_lex.specs.LongestMatch.{Greatest, IsPrefixOf};
 
 pub(crate) mod character;

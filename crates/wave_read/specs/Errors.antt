@@ -6,7 +6,7 @@ use Rattle.wave_wasm.specs.ValueErrors.{cause_of}
 use Rattle.wave_wasm.specs.declared.wasm.WasmValueError.{WasmValueError}
 use Rattle.wave_wasm.specs.declared.wasm.WasmValueError.TheVariants as error
 use Rattle.wave_lex.specs.Errors.{Diagnostic, refusal_of, refused_by, plainly, class_name, field_label_due, badly_indented}
-use Rattle.wave_lex.specs.Shared.Errors.{error_with}
+use Rattle.wave_lex.specs.ErrorDetails.{error_with}
 use Rattle.wave_lex.specs.declared.error.Detail.{Detail}
 use Rattle.wave_lex.specs.declared.error.Detail.TheVariants as detail
 use Rattle.wave_lex.specs.declared.error.ParserErrorKind.TheVariants.{OutOfMemory}
@@ -55,10 +55,6 @@ HasText detail.None = ⊥
 HasText (detail.Static s) = AreOwnWords s.now
 HasText (detail.Owned s) = AreOwnWords (string_bytes s)
 HasText (detail.Cause e) = CauseHasText e
-
--- the error of these parts; or, where the detail has a text of its own, one for lack of memory
-abbrev pub IsErrorOf : ParserErrorKind → Range ℕ → Detail → Diagnostic → Type 0
-IsErrorOf k p d e = (e ≡ error_with k p d) ⊎ HasText d × (e ≡ detailed OutOfMemory p None)
 
 -- the detail or the cause of the error has a text of its own
 abbrev pub NeedsMemory : Diagnostic → Type 0

@@ -8,7 +8,7 @@ use Rattle.wave_lex.specs.Errors.{Diagnostic}
 use Rattle.wave_grammar.specs.FaultOrder.{Order}
 use Rattle.wave_grammar.specs.NodeTree.{NodeTree, node, node_trees, place_of}
 use Rattle.wave_grammar.specs.declared.form.NodeType.{NodeType}
-use Rattle.wave_read.specs.Errors.{IsRefusedBy, IsMadeOrMemory, error_at}
+use Rattle.wave_read.specs.Errors.{IsMadeOrMemory, error_at}
 use Rattle.wave_read.specs.Reading.{IsReadAs}
 use Rattle.wave_read.specs.declared.error.Reason.TheVariants as reason
 use Rattle.wave_read.specs.declared.fault.Fault.{Fault}
@@ -23,10 +23,6 @@ Tells (fault.Whole r) p f = f ≡ error_at p r
 abbrev pub IsOfKind : Fault → Type 0
 IsOfKind (fault.Whole (reason.Plain k)) = Unit {0}
 IsOfKind _ = ⊥
-
--- the fault is that the whole value could not be made, for this cause; or, where that has a text, that there is no memory
-abbrev pub IsFaultOf : WasmValueError → Fault → Type 0
-IsFaultOf cause f = (p : Range ℕ) (e : Diagnostic) → Tells f p e → IsRefusedBy cause e × (e.span ≡ p)
 
 -- so of each node that stands there
 abbrev pub IsMadeAt : {V : Type 0} → Range ℕ → Result V WasmValueError → Result V Diagnostic → Type 0

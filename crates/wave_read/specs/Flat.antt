@@ -16,11 +16,6 @@ IsFlatAt (type.option P) ty U = (U ≡ P) × IsFlat P × (ty ≢ node_type.Optio
 IsFlatAt (type.result (type.a_type A) B) ty U = (U ≡ A) × IsFlat A × (ty ≢ node_type.ResultOk) × (ty ≢ node_type.ResultErr)
 IsFlatAt _ ty U = ⊥
 
--- the type of the payload that a node of this type stands for alone; or nothing, where there is no such type
-abbrev pub GivesFlatAt : TypeTree → NodeType → Option TypeTree → Type 0
-GivesFlatAt T ty (Some U) = IsFlatAt T ty U
-GivesFlatAt T ty None = (U : TypeTree) → IsFlatAt T ty U → ⊥
-
 -- nothing stands around the type, which is no option or result of a flat payload there; or this option or result
 -- does, and it is its payload's
 abbrev pub IsAround : {S : Type 0} → (S → TypeTree) → TypeTree → NodeType → Option (Bor S) → Bor S → Type 0

@@ -4,7 +4,6 @@ use Rattle.wave_wasm.specs.Types as type
 use Rattle.wave_wasm.specs.Types.{TypeTree}
 use Rattle.wave_grammar.specs.SpannedTree.{slice}
 use Rattle.wave_grammar.specs.NodeTree.{NodeTree, node, no_nodes}
-use Rattle.wave_grammar.specs.NodeParts.{IsOneToken}
 use Rattle.wave_grammar.specs.NodeAccessors.{quotes_of}
 use Rattle.wave_read.specs.declared.leaf.Leaf.{Leaf}
 
@@ -19,10 +18,6 @@ IsLeafIn source l = l.text.now ≡ slice source l.span
 -- its text stands between the quotes of its type
 abbrev pub HasQuotes : Leaf → Type 0
 HasQuotes l = (inside : List ℕ) × (l.text.now ≡ quotes_of l.ty ++ (inside ++ quotes_of l.ty))
-
--- it is one token of some text
-abbrev pub IsTokenOfSome : Leaf → Type 0
-IsTokenOfSome l = IsOneToken l.ty × ((source : List ℕ) × IsLeafIn source l)
 
 -- a simple type, or a type that has no values
 abbrev pub IsSimpleOrUnreadable : TypeTree → Type 0

@@ -1,11 +1,10 @@
 pub mod CaseParts
 pub mod Faults
+pub mod Private
 pub mod Flat
 pub mod KeptParts
 pub mod ListParts
 pub mod MapParts
-pub mod NamedFlags
-pub mod PartSteps
 pub mod PartsOfKinds
 pub mod Payloads
 pub mod RecordParts

@@ -6,7 +6,7 @@ use Rattle.wave_wasm.specs.Types.{TypeTree, HasDistinctNames, map_parts}
 use Rattle.wave_wasm.specs.Values.{Value}
 use Rattle.wave_grammar.specs.FaultOrder.{Order}
 use Rattle.wave_grammar.specs.NodeTree.{NodeTree}
-use Rattle.wave_grammar.specs.Shared.TypedReading.{AnswersMapKey}
+use Rattle.wave_grammar.specs.PartReading.{AnswersMapKey}
 use Rattle.wave_read.specs.Reading.{IsReadAs}
 use Rattle.wave_read.specs.declared.maps.Entries.{Entries}
 

@@ -38,11 +38,6 @@ abbrev pub IsSimpleAt : {S V : Type 0} → (S → TypeTree) → TypeTree → Par
 IsSimpleAt type_tree T (parts.Simple x) = type_tree x.now ≡ T
 IsSimpleAt type_tree T _ = ⊥
 
--- parts of a value that is no list
-abbrev pub AreNoItems : {S V : Type 0} → Partial S V → Type 0
-AreNoItems (parts.Items x) = ⊥
-AreNoItems _ = Unit {0}
-
 -- the type of the value that comes next
 abbrev pub next_due : {S V : Type 0} → Partial S V → Option (Bor S)
 next_due (parts.Items x) = element_due x

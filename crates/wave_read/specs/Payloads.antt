@@ -1,13 +1,10 @@
 -- What has been read of the payload of `some`, `ok` or `err`.
-use Rattle.std.specs.Prelude.{ℕ, ◌≡◌, Bool, true, false, List, [], ◌∷◌, Option, Some, None, Result, Ok, Err, codes}
+use Rattle.std.specs.Prelude.{ℕ, ◌≡◌, Bool, true, false, List, [], ◌∷◌, Option, Some, None, Result}
 use Rattle.std.specs.Borrow.{Bor}
 use Rattle.wave_wasm.specs.Types as type
-use Rattle.wave_wasm.specs.Names.{AreDistinct}
-use Rattle.wave_wasm.specs.Types.{TypeTree, result_parts, maybe_type, EachNamesOfMaybe}
+use Rattle.wave_wasm.specs.Types.{TypeTree, result_parts}
 use Rattle.wave_wasm.specs.Values.{Value}
-use Rattle.wave_wasm.specs.ConstructorContracts.{PayloadIsOf}
 use Rattle.wave_wasm.specs.Borrowed.{shown}
-use Rattle.wave_wasm.specs.ValueErrors.{Cause, missing_payload, unexpected_payload}
 use Rattle.wave_lex.specs.Errors.{Diagnostic}
 use Rattle.wave_grammar.specs.NodeTree.{NodeTree}
 use Rattle.wave_grammar.specs.declared.form.NodeType.{NodeType}
@@ -29,25 +26,6 @@ result_due x = x.due
 abbrev pub result_node : Bool → NodeType
 result_node true = node_type.ResultOk
 result_node false = node_type.ResultErr
-
--- the name of the case
-abbrev pub result_name : Bool → List ℕ
-result_name true = codes "ok"
-result_name false = codes "err"
-
--- the case with this payload
-abbrev pub result_with : {V : Type 0} → Bool → Option V → Result (Option V) (Option V)
-result_with true payload = Ok payload
-result_with false payload = Err payload
-
--- what is wrong with a payload: it is due and not there, or there and not due
-abbrev pub payload_cause : Bool → List ℕ → Cause
-payload_cause true name = missing_payload name
-payload_cause false name = unexpected_payload name
-
--- the payload is there exactly where it has a type, and is of it, where the type's names are distinct
-abbrev pub IsOfPayloadType : {V : Type 0} → (V → TypeTree → Type 0) → Option TypeTree → Option V → Type 0
-IsOfPayloadType of due payload = EachNamesOfMaybe AreDistinct (maybe_type due) → PayloadIsOf of due payload
 
 -- the payload's type in the case
 abbrev pub payload_of : Bool → Option TypeTree × Option TypeTree → Option TypeTree

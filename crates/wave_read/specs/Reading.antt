@@ -9,7 +9,7 @@ use Rattle.wave_grammar.specs.NodeTree.{NodeTree, type_of, place_of}
 use Rattle.wave_grammar.specs.NodeParts.{IsOneToken, IsOfParts}
 use Rattle.wave_grammar.specs.declared.form.NodeType.TheVariants as kind
 use Rattle.wave_grammar.specs.TypedReading.{Answers, IsValueOf}
-use Rattle.wave_grammar.specs.Shared.ErrorSpans.{RefusesIn}
+use Rattle.wave_grammar.specs.ErrorSpans.{RefusesIn}
 use Rattle.wave_read.specs.Leaves.{leaf_node, IsLeafIn, IsSimpleOrUnreadable}
 use Rattle.wave_read.specs.declared.leaf.Leaf.{Leaf}
 

@@ -3,7 +3,7 @@ ghost use Rattle.std.specs.Prelude.{◌≡◌};
 ghost use Rattle.wave_wasm.specs.Types.{kind_of};
 ghost use Rattle.wave_wasm.specs.ValueErrors.{unknown_case};
 ghost use Rattle.wave_grammar.specs.NodeTree.{place_of};
-ghost use Rattle.wave_grammar.specs.Shared.TypedReading.{IsCaused};
+ghost use Rattle.wave_grammar.specs.PartReading.{IsCaused};
 ghost use Rattle.wave_read.specs.Leaves.{leaf_node};
 ghost use Rattle.wave_read.specs.Reading.{IsReadOfLeaf};
 

@@ -5,12 +5,13 @@ ghost use Rattle.std.specs.declared.ops.Range.{Range};
 ghost use Rattle.wave_wasm.specs.TypeText.{kind_word};
 ghost use Rattle.wave_wasm.specs.ValueErrors.{unsupported_type};
 ghost use Rattle.wave_grammar.specs.NodeTree.{NodeTree, place_of};
-ghost use Rattle.wave_grammar.specs.Shared.TypedReading.{IsCaused};
+ghost use Rattle.wave_grammar.specs.PartReading.{IsCaused};
 ghost use Rattle.wave_lex.specs.Errors.{Says, class_name, plainly, refusal_of, repeated_name};
-ghost use Rattle.wave_lex.specs.Shared.Errors.{error_with};
+ghost use Rattle.wave_lex.specs.ErrorDetails.{error_with};
 ghost use Rattle.wave_lex.specs.declared.error.Detail.TheVariants as detail_as;
 ghost use Rattle.wave_lex.specs.declared.error.ParserErrorKind.TheVariants as kind_as;
-ghost use Rattle.wave_read.specs.Errors.{AreOwnWords, IsErrorOf, IsRefusedBy, IsSameOrMemory, error_at, static_words};
+ghost use Rattle.wave_read.specs.Errors.{AreOwnWords, IsRefusedBy, IsSameOrMemory, error_at, static_words};
+ghost use Rattle.wave_read.specs.Private.Errors.{IsErrorOf};
 ghost use Rattle.wave_read.specs.declared.error.StaticDetail.{StaticDetail};
 
 use std::alloc::{AllocError, Global};

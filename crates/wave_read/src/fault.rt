@@ -1,6 +1,7 @@
 //! What is wrong with a value, before its end is seen.
 ghost use Rattle.std.specs.Prelude.{MatchOption};
-ghost use Rattle.wave_read.specs.Faults.{IsOfKind, Tells, IsFaultOf, IsMadeAt};
+ghost use Rattle.wave_read.specs.Faults.{IsOfKind, Tells, IsMadeAt};
+ghost use Rattle.wave_read.specs.Private.Faults.{IsFaultOf};
 
 use crate::error::{ReadError, Reason};
 use std::alloc::Global;

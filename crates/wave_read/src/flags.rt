@@ -9,7 +9,7 @@ ghost use Rattle.wave_grammar.specs.NodeTree.{NodeTree, node, no_nodes, children
 ghost use Rattle.wave_grammar.specs.declared.form.NodeType.TheVariants as node_type;
 ghost use Rattle.wave_grammar.specs.NodeFlags.{AreFlags, names_at};
 ghost use Rattle.wave_read.specs.Reading.{IsReadAs, IsOfType};
-ghost use Rattle.wave_read.specs.NamedFlags.{flag_names, IsReadOrTold, IsTold, TellsCause, TellsUnknown, IsReadOfFlags};
+ghost use Rattle.wave_read.specs.Private.NamedFlags.{flag_names, IsReadOrTold, IsTold, TellsCause, TellsUnknown, IsReadOfFlags};
 
 use crate::error::{ReadError, Reason};
 use crate::fault::{Fault, caused};

@@ -5,7 +5,8 @@ ghost use Rattle.wave_wasm.specs.Borrowed.{shown};
 ghost use Rattle.wave_grammar.specs.FaultOrder.{Order};
 ghost use Rattle.wave_grammar.specs.NodeTree.{NodeTree, type_of, place_of};
 ghost use Rattle.wave_read.specs.Reading.{IsReadAs};
-ghost use Rattle.wave_read.specs.Flat.{IsFlatAt, GivesFlatAt, IsAround, IsOfFlatPart};
+ghost use Rattle.wave_read.specs.Flat.{IsFlatAt, IsAround, IsOfFlatPart};
+ghost use Rattle.wave_read.specs.Private.Flat.{GivesFlatAt};
 
 use crate::error::ReadError;
 use crate::fault::or_error_at;

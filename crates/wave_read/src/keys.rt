@@ -2,9 +2,10 @@
 ghost use Rattle.std.specs.Prelude.{ℕ, List, ◌≡◌, IfOk};
 ghost use Rattle.std.specs.String.{string_bytes};
 ghost use Rattle.wave_wasm.specs.Types as type;
-ghost use Rattle.wave_grammar.specs.Shared.NodeAccessors.{GivesBoolKey};
+ghost use Rattle.wave_grammar.specs.NodeAccessors.{GivesBoolKey};
 ghost use Rattle.wave_grammar.specs.TypeErrors.{key_due};
-ghost use Rattle.wave_read.specs.Keys.{IsDetailed, IsKeyReadOf, IsMapKeyReadOf, RefusesInKey};
+ghost use Rattle.wave_read.specs.Private.Keys.{IsDetailed};
+ghost use Rattle.wave_read.specs.Keys.{IsKeyReadOf, IsMapKeyReadOf, RefusesInKey};
 ghost use Rattle.wave_read.specs.Leaves.{leaf_node, IsLeafIn};
 ghost use Rattle.wave_read.specs.Reading.{IsOfType};
 

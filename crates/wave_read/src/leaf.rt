@@ -5,7 +5,7 @@ ghost use Rattle.wave_wasm.specs.TypeText.{kind_word};
 ghost use Rattle.wave_wasm.specs.ValueErrors.{unsupported_type};
 ghost use Rattle.wave_grammar.specs.NodeTree.{place_of};
 ghost use Rattle.wave_grammar.specs.NodeAccessors.{RefusedAs, GivesBool, GivesNumber, GivesChar};
-ghost use Rattle.wave_grammar.specs.Shared.TypedReading.{IsCaused, AnswersWhole};
+ghost use Rattle.wave_grammar.specs.PartReading.{IsCaused, AnswersWhole};
 ghost use Rattle.wave_read.specs.Errors.{IsMadeOrMemory, IsRefusedBy};
 ghost use Rattle.wave_read.specs.Leaves.{leaf_node, IsLeafIn};
 ghost use Rattle.wave_read.specs.Reading.{IsReadOfLeaf};

@@ -5,8 +5,8 @@ ghost use Rattle.wave_grammar.specs.FaultOrder.{Order};
 ghost use Rattle.wave_grammar.specs.NodeTree.{NodeTree, type_of, place_of};
 ghost use Rattle.wave_grammar.specs.declared.form.NodeType.TheVariants as node_type;
 ghost use Rattle.wave_read.specs.Flat.{IsFlatAt};
-ghost use Rattle.wave_read.specs.NamedFlags.{IsReadOfFlags};
-ghost use Rattle.wave_read.specs.Leaves.{IsTokenOfSome};
+ghost use Rattle.wave_read.specs.Private.NamedFlags.{IsReadOfFlags};
+ghost use Rattle.wave_read.specs.Private.Leaves.{IsTokenOfSome};
 ghost use Rattle.wave_read.specs.Reading.{IsOfType, IsReadAs, IsReadOfLeaf};
 
 use crate::enums::read_enum;

@@ -4,9 +4,9 @@ ghost use Rattle.wave_wasm.specs.Types.{kind_of};
 ghost use Rattle.wave_wasm.specs.ConstructorContracts.{IsOfListKind};
 ghost use Rattle.wave_grammar.specs.FaultOrder.{Order};
 ghost use Rattle.wave_grammar.specs.NodeTree.{NodeTrees, node};
-ghost use Rattle.wave_grammar.specs.Shared.TypedReading.{IsOfLength, IsOtherLength};
+ghost use Rattle.wave_grammar.specs.PartReading.{IsOfLength, IsOtherLength};
 ghost use Rattle.wave_read.specs.ListParts.{AreItems, element_due};
-ghost use Rattle.wave_read.specs.PartSteps.{AddsPart, IsWholeOf, WereRead};
+ghost use Rattle.wave_read.specs.Private.PartSteps.{AddsPart, IsWholeOf, WereRead};
 
 use crate::error::{ReadError, Reason};
 use crate::fault::or_error_at;

@@ -5,7 +5,7 @@ ghost use Rattle.wave_grammar.specs.FaultOrder.{Order};
 ghost use Rattle.wave_grammar.specs.NodeTree.{node, no_nodes};
 ghost use Rattle.wave_read.specs.Reading.{IsReadAs};
 ghost use Rattle.wave_read.specs.MapParts.{AreEntries, value_type_due};
-ghost use Rattle.wave_read.specs.PartSteps.{AddsKey, AddsPart, IsWholeOf, WereRead};
+ghost use Rattle.wave_read.specs.Private.PartSteps.{AddsKey, AddsPart, IsWholeOf, WereRead};
 
 use crate::error::ReadError;
 use crate::fault::{Fault, or_error_at};

@@ -6,7 +6,7 @@ ghost use Rattle.wave_grammar.specs.declared.form.NodeType.TheVariants as node_t
 ghost use Rattle.wave_read.specs.Leaves.{leaf_node};
 ghost use Rattle.wave_read.specs.Reading.{IsReadAs};
 ghost use Rattle.wave_read.specs.Payloads.{AreOfSome, some_due};
-ghost use Rattle.wave_read.specs.PartSteps.{AddsPart, IsWholeOf, WereRead};
+ghost use Rattle.wave_read.specs.Private.PartSteps.{AddsPart, IsWholeOf, WereRead};
 
 use crate::error::ReadError;
 use crate::fault::or_error_at;

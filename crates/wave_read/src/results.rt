@@ -5,12 +5,13 @@ ghost use Rattle.wave_wasm.specs.Borrowed.{shown};
 ghost use Rattle.wave_grammar.specs.FaultOrder.{Order};
 ghost use Rattle.wave_grammar.specs.NodeTree.{NodeTree, node, node_trees, place_of};
 ghost use Rattle.wave_grammar.specs.NodeAccessors.{first_of};
-ghost use Rattle.wave_grammar.specs.Shared.TypedReading.{IsCaused, IsPayloadOf, AnswersPayload};
-ghost use Rattle.wave_grammar.specs.Shared.ErrorSpans.{RefusesInPart};
+ghost use Rattle.wave_grammar.specs.PartReading.{IsCaused, IsPayloadOf, AnswersPayload};
+ghost use Rattle.wave_grammar.specs.ErrorSpans.{RefusesInPart};
 ghost use Rattle.wave_read.specs.Leaves.{leaf_node};
 ghost use Rattle.wave_read.specs.Reading.{IsReadAs};
-ghost use Rattle.wave_read.specs.Payloads.{AreOfResult, IsOfPayloadType, IsReadPayload, payload_cause, result_node, result_name, result_with, result_due};
-ghost use Rattle.wave_read.specs.PartSteps.{AddsPart, WereRead};
+ghost use Rattle.wave_read.specs.Payloads.{AreOfResult, IsReadPayload, result_node, result_due};
+ghost use Rattle.wave_read.specs.Private.Payloads.{IsOfPayloadType, payload_cause, result_name, result_with};
+ghost use Rattle.wave_read.specs.Private.PartSteps.{AddsPart, WereRead};
 
 use crate::error::ReadError;
 use crate::fault::or_error_at;

@@ -5,7 +5,7 @@ ghost use Rattle.wave_wasm.specs.ValueErrors as causes;
 ghost use Rattle.wave_lex.specs.Errors.{caused, refusal_of};
 ghost use Rattle.wave_grammar.specs.FaultOrder.{Order};
 ghost use Rattle.wave_read.specs.TupleParts.{IsRow, item_due};
-ghost use Rattle.wave_read.specs.PartSteps.{AddsPart, IsWholeOf, WereRead};
+ghost use Rattle.wave_read.specs.Private.PartSteps.{AddsPart, IsWholeOf, WereRead};
 
 use crate::error::{ReadError, Reason};
 use crate::fault::{Fault, or_error_at};

@@ -5,10 +5,10 @@ ghost use Rattle.wave_wasm.specs.ValueErrors.{missing_payload};
 ghost use Rattle.wave_grammar.specs.FaultOrder.{Order};
 ghost use Rattle.wave_grammar.specs.NodeTree.{place_of};
 ghost use Rattle.wave_grammar.specs.declared.form.NodeType.TheVariants as node_type;
-ghost use Rattle.wave_grammar.specs.Shared.TypedReading.{IsCaused};
+ghost use Rattle.wave_grammar.specs.PartReading.{IsCaused};
 ghost use Rattle.wave_read.specs.Leaves.{leaf_node};
 ghost use Rattle.wave_read.specs.CaseParts.{AreCaseParts, payload_due};
-ghost use Rattle.wave_read.specs.PartSteps.{AddsKey, AddsPart, IsWholeOf, WereRead};
+ghost use Rattle.wave_read.specs.Private.PartSteps.{AddsKey, AddsPart, IsWholeOf, WereRead};
 ghost use Rattle.wave_read.specs.Reading.{IsReadOfLeaf};
 
 use crate::enums::no_case;

@@ -3,3 +3,4 @@ pub mod Lists
 pub mod Braces
 pub mod Flags
 pub mod Items
+pub mod TokenAlignment

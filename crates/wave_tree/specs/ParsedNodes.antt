@@ -27,10 +27,6 @@ pub record IsParsed (n : ℕ) (old new : Place) (parsed : NodeTree) : Type 0 whe
   pub is_node : IsSound old → IsNodeOf old.lexer.source parsed placed
   pub takes : (rest : List Token) → NoParen rest → tree.Takes n (token ∷ (others ++ rest)) (tree_of placed) rest
 
--- this was made of a node, of the place's source, for which this holds
-abbrev pub IsBuilt : {M : Type 0} → (List ℕ → NodeTree → M → Type 0) → Place → (NodeTree → Type 0) → M → Type 0
-IsBuilt Of p Is made = (n : NodeTree) × Is n × Of p.lexer.source n made
-
 -- the next token is of this class
 abbrev pub TakesClass : lex.Token → Place → Place → Type 0
 TakesClass c p q = TakesItem p (Some (Ok c)) q

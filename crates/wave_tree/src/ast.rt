@@ -3,10 +3,9 @@ ghost use Rattle.std.specs.Prelude.{◌≡◌, ◌+◌, ◌<◌, ◌^◌, length
 ghost use Rattle.wave_grammar.specs.NodeTree.{node, no_nodes, type_of, place_of, children_of};
 ghost use Rattle.wave_grammar.specs.Nodes.{IsParsedFrom};
 ghost use Rattle.wave_grammar.specs.NodeStrings.{GivesString};
-ghost use Rattle.wave_grammar.specs.NodeAccessors.{node_text, RefusedAs};
+ghost use Rattle.wave_grammar.specs.NodeAccessors.{node_text, RefusedAs, OfType};
 ghost use Rattle.wave_grammar.specs.NodeAccessors.{GivesBool, GivesNumber, GivesChar, GivesParts, GivesNodes, GivesOption};
 ghost use Rattle.wave_grammar.specs.NodeAccessors.{GivesResult, GivesLabel, GivesVariant, GivesEntries, node_pairs};
-ghost use Rattle.wave_grammar.specs.Shared.NodeAccessors.{OfType};
 ghost use Rattle.wave_read.specs.Leaves.{leaf_node, HasQuotes, IsLeafIn};
 
 pub use crate::flags::FlagLabels;
@@ -41,8 +40,7 @@ pub struct Node {
 }
 
 impl Model for Node {
-    ghost use Rattle.wave_grammar.specs.NodeTree.{NodeTree, node, node_trees};
-    ghost use Rattle.wave_grammar.specs.Shared.NodeTree.{depth};
+    ghost use Rattle.wave_grammar.specs.NodeTree.{NodeTree, node, node_trees, depth};
     ghost use Rattle.wave_tree.specs.Private.NodeEncoding.{node_code};
 
     ghost Value = { NodeTree };

@@ -12,8 +12,8 @@ ghost use Rattle.wave_grammar.specs.FlagParts.{AreFlagsOf, flag_nodes};
 ghost use Rattle.wave_grammar.specs.NodeParts.{IsOfParts, IsOneToken, TakesPart};
 ghost use Rattle.wave_grammar.specs.NodeTree.{NodeTree, node, no_nodes};
 ghost use Rattle.wave_grammar.specs.declared.form.NodeType.TheVariants as node_type;
-ghost use Rattle.wave_tree.specs.ParsedNodes.{IsParsed, IsBuilt, TakesClass};
-ghost use Rattle.wave_tree.specs.Private.ParsedNodes.{IsParsedBehind, IsOfPayload, IsMaybe, IsPayload, IsOfItems, IsOfEntries, IsOfFlags, label_children};
+ghost use Rattle.wave_tree.specs.ParsedNodes.{IsParsed, TakesClass};
+ghost use Rattle.wave_tree.specs.Private.ParsedNodes.{IsBuilt, IsParsedBehind, IsOfPayload, IsMaybe, IsPayload, IsOfItems, IsOfEntries, IsOfFlags, label_children};
 ghost use Rattle.wave_tree.specs.Private.ParserState.{AsksFor, IsValueStart, OnlyOutOfMemory};
 
 use crate::ast::NodeType;

@@ -1,8 +1,7 @@
 //! The flags of nodes.
 ghost use Rattle.std.specs.Prelude.{◌≡◌, IfOk};
 ghost use Rattle.wave_grammar.specs.Nodes.{IsParsedFrom};
-ghost use Rattle.wave_grammar.specs.NodeFlags.{AreInOrder, GivesFlags, names_at};
-ghost use Rattle.wave_grammar.specs.Shared.NodeFlags.{AreAllParsed, GivesFlagNodes};
+ghost use Rattle.wave_grammar.specs.NodeFlags.{AreInOrder, GivesFlags, names_at, AreAllParsed, GivesFlagNodes};
 
 use crate::ast::{Node, NodeType};
 use std::iter::ExactSizeIterator;
@@ -46,8 +45,7 @@ pub struct FlagLabels<'this, 'src> {
 impl<'this, 'src> Model for FlagLabels<'this, 'src> {
     ghost use Rattle.std.specs.Prelude.{List, ℕ};
     ghost use Rattle.std.specs.Coded.{codes};
-    ghost use Rattle.wave_grammar.specs.Shared.NodeFlags.{AreAllParsed};
-    ghost use Rattle.wave_grammar.specs.NodeFlags.{names_at};
+    ghost use Rattle.wave_grammar.specs.NodeFlags.{AreAllParsed, names_at};
 
     ghost Value = { List (List ℕ) };
 

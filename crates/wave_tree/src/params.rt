@@ -13,9 +13,8 @@ ghost use Rattle.wave_grammar.specs.ErrorSpans.{IsCausedIn, IsAtPlace, HasParams
 ghost use Rattle.wave_lex.specs.Errors.{LiesInText};
 ghost use Rattle.wave_grammar.specs.Nodes.{IsNodeOf, IsParsedFrom};
 ghost use Rattle.wave_grammar.specs.SpannedTree.{SpannedTree};
-ghost use Rattle.wave_grammar.specs.NodeParams.{AreOmitted, RefusesNone};
+ghost use Rattle.wave_grammar.specs.NodeParams.{AreOmitted, RefusesNone, RefusesOmitted};
 ghost use Rattle.wave_grammar.specs.NodeParams.{GivesParams, RefusesParams, IsNoOption, close_of};
-ghost use Rattle.wave_grammar.specs.Shared.NodeParams.{RefusesOmitted};
 
 use crate::ast::Node;
 use std::alloc::Global;

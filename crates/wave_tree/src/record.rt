@@ -9,10 +9,8 @@ ghost use Rattle.wave_grammar.specs.Nodes.{IsParsedFrom};
 ghost use Rattle.wave_grammar.specs.NodeAccessors.{node_text, node_pairs, IsEntryOf};
 ghost use Rattle.wave_grammar.specs.TypedReading.{IsValueOf};
 ghost use Rattle.wave_lex.specs.Errors.{Says};
-ghost use Rattle.wave_grammar.specs.ErrorSpans.{StandsIn};
-ghost use Rattle.wave_grammar.specs.Shared.ErrorSpans.{RefusesIn};
-ghost use Rattle.wave_grammar.specs.NodeFields.{IsFieldsOf, RefusesFields, GivesRecord};
-ghost use Rattle.wave_grammar.specs.Shared.NodeFields.{GivesName, HoldsFields, fields_at};
+ghost use Rattle.wave_grammar.specs.ErrorSpans.{StandsIn, RefusesIn};
+ghost use Rattle.wave_grammar.specs.NodeFields.{IsFieldsOf, RefusesFields, GivesRecord, GivesName, HoldsFields, fields_at};
 
 use crate::ast::{MapEntries, Node, NodeType};
 use std::alloc::Global;

@@ -7,9 +7,8 @@ ghost use Rattle.wave_lex.specs.declared.error.ParserErrorKind.TheVariants.{OutO
 ghost use Rattle.wave_lex.specs.Errors.{LiesInText};
 ghost use Rattle.wave_grammar.specs.NodeTree.{place_of};
 ghost use Rattle.wave_grammar.specs.Nodes.{IsParsedFrom};
-ghost use Rattle.wave_grammar.specs.ErrorSpans.{HasTypeKind, StandsIn};
+ghost use Rattle.wave_grammar.specs.ErrorSpans.{HasTypeKind, StandsIn, RefusesIn};
 ghost use Rattle.wave_grammar.specs.TypedReading.{IsKeyOf, IsKeywordOf, AnswersKey, ReadsAtType, ReadsKey};
-ghost use Rattle.wave_grammar.specs.Shared.ErrorSpans.{RefusesIn};
 ghost use Rattle.wave_tree.specs.KeywordNodes.{RefusesKeyword};
 
 use crate::ast::{Node, NodeType};

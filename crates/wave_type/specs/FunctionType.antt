@@ -1,8 +1,6 @@
 -- The type of a function, and the function that the traits speak of.
 use Rattle.std.specs.Prelude.{ℕ, Bool, true, false, if◌then◌else◌, List, [], ◌∷◌, String, map}
 use Rattle.std.specs.declared.alloc.Global.{Global}
-use Rattle.std.specs.Borrow.{Bor}
-use Rattle.wave_wasm.specs.Borrowed.{named}
 use Rattle.wave_wasm.specs.Types.{TypeTree}
 use Rattle.wave_wasm.specs.TypeText.{Func}
 use Rattle.wave_type.specs.TypeModel.{by_bytes}
@@ -15,10 +13,6 @@ pub record FunctionType : Type 0 where
 -- the type of a function with these parameters and results
 abbrev pub function_of : List (String Global × TypeTree) → List (String Global × TypeTree) → FunctionType
 function_of params results = record { params = map by_bytes params; results = map by_bytes results }
-
--- the function type of these parameters and results, whose names are borrowed
-abbrev pub named_function : List (Bor (List ℕ) × TypeTree) → List (Bor (List ℕ) × TypeTree) → FunctionType
-named_function params results = record { params = named params; results = named results }
 
 -- the names, in their order
 abbrev pub names_of : List (List ℕ × TypeTree) → List (List ℕ)

@@ -7,3 +7,4 @@ pub mod TypeTokens
 pub mod FunctionReading
 pub mod LabelTest
 pub mod NameIndex
+pub mod FunctionType

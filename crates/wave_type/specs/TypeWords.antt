@@ -10,7 +10,7 @@ use Rattle.wave_wasm.specs.Names.{is_one_of}
 use Rattle.wave_wasm.specs.TypeText.{kind_word}
 use Rattle.wave_wasm.specs.Types as type
 use Rattle.wave_wasm.specs.Types.{TypeTree}
-use Rattle.wave_lex.specs.Shared.Derive.{derivative_by, nullable}
+use Rattle.wave_lex.specs.Derive.{derivative_by, nullable}
 use Rattle.wave_lex.specs.Tokens.{label}
 use Rattle.wave_type.specs.TypeMade.{simple_type}
 

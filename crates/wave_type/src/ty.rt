@@ -76,9 +76,8 @@ impl Drop for Type {
 }
 
 impl Model for Type {
-    ghost use Rattle.wave_wasm.specs.Types.{TypeTree};
-    ghost use Rattle.wave_wasm.specs.Shared.Types.{depth};
-    ghost use Rattle.wave_wasm.specs.Shared.TypeTreeEncoding.{tree_code};
+    ghost use Rattle.wave_wasm.specs.Types.{TypeTree, depth};
+    ghost use Rattle.wave_wasm.specs.TypeTreeEncoding.{tree_code};
 
     ghost Value = { TypeTree };
 

@@ -74,7 +74,7 @@ impl Drop for Value {
 }
 
 impl Model for Value {
-    ghost use Rattle.wave_wasm.specs.Shared.Values.{depth};
+    ghost use Rattle.wave_wasm.specs.Values.{depth};
     ghost use Rattle.wave_value.specs.TypedValue.{TypedValue};
     ghost use Rattle.wave_value.specs.Private.ValueEncoding.{typed_code};
 

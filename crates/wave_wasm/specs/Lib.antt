@@ -1,7 +1,6 @@
 pub mod Lists
 pub mod Names
 pub mod Types
-pub mod Shared
 pub mod Private
 pub mod TypeTreeEncoding
 pub mod SimpleEquality
@@ -18,3 +17,4 @@ pub mod TypeText
 pub mod ValueErrors
 pub mod WriterState
 pub mod Laws
+pub mod Fingerprints

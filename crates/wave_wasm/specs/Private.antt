@@ -1,3 +1,5 @@
 pub mod Text
 pub mod TypeText
 pub mod WriterState
+pub mod Commas
+pub mod Values

@@ -1,5 +1,5 @@
 -- The values, without their types.
-use Rattle.std.specs.Prelude.{ℕ, ℤ, ◌≡◌, Bool, List, [], ◌∷◌, Option, Some, None}
+use Rattle.std.specs.Prelude.{ℕ, ℤ, ◌≡◌, Bool, List, [], ◌∷◌, Option, Some, None, suc, max}
 use Rattle.wave_wasm.specs.Lists.{AllOf}
 use Rattle.std.specs.Char.{IsScalar}
 use Rattle.std.specs.Str.{IsUtf8}
@@ -193,3 +193,45 @@ abbrev mutual
   pub AreWellFormedEntries : Entries → Type 0
   AreWellFormedEntries no_entries = Unit {0}
   AreWellFormedEntries (entry key v more) = IsSound key × IsWellFormed v × AreWellFormedEntries more
+
+-- a payload, as an option
+abbrev pub value_option : MaybeValue → Option Value
+value_option no_value = None
+value_option (a_value v) = Some v
+
+-- how deep a value nests
+abbrev mutual
+  pub depth : Value → ℕ
+  depth (leaf one) = 0
+  depth (unreadable kind) = 0
+  depth (list vs) = suc (depth_of_values vs)
+  depth (fixed vs) = suc (depth_of_values vs)
+  depth (record_value fs) = suc (depth_of_fields fs)
+  depth (tuple vs) = suc (depth_of_values vs)
+  depth (variant name payload) = suc (depth_of_maybe payload)
+  depth (enum name) = 0
+  depth (option payload) = suc (depth_of_maybe payload)
+  depth (ok payload) = suc (depth_of_maybe payload)
+  depth (err payload) = suc (depth_of_maybe payload)
+  depth (flags names) = 0
+  depth (map es) = suc (depth_of_entries es)
+
+  -- how deep a payload nests
+  pub depth_of_maybe : MaybeValue → ℕ
+  depth_of_maybe no_value = 0
+  depth_of_maybe (a_value v) = depth v
+
+  -- how deep the deepest item nests
+  pub depth_of_values : Values → ℕ
+  depth_of_values no_values = 0
+  depth_of_values (value_and v more) = max (depth v) (depth_of_values more)
+
+  -- how deep the deepest field nests
+  pub depth_of_fields : FieldValues → ℕ
+  depth_of_fields no_fields = 0
+  depth_of_fields (field name v more) = max (depth v) (depth_of_fields more)
+
+  -- how deep the deepest entry nests; a key is no level
+  pub depth_of_entries : Entries → ℕ
+  depth_of_entries no_entries = 0
+  depth_of_entries (entry key v more) = max (depth v) (depth_of_entries more)

@@ -2,7 +2,7 @@
 ghost use Rattle.std.specs.Prelude.{◌≡◌, ◌≢◌, ◌↔◌, IsTrue};
 ghost use Rattle.std.specs.List.{AllPairs};
 ghost use Rattle.std.specs.List.Sorted.{IsStrictlyIncreasing};
-ghost use Rattle.wave_wasm.specs.Shared.Fingerprints.{fingerprint};
+ghost use Rattle.wave_wasm.specs.Fingerprints.{fingerprint};
 
 use std::hash::{FoldHasher, Hasher};
 

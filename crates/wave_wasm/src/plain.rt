@@ -7,7 +7,7 @@ ghost use Rattle.wave_wasm.specs.Text.{escaped};
 ghost use Rattle.wave_wasm.specs.Private.Text.{is_plain_byte};
 
 /// Whether the text is of ASCII, and each scalar of it stands for itself between quotes.
-#[tactic(auto, using(crate::proofs::PlainTexts::plain_stands))]
+#[tactic(auto, using(crate::proofs::Escapes::PlainBytes::plain_stands))]
 pub fn stands_for_itself(text: &str) -> bool
     ensures { OnTrue result (flat_map escaped (chars text.now) ≡ text.now) }
 {

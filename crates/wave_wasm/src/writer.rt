@@ -115,9 +115,10 @@ impl<W: TextWrite> Writer<W> {
     ghost use Rattle.wave_wasm.specs.WriterState.{Appended, Refused};
     ghost use Rattle.wave_wasm.specs.Private.WriterState.{Writes};
     ghost use Rattle.wave_wasm.specs.Values.{kind_of, IsWellFormed, flags_names};
-    ghost use Rattle.wave_wasm.specs.Shared.Values.{IsLeaf};
+    ghost use Rattle.wave_wasm.specs.Private.Values.{IsLeaf};
     ghost use Rattle.wave_wasm.specs.Keywords.{case_label};
-    ghost use Rattle.wave_wasm.specs.Shared.Commas.{comma_if, enclosed};
+    ghost use Rattle.wave_wasm.specs.Private.Commas.{comma_if};
+    ghost use Rattle.wave_wasm.specs.Commas.{enclosed};
     ghost use Rattle.wave_wasm.specs.ConstructorContracts.{IsOfListKind};
     ghost use Rattle.wave_wasm.specs.Borrowed.{texts, shown, shown_all};
     ghost use Rattle.wave_wasm.specs.Text.{escaped, quoted, quoted_char, text, has_text};
@@ -520,13 +521,13 @@ ghost use Rattle.std.specs.List.{list_all};
 ghost use Rattle.std.specs.Str.{bytes_eq};
 ghost use Rattle.std.specs.String.{string_bytes};
 ghost use Rattle.wave_wasm.specs.Lists.{AllOf};
-ghost use Rattle.wave_wasm.specs.Shared.Values.{IsLeaf};
+ghost use Rattle.wave_wasm.specs.Private.Values.{IsLeaf};
 ghost use Rattle.std.specs.Char.{encode_utf8};
 ghost use Rattle.wave_wasm.specs.Text.{text, has_text, is_no_option, escaped, is_escaped, arguments_text, results_text};
 ghost use Rattle.wave_wasm.specs.Private.Text.{number_escape};
 ghost use Rattle.wave_wasm.specs.Merge.{merge, merge_by_text};
 ghost use Rattle.wave_wasm.specs.Names.{AreDistinct};
-ghost use Rattle.wave_wasm.specs.Shared.Fingerprints.{fingerprint};
+ghost use Rattle.wave_wasm.specs.Fingerprints.{fingerprint};
 ghost use Rattle.wave_wasm.specs.WriterState.{IsGrounded};
 
 /// The canonical text of the value. `UnsupportedType` is answered only where it has none, and

@@ -9,7 +9,7 @@ use Rattle.wave_grammar.specs.Tree.{Word, word_of, leaf_word, none_word, some_wo
 use Rattle.wave_grammar.specs.PrefixLaws.{flags_before, EmptyTuplesAreEmpty, RepeatedFlagsAreRepeated, DeepValuesAreDeep}
 use Rattle.wave_grammar.specs.PrefixAutomaton as due
 use Rattle.wave_grammar.specs.PrefixAutomaton.{Expectation, StackSymbol, value, first_item, next_item, behind_value, behind_label, Step, too_deep, empty_tuple, repeated_flag, unexpected, reads, step, Shifts, closes, closed, closed_empty, level_step, value_step, behind_step, key_step, behind_flag_step, flag_step, IsValueDue}
-use Rattle.wave_wasm.proofs.NameTests.{is_one}
+use Rattle.wave_wasm.proofs.Names.NameTests.{is_one}
 use Rattle.wave_grammar.proofs.Automaton.Sound.{close_token}
 use Rattle.wave_grammar.proofs.Automaton.Prefixes.{Fits, leads_fit, level_there}
 

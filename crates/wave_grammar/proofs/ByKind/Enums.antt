@@ -22,15 +22,15 @@ use Rattle.wave_grammar.specs.NodeTree.{NodeTree, type_of, place_of}
 use Rattle.wave_grammar.specs.Nodes.{placed_of, shape_from}
 use Rattle.wave_grammar.specs.NodeAccessors.{node_text}
 use Rattle.wave_grammar.specs.TypedReading.{IsTypedValue, IsBlamed, IsMade}
-use Rattle.wave_grammar.specs.Shared.TypedReading.{IsCaused}
+use Rattle.wave_grammar.specs.PartReading.{IsCaused}
 use Rattle.wave_grammar.proofs.ChildNodes.Inside.{From, inside, some_is}
 use Rattle.wave_grammar.proofs.ChildNodes.Cases.{shape_at}
 use Rattle.wave_grammar.proofs.ByKind.Leaves.{tree_is, at_tree}
-use Rattle.wave_grammar.proofs.MakerAnswers.{made}
-use Rattle.wave_grammar.proofs.Unread.{caused_blame}
+use Rattle.wave_grammar.proofs.ByKind.MakerAnswers.{made}
+use Rattle.wave_grammar.proofs.ByKind.Unreadable.{caused_blame}
 use Rattle.wave_grammar.specs.declared.form.NodeType.{NodeType}
 use Rattle.wave_grammar.specs.declared.form.NodeType.TheVariants as kind
-use Rattle.wave_wasm.proofs.TypeKinds.{formed_as}
+use Rattle.wave_wasm.proofs.TypesOfValues.TypeOfKind.{formed_as}
 
 -- the type of the kind of enums
 pub enum_is : (T : TypeTree) → kinds.Enum ≡ kind_of T → (names : List (List ℕ)) → names ≡ enum_names T → T ≡ type.enum names

@@ -22,21 +22,20 @@ use Rattle.wave_grammar.specs.TypeErrors.{Blame, IsRefusalOf, RefusesFor, OfForm
 use Rattle.wave_grammar.specs.FaultOrder.{Order, FirstOf, FirstFault}
 use Rattle.wave_grammar.specs.NodeTree.{NodeTree, type_of, place_of, children_of}
 use Rattle.wave_grammar.specs.Nodes.{IsNodeOf}
-use Rattle.wave_grammar.specs.NodeFlags.{names_at, AreFlags}
-use Rattle.wave_grammar.specs.Shared.NodeFlags.{IsFirstUnknown, RefusesFlags}
+use Rattle.wave_grammar.specs.NodeFlags.{names_at, AreFlags, IsFirstUnknown, RefusesFlags}
 use Rattle.wave_grammar.specs.TypedReading.{IsTypedValue, IsBlamed, IsMade}
 use Rattle.wave_grammar.proofs.ChildNodes.Inside.{From, inside}
 use Rattle.wave_grammar.proofs.ByKind.Leaves.{tree_is, at_tree, said}
-use Rattle.wave_grammar.proofs.MakerAnswers.{made}
-use Rattle.wave_wasm.proofs.NameTests.{passes}
+use Rattle.wave_grammar.proofs.ByKind.MakerAnswers.{made}
+use Rattle.wave_wasm.proofs.Names.NameTests.{passes}
 use Rattle.wave_grammar.proofs.ByKind.Enums.{none_one}
-use Rattle.wave_wasm.proofs.Picked.{picked_distinct, picked_of}
+use Rattle.wave_wasm.proofs.Names.Subsequences.{picked_distinct, picked_of}
 use Rattle.wave_grammar.proofs.RoundTrip.Typed.{found_picked}
-use Rattle.wave_grammar.proofs.FlagNodes.{FlagsNode, flags_given}
-use Rattle.wave_wasm.proofs.Trees.{map_map}
+use Rattle.wave_grammar.proofs.NodeMeaning.Flags.{FlagsNode, flags_given}
+use Rattle.wave_wasm.proofs.CanonicalText.ValueParts.{map_map}
 use Rattle.wave_grammar.specs.declared.form.NodeType.{NodeType}
 use Rattle.wave_grammar.specs.declared.form.NodeType.TheVariants as kind
-use Rattle.wave_wasm.proofs.TypeKinds.{formed_as}
+use Rattle.wave_wasm.proofs.TypesOfValues.TypeOfKind.{formed_as}
 
 -- the type of the kind of flags
 pub flags_is : (T : TypeTree) → kinds.Flags ≡ kind_of T → (names : List (List ℕ)) → names ≡ flags_names T → T ≡ type.flags names

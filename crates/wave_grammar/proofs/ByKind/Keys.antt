@@ -21,8 +21,7 @@ use Rattle.wave_grammar.specs.SpannedTree.{SpannedTree, at, one, label, no_place
 use Rattle.wave_grammar.specs.TypeErrors.{IsRefusalOf, IsForm, LoneKeyFault}
 use Rattle.wave_grammar.specs.NodeTree.{NodeTree, type_of, place_of}
 use Rattle.wave_grammar.specs.Nodes.{key_of, IsTokenOf}
-use Rattle.wave_grammar.specs.NodeAccessors.{node_text, GivesNumber}
-use Rattle.wave_grammar.specs.Shared.NodeAccessors.{GivesBoolKey}
+use Rattle.wave_grammar.specs.NodeAccessors.{node_text, GivesNumber, GivesBoolKey}
 use Rattle.wave_grammar.specs.TypedReading.{IsKeyRead, IsKeyBlamed, IsMade}
 use Rattle.wave_grammar.proofs.ChildNodes.Inside.{From, inside, some_is, key_place}
 use Rattle.wave_grammar.proofs.ByKind.Leaves.{said}

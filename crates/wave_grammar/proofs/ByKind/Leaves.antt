@@ -22,7 +22,7 @@ use Rattle.wave_grammar.specs.FaultOrder.{Order, FirstFault}
 use Rattle.wave_grammar.specs.NodeTree.{NodeTree, type_of, place_of}
 use Rattle.wave_grammar.specs.Nodes.{placed_of, shape_from, number_token}
 use Rattle.wave_grammar.specs.NodeAccessors.{bool_type, GivesNumber}
-use Rattle.wave_wasm.proofs.NameTests.{is_one}
+use Rattle.wave_wasm.proofs.Names.NameTests.{is_one}
 use Rattle.wave_grammar.proofs.ChildNodes.Inside.{From, inside, some_is, is_number_word}
 use Rattle.wave_grammar.specs.declared.form.NodeType.{NodeType}
 use Rattle.wave_grammar.specs.declared.form.NodeType.TheVariants as kind

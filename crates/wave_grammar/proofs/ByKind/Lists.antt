@@ -21,11 +21,11 @@ use Rattle.wave_grammar.specs.FaultOrder.{Order, FirstOf, FirstFault}
 use Rattle.wave_grammar.specs.NodeTree.{NodeTree, type_of, place_of, children_of}
 use Rattle.wave_grammar.specs.Nodes.{placed_of, IsNodeOf}
 use Rattle.wave_grammar.specs.TypedReading.{IsTypedValue, IsBlamed, IsMade, IsValueOf}
-use Rattle.wave_grammar.specs.Shared.TypedReading.{IsOfLength, IsOtherLength}
+use Rattle.wave_grammar.specs.PartReading.{IsOfLength, IsOtherLength}
 use Rattle.wave_grammar.proofs.ChildNodes.Inside.{From, inside, some_is, AreParsed, parsed, nodes_in, nodes_are}
 use Rattle.wave_grammar.proofs.ChildNodes.Cases.{shape_at}
 use Rattle.wave_grammar.proofs.ByKind.Leaves.{tree_is, at_tree}
-use Rattle.wave_grammar.proofs.MakerAnswers.{made}
+use Rattle.wave_grammar.proofs.ByKind.MakerAnswers.{made}
 use Rattle.wave_grammar.specs.declared.form.NodeType.{NodeType}
 use Rattle.wave_grammar.specs.declared.form.NodeType.TheVariants as kind
 

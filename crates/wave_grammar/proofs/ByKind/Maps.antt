@@ -12,8 +12,8 @@ use Rattle.wave_wasm.specs.Merge.{merge, leaf_eq}
 use Rattle.wave_wasm.specs.Text.{text}
 use Rattle.wave_wasm.specs.ConstructorContracts.{IsMemory, MakesMap, FullMap, HasFullParts, entry_trees, leaf_entries}
 use Rattle.wave_wasm.specs.declared.wasm.WasmValueError.{WasmValueError}
-use Rattle.wave_wasm.proofs.Keys.{leaf_tests}
-use Rattle.wave_wasm.proofs.MergeCongruence.{merge_paired, keys_keep, values_keep}
+use Rattle.wave_wasm.proofs.Merging.KeyTexts.{leaf_tests}
+use Rattle.wave_wasm.proofs.Merging.Congruence.{merge_paired, keys_keep, values_keep}
 use Rattle.wave_lex.specs.Errors.{Diagnostic, Refusal, refusal_of}
 use Rattle.wave_lex.specs.declared.error.ParserErrorKind.TheVariants.{InvalidType}
 use Rattle.wave_grammar.specs.Token.{Token}
@@ -29,12 +29,12 @@ use Rattle.wave_grammar.specs.NodeTree.{NodeTree, place_of}
 use Rattle.wave_grammar.specs.Nodes.{placed_of, IsNodeOf, IsTokenOf}
 use Rattle.wave_grammar.specs.NodeAccessors.{GivesEntries}
 use Rattle.wave_grammar.specs.TypedReading.{IsTypedValue, IsBlamed, ReadsNone, IsMade, IsKeyRead}
-use Rattle.wave_grammar.specs.Shared.TypedReading.{IsMapKeyBlamed}
+use Rattle.wave_grammar.specs.PartReading.{IsMapKeyBlamed}
 use Rattle.wave_grammar.proofs.ChildNodes.Entries.{AreEntriesOf, IsOfMap, map_given, no_map}
 use Rattle.wave_grammar.proofs.ChildNodes.Inside.{inside, some_is}
 use Rattle.wave_grammar.proofs.ByKind.Leaves.{tree_is, at_tree, said}
-use Rattle.wave_grammar.proofs.Firsts.{first_behind}
-use Rattle.wave_grammar.proofs.MakerAnswers.{made}
+use Rattle.wave_grammar.proofs.OneFault.FirstOfSeveral.{first_behind}
+use Rattle.wave_grammar.proofs.ByKind.MakerAnswers.{made}
 
 -- ---- the type
 

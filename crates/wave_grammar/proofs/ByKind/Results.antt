@@ -20,12 +20,12 @@ use Rattle.wave_grammar.specs.NodeTree.{NodeTree, type_of, place_of, children_of
 use Rattle.wave_grammar.specs.Nodes.{placed_of, all_placed, shape_from, IsNodeOf}
 use Rattle.wave_grammar.specs.NodeAccessors.{first_of, GivesResult}
 use Rattle.wave_grammar.specs.TypedReading.{IsTypedValue, IsBlamed, IsMade}
-use Rattle.wave_grammar.specs.Shared.TypedReading.{IsPayloadNodeOf, IsPayloadRead, IsPayloadBlamed}
+use Rattle.wave_grammar.specs.PartReading.{IsPayloadNodeOf, IsPayloadRead, IsPayloadBlamed}
 use Rattle.wave_grammar.proofs.ChildNodes.Inside.{From, inside, some_is, AreParsed, parsed, nodes_in, nodes_are}
 use Rattle.wave_grammar.proofs.ChildNodes.Cases.{shape_at}
 use Rattle.wave_grammar.proofs.ByKind.Options.{one_parsed}
 use Rattle.wave_grammar.proofs.ByKind.Leaves.{tree_is, at_tree, said}
-use Rattle.wave_grammar.proofs.MakerAnswers.{made}
+use Rattle.wave_grammar.proofs.ByKind.MakerAnswers.{made}
 use Rattle.wave_grammar.specs.declared.form.NodeType.{NodeType}
 use Rattle.wave_grammar.specs.declared.form.NodeType.TheVariants as kind
 

@@ -11,7 +11,7 @@ use Rattle.wave_lex.specs.declared.error.ParserErrorKind.TheVariants.{InvalidTyp
 use Rattle.wave_lex.specs.Tokenization.{span, three_quotes}
 use Rattle.wave_lex.specs.Strings.{CharMeans, Decodes}
 use Rattle.wave_lex.specs.Multiline.{DecodesLines}
-use Rattle.wave_lex.proofs.Faults.{bad_escape_refuses, faults_refuse}
+use Rattle.wave_lex.proofs.StringDecoding.Faults.{bad_escape_refuses, faults_refuse}
 use Rattle.wave_grammar.specs.LeafTokens.{Spells}
 use Rattle.wave_grammar.specs.Token.{Token}
 use Rattle.wave_grammar.specs.Token as token

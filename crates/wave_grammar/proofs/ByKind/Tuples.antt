@@ -29,11 +29,11 @@ use Rattle.wave_grammar.specs.TypedReading.{IsTypedValue, IsBlamed, IsMade, IsVa
 use Rattle.wave_grammar.proofs.ChildNodes.Inside.{From, inside, some_is, AreParsed, parsed, nodes_in, nodes_are}
 use Rattle.wave_grammar.proofs.ChildNodes.Cases.{shape_at}
 use Rattle.wave_grammar.proofs.ByKind.Leaves.{tree_is, at_tree}
-use Rattle.wave_grammar.proofs.MakerAnswers.{made}
+use Rattle.wave_grammar.proofs.ByKind.MakerAnswers.{made}
 use Rattle.wave_grammar.proofs.ByKind.Lists.{AreNodesOf, HasAt, as_many, node_at, spelled_nodes, trees_back, trees_are}
 use Rattle.wave_grammar.specs.declared.form.NodeType.{NodeType}
 use Rattle.wave_grammar.specs.declared.form.NodeType.TheVariants as kind
-use Rattle.wave_wasm.proofs.TypeKinds.{formed_as}
+use Rattle.wave_wasm.proofs.TypesOfValues.TypeOfKind.{formed_as}
 
 -- ---- types
 

@@ -26,15 +26,15 @@ use Rattle.wave_grammar.specs.NodeTree.{NodeTree, type_of, place_of}
 use Rattle.wave_grammar.specs.Nodes.{placed_of, flag_of}
 use Rattle.wave_grammar.specs.NodeAccessors.{node_text, GivesVariant}
 use Rattle.wave_grammar.specs.TypedReading.{IsTypedValue, IsBlamed, IsMade}
-use Rattle.wave_grammar.specs.Shared.TypedReading.{IsCaused, IsPayloadNodeOf, IsPayloadRead, IsPayloadBlamed}
+use Rattle.wave_grammar.specs.PartReading.{IsCaused, IsPayloadNodeOf, IsPayloadRead, IsPayloadBlamed}
 use Rattle.wave_grammar.proofs.ChildNodes.Inside.{From, Inside, inside, some_is}
 use Rattle.wave_grammar.proofs.ByKind.Leaves.{tree_is, at_tree, said}
-use Rattle.wave_grammar.proofs.MakerAnswers.{made}
+use Rattle.wave_grammar.proofs.ByKind.MakerAnswers.{made}
 use Rattle.wave_grammar.proofs.ByKind.Results.{maybe_back}
-use Rattle.wave_grammar.proofs.Unread.{caused_blame}
+use Rattle.wave_grammar.proofs.ByKind.Unreadable.{caused_blame}
 use Rattle.wave_grammar.specs.declared.form.NodeType.{NodeType}
 use Rattle.wave_grammar.specs.declared.form.NodeType.TheVariants as kind
-use Rattle.wave_wasm.proofs.TypeKinds.{formed_as}
+use Rattle.wave_wasm.proofs.TypesOfValues.TypeOfKind.{formed_as}
 
 -- a type of these cases
 pub record VariantType (T : TypeTree) (parts : List (List ℕ × Option TypeTree)) : Type 0 where

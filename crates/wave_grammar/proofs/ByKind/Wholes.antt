@@ -19,15 +19,15 @@ use Rattle.wave_grammar.specs.FaultOrder.{Order}
 use Rattle.wave_grammar.specs.NodeTree.{NodeTree, place_of}
 use Rattle.wave_grammar.specs.Nodes.{placed_of, IsTokenOf}
 use Rattle.wave_grammar.specs.NodeAccessors.{GivesNumber}
-use Rattle.wave_grammar.specs.Shared.ErrorSpans.{RefusesAt}
+use Rattle.wave_grammar.specs.ErrorSpans.{RefusesAt}
 use Rattle.wave_grammar.specs.TypedReading.{IsTypedValue, IsBlamed, IsKeyRead, IsKeyBlamed, IsMade}
-use Rattle.wave_grammar.specs.Shared.TypedReading.{IsCaused, IsWholeRead, AnswersWhole}
-use Rattle.wave_grammar.proofs.MakerAnswers.{faulty, leaf_made}
+use Rattle.wave_grammar.specs.PartReading.{IsCaused, IsWholeRead, AnswersWhole}
+use Rattle.wave_grammar.proofs.ByKind.MakerAnswers.{faulty, leaf_made}
 use Rattle.wave_grammar.proofs.ByKind.Keys.{number_key, no_number_key, key_made, key_faulty}
 use Rattle.wave_grammar.proofs.ByKind.Leaves.{number_read, number_blame}
 use Rattle.wave_grammar.proofs.ErrorSpans.Nodes.{number_at, leaf_at, caused_at}
-use Rattle.wave_grammar.proofs.Unread.{IsUnread, unread_blame}
-use Rattle.wave_wasm.proofs.TypeKinds.{simple_is}
+use Rattle.wave_grammar.proofs.ByKind.Unreadable.{IsUnread, unread_blame}
+use Rattle.wave_wasm.proofs.TypesOfValues.TypeOfKind.{simple_is}
 
 -- ---- kinds
 

@@ -6,7 +6,7 @@ use Rattle.wave_grammar.specs.NodeTree.{NodeTree, type_of, children_of}
 use Rattle.wave_grammar.specs.Nodes.{IsNodeOf, IsParsedFrom}
 use Rattle.wave_grammar.specs.NodeAccessors.{first_of, shown_node, node_pairs, AreValuesWithin, IsValueWithin, IsEntryOf, AreEntriesWithin}
 use Rattle.wave_grammar.specs.TypedReading.{IsValueOf}
-use Rattle.wave_grammar.specs.Shared.TypedReading.{IsPayloadNodeOf}
+use Rattle.wave_grammar.specs.PartReading.{IsPayloadNodeOf}
 use Rattle.wave_grammar.specs.NodeFields.{IsFieldsOf, field_of}
 use Rattle.wave_grammar.proofs.ChildNodes.Inside.{some_is}
 use Rattle.wave_grammar.proofs.ByKind.Lists.{AreNodesOf, list_nodes}

@@ -1,7 +1,6 @@
 -- How deep the nodes of a list nest.
 use Rattle.std.proofs.Common.{ℕ, zero, suc, ◌<◌, ◌≡◌, List, [], ◌∷◌, length, get_or, ap, refl, arith}
-use Rattle.wave_grammar.specs.NodeTree.{NodeTree, node_trees, node_list}
-use Rattle.wave_grammar.specs.Shared.NodeTree.{depth, nodes_depth}
+use Rattle.wave_grammar.specs.NodeTree.{NodeTree, node_trees, node_list, depth, nodes_depth}
 
 -- each node nests less deep than all of them together
 pub node_below : (ns : List NodeTree) (i : ℕ) (n : NodeTree) → i < length ns → n ≡ get_or ns i n → depth n < nodes_depth (node_trees ns)

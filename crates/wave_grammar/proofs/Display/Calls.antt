@@ -15,13 +15,13 @@ use Rattle.wave_lex.specs.declared.machine.name.Section.TheVariants as section
 use Rattle.wave_lex.specs.declared.machine.label.LabelState.TheVariants as word
 use Rattle.wave_lex.specs.declared.machine.name.Component.TheVariants as component
 use Rattle.wave_lex.specs.declared.machine.name.Number.TheVariants as number
-use Rattle.wave_lex.specs.Shared.NameMachine.{name_rest, name_step}
+use Rattle.wave_lex.specs.NameMachine.{name_rest, name_step}
 use Rattle.wave_lex.specs.FunctionName.{IsName}
 use Rattle.wave_lex.specs.LongestMatch.{IsPrefixOf}
 use Rattle.wave_lex.specs.Regex.{nothing, Matches}
-use Rattle.wave_lex.specs.Shared.Derive.{derivative, derivative_by}
+use Rattle.wave_lex.specs.Derive.{derivative, derivative_by}
 use Rattle.wave_lex.specs.Tokens.{function_name}
-use Rattle.wave_lex.proofs.NameMachine.{name_steps}
+use Rattle.wave_lex.proofs.Machines.FunctionNames.{name_steps}
 use Rattle.wave_grammar.specs.Token.{Token, CutsInto, paren_open, paren_close}
 use Rattle.wave_grammar.specs.CommaSeparated.{Items}
 use Rattle.wave_grammar.specs.Params.{Params}

@@ -5,7 +5,7 @@ use Rattle.wave_wasm.specs.Lists.{AllOf}
 use Rattle.wave_wasm.specs.Names.{IsNoneOf, AreDistinct}
 use Rattle.wave_grammar.specs.LeafTokens.{name_of}
 use Rattle.wave_grammar.specs.Tree.{is_before, put_in_order, in_order}
-use Rattle.wave_grammar.proofs.FlagOrder.{asym, total, trans}
+use Rattle.wave_grammar.proofs.NodeMeaning.FlagOrder.{asym, total, trans}
 
 -- each label's name is before the names after it
 abbrev pub IsOrdered : List (List ℕ) → Type 0

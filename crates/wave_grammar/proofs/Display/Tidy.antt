@@ -6,7 +6,7 @@ use Rattle.wave_wasm.specs.Names.{AreDistinct}
 use Rattle.wave_wasm.specs.Keywords.{case_label}
 use Rattle.wave_wasm.specs.Commas.{joined, behind_name, in_parens, in_brackets, in_braces}
 use Rattle.wave_lex.specs.Tokens.{label_or_keyword}
-use Rattle.wave_lex.proofs.Derive.{matches_from}
+use Rattle.wave_lex.proofs.RegularShapes.Derivatives.{matches_from}
 use Rattle.wave_grammar.specs.Token as token
 use Rattle.wave_grammar.specs.Token.{Token, CutsInto, text_of, brace_open, brace_close, paren_open, paren_close, bracket_open, bracket_close, colon}
 use Rattle.wave_grammar.specs.LeafTokens.{name_of}

@@ -5,14 +5,14 @@ use Rattle.std.proofs.lemmas.Bool.Decides.{nat_tests}
 use Rattle.wave_wasm.specs.Lists.{AllOf}
 use Rattle.wave_lex.specs.declared.lex.Token.TheVariants as class
 use Rattle.wave_lex.specs.Regex.{Matches, is_within}
-use Rattle.wave_lex.specs.Shared.Derive.{nullable, derivative}
+use Rattle.wave_lex.specs.Derive.{nullable, derivative}
 use Rattle.wave_lex.specs.Tokens as shapes
 use Rattle.wave_lex.specs.Tokens.{shape}
 use Rattle.wave_lex.specs.Labels.{IsLabel}
 use Rattle.wave_lex.specs.Tokenization.{Front}
-use Rattle.wave_lex.proofs.Derive.{matches_into}
-use Rattle.wave_lex.proofs.MultilineMachine as multiline_state
-use Rattle.wave_lex.proofs.MultilineMachine.{MultilineState, multiline_rest, multiline_step, multiline_steps}
+use Rattle.wave_lex.proofs.RegularShapes.Derivatives.{matches_into}
+use Rattle.wave_lex.proofs.Machines.Multiline as multiline_state
+use Rattle.wave_lex.proofs.Machines.Multiline.{MultilineState, multiline_rest, multiline_step, multiline_steps}
 use Rattle.wave_grammar.specs.Token.{Token, CutsInto, lexeme_of, text_of, number, label, char, string, multiline}
 use Rattle.wave_grammar.specs.LeafTokens.{name_of}
 use Rattle.wave_grammar.specs.Tree.{IsKey}

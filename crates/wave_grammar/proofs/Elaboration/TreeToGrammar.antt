@@ -10,7 +10,7 @@ use Rattle.wave_wasm.specs.Values.{Value, MaybeValue, FieldValues, Leaf, no_valu
 use Rattle.wave_grammar.specs.CommaSeparated.{Spelling, FurtherItems, Items}
 use Rattle.wave_wasm.specs.Keywords as kw
 use Rattle.wave_wasm.specs.Names as nm
-use Rattle.wave_wasm.proofs.NameTests.{is_one, none_of}
+use Rattle.wave_wasm.proofs.Names.NameTests.{is_one, none_of}
 use Rattle.wave_grammar.specs.TypedGrammar as r
 use Rattle.wave_grammar.specs.LeafTokens.{name_of}
 use Rattle.wave_grammar.specs.TypedGrammar.{Reads, ReadsPayload, ReadsFlat, ReadsTuple, ReadsFurther, ReadsField, ReadsCase, IsFlat}

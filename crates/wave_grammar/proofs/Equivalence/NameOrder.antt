@@ -15,8 +15,8 @@ use Rattle.wave_grammar.specs.Tree.{Tree, TreeEntries, entries, tree_entries, fl
 use Rattle.wave_grammar.specs.TypedGrammar.{look_up, Fills, FieldIs}
 use Rattle.wave_grammar.specs.Elaborates.{Meaning, Each, NamedTree, RecordTree, FlagsTree}
 use Rattle.wave_grammar.specs.OrderLaws.{Labelled, label_entries, named, label_names, FieldsInAnyOrder, FlagsInAnyOrder}
-use Rattle.wave_wasm.proofs.NameTests.{is_one, passes}
-use Rattle.wave_grammar.proofs.FieldNames.{is_found, finds_none}
+use Rattle.wave_wasm.proofs.Names.NameTests.{is_one, passes}
+use Rattle.wave_grammar.proofs.Fields.Names.{is_found, finds_none}
 use Rattle.wave_grammar.proofs.Unambiguity.Values.{one-none, pair-path}
 use Rattle.wave_grammar.proofs.Equivalence.ByTree.{tree_means, spelled_means}
 

@@ -17,16 +17,15 @@ use Rattle.wave_grammar.specs.Nodes.{placed_of, pairs_of, flags_of, flag_of, key
 use Rattle.wave_wasm.specs.Types.{TypeTree, Whole}
 use Rattle.wave_wasm.specs.Values.{Value, Leaf}
 use Rattle.wave_grammar.specs.TypedReading.{IsValueOf, IsMade, IsLeafMade}
-use Rattle.wave_grammar.specs.Shared.TypedReading.{IsCaused}
+use Rattle.wave_grammar.specs.PartReading.{IsCaused}
 use Rattle.wave_grammar.specs.NodeAccessors.{node_pairs, RefusedAs, first_of, GivesNumber, GivesChar}
-use Rattle.wave_grammar.specs.NodeParams.{close_of}
-use Rattle.wave_grammar.specs.Shared.NodeParams.{RefusesOmitted}
+use Rattle.wave_grammar.specs.NodeParams.{close_of, RefusesOmitted}
 use Rattle.wave_grammar.specs.declared.form.NodeType.TheVariants as node_kind
 use Rattle.wave_grammar.proofs.Fields.Lookup.{not_key}
 use Rattle.wave_grammar.specs.NodeStrings.{TellsStringFault, RefusesString}
 use Rattle.wave_lex.specs.Multiline.{LineFault, closing, opening, indentation, escape, fault_kind}
 use Rattle.wave_grammar.specs.ErrorSpans.{HasCause, HasTypeKind, HasParamsKind, IsTypeKind, IsAtPlace, IsAtNode, IsPartOf, IsPartOfOne, LiesInNode, StandsIn}
-use Rattle.wave_grammar.specs.Shared.ErrorSpans.{RefusesAt, RefusesIn, RefusesInPart}
+use Rattle.wave_grammar.specs.ErrorSpans.{RefusesAt, RefusesIn, RefusesInPart}
 use Rattle.wave_grammar.specs.declared.form.NodeType.{NodeType}
 use Rattle.wave_grammar.proofs.ChildNodes.Inside.{From, inside, some_is, AreParsed, parsed, pair_parsed, nodes_in, nodes_are, key_place, flag_key, stands}
 use Rattle.wave_grammar.proofs.ChildNodes.Entries.{both_some}

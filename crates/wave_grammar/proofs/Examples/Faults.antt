@@ -8,7 +8,7 @@ use Rattle.wave_wasm.specs.Types as type
 use Rattle.wave_wasm.specs.Types.{TypeTree}
 use Rattle.wave_wasm.specs.Names.{IsOneOf}
 use Rattle.wave_wasm.specs.ValueErrors.{missing_field, wrong_number}
-use Rattle.wave_wasm.proofs.NameTests.{none_of}
+use Rattle.wave_wasm.proofs.Names.NameTests.{none_of}
 use Rattle.wave_grammar.specs.Token as token
 use Rattle.wave_grammar.specs.LeafTokens.{name_of}
 use Rattle.wave_grammar.specs.SpannedTree as placed
@@ -17,7 +17,7 @@ use Rattle.wave_grammar.specs.TypeErrors.{Blame}
 use Rattle.wave_grammar.specs.FaultOrder.{Order, in_text, by_type, BlamesNothing, OrElse, FaultOfKey, FirstFault}
 use Rattle.wave_grammar.specs.FaultLaws.{BlamesOnly}
 use Rattle.wave_grammar.proofs.Unambiguity.Values.{apart}
-use Rattle.wave_grammar.proofs.FirstFaults.{one_fault}
+use Rattle.wave_grammar.proofs.OneFault.FirstFaults.{one_fault}
 use Rattle.wave_grammar.proofs.Examples.Readings.{one, u8}
 use Rattle.wave_grammar.proofs.Examples.Refusals.{leaf, big, too_large, a_type}
 

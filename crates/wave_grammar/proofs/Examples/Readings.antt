@@ -16,7 +16,7 @@ use Rattle.wave_wasm.specs.Keywords.{keywords}
 use Rattle.wave_wasm.specs.Values.{Value, Leaf, values, entries, field_values}
 use Rattle.wave_lex.specs.declared.lex.Token.TheVariants as class
 use Rattle.wave_lex.specs.Tokens.{gap, function_name}
-use Rattle.wave_lex.proofs.LongestMatch.{longest_here, token_here}
+use Rattle.wave_lex.proofs.LongestPrefix.ByComputing.{longest_here, token_here}
 use Rattle.wave_grammar.specs.Denotes.{Means}
 use Rattle.wave_grammar.specs.Params.{Params}
 use Rattle.wave_grammar.specs.Tree as tree
@@ -25,7 +25,7 @@ use Rattle.wave_grammar.specs.Elaborates.{TreeReads}
 use Rattle.wave_grammar.specs.Calls.{SpellsParams, IsCall, shown_call}
 use Rattle.wave_grammar.proofs.Unambiguity.Values.{apart}
 use Rattle.wave_grammar.proofs.Elaboration.TreeToGrammar.{trees-injective}
-use Rattle.wave_wasm.proofs.NameTests.{none_of}
+use Rattle.wave_wasm.proofs.Names.NameTests.{none_of}
 
 abbrev marks : List Token
 marks = brace_open ∷ brace_close ∷ paren_open ∷ paren_close ∷ bracket_open ∷ bracket_close ∷ colon ∷ comma ∷ []

@@ -4,7 +4,7 @@ use Prim.Native.String.{String}
 use Rattle.wave_lex.specs.declared.error.ParserErrorKind.TheVariants.{UnexpectedEnd, NestingTooDeep, InvalidType, InvalidValue, InvalidMultilineString, DuplicateField}
 use Rattle.wave_lex.specs.Tokenization.{span}
 use Rattle.wave_lex.specs.Tokens.{gap}
-use Rattle.wave_lex.proofs.LongestMatch.{longest_here}
+use Rattle.wave_lex.proofs.LongestPrefix.ByComputing.{longest_here}
 use Rattle.wave_grammar.specs.Token.{Token, number, multiline}
 use Rattle.wave_grammar.specs.Tree as tree
 use Rattle.wave_grammar.specs.LenientTree.{TakesLoosely}
@@ -22,7 +22,7 @@ use Rattle.wave_grammar.specs.SpannedTree as placed
 use Rattle.wave_grammar.specs.SpannedTree.{SpannedTree, MaybePlaced, PlacedTrees, at, no_placed, a_placed, tree_of, shape_of, part_places}
 use Rattle.wave_grammar.specs.TypeErrors.{Fault, Blame}
 use Rattle.wave_grammar.proofs.Unambiguity.Values.{apart}
-use Rattle.wave_wasm.proofs.NameTests.{none_of}
+use Rattle.wave_wasm.proofs.Names.NameTests.{none_of}
 use Rattle.wave_grammar.proofs.Examples.Readings.{tokens, one, above_u8, u8, u8_or_err}
 
 -- what the last of the tokens does after the others, within three levels; a refusal stays

@@ -13,15 +13,14 @@ use Rattle.wave_grammar.specs.TypedGrammar.{look_up, names_of}
 use Rattle.wave_grammar.specs.SpannedTree.{PlacedEntry, SpannedTree, entry_list, span_of}
 use Rattle.wave_grammar.specs.TypeErrors.{Blame, IsFor, UnknownField}
 use Rattle.wave_grammar.specs.FaultOrder.{Order, by_type, BlamesNothing, OrElse, FirstOf, FaultOfKeys, LeftOut, FaultOfFields, FirstFault}
-use Rattle.wave_grammar.proofs.FirstFaults.{nothing_first}
+use Rattle.wave_grammar.proofs.OneFault.FirstFaults.{nothing_first}
 use Rattle.wave_grammar.specs.NodeTree.{NodeTree, type_of, place_of}
 use Rattle.wave_grammar.specs.Nodes.{IsNodeOf}
 use Rattle.wave_grammar.specs.TypedReading.{IsTypedValue, IsBlamed}
-use Rattle.wave_grammar.specs.NodeFields.{IsFieldsOf}
+use Rattle.wave_grammar.specs.NodeFields.{IsFieldsOf, AnswersField}
 use Rattle.wave_grammar.specs.declared.form.NodeType.TheVariants as kind
-use Rattle.wave_grammar.specs.Shared.NodeFields.{AnswersField}
-use Rattle.wave_grammar.proofs.Firsts.{first_behind}
-use Rattle.wave_grammar.proofs.Faultless.{value_fine}
+use Rattle.wave_grammar.proofs.OneFault.FirstOfSeveral.{first_behind}
+use Rattle.wave_grammar.proofs.OneFault.FaultyTrees.{value_fine}
 use Rattle.wave_grammar.proofs.ChildNodes.Inside.{inside}
 use Rattle.wave_grammar.proofs.ByKind.Lists.{HasAt}
 use Rattle.wave_grammar.proofs.ByKind.Tuples.{map_has, all_has}

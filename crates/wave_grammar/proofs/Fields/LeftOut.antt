@@ -13,9 +13,9 @@ use Rattle.wave_lex.specs.Errors.{Diagnostic, Refusal, refusal_of, refused_by}
 use Rattle.wave_grammar.specs.TypedGrammar.{IsOption}
 use Rattle.wave_grammar.specs.NodeTree.{NodeTree}
 use Rattle.wave_grammar.specs.TypedReading.{IsMade}
-use Rattle.wave_grammar.specs.Shared.TypedReading.{IsCaused}
-use Rattle.wave_grammar.specs.Shared.NodeFields.{IsLeftOut, IsMissing}
-use Rattle.wave_wasm.proofs.TypeKinds.{formed_as}
+use Rattle.wave_grammar.specs.PartReading.{IsCaused}
+use Rattle.wave_grammar.specs.NodeFields.{IsLeftOut, IsMissing}
+use Rattle.wave_wasm.proofs.TypesOfValues.TypeOfKind.{formed_as}
 
 not_option : (T : TypeTree) (k : WasmTypeKind) → k ≡ kind_of T → k ≢ kinds.Option → IsOption T → ⊥
 not_option (type.option P) k e apart o = apart e

@@ -15,8 +15,7 @@ use Rattle.wave_grammar.specs.LeafTokens.{name_of}
 use Rattle.wave_grammar.specs.TypedGrammar.{look_up, names_of}
 use Rattle.wave_grammar.specs.NodeTree.{NodeTree, type_of, place_of, children_of}
 use Rattle.wave_grammar.specs.NodeAccessors.{node_text, node_pairs}
-use Rattle.wave_grammar.specs.NodeFields.{IsLabelled, field_of, RefusesFields, IsFieldsOf}
-use Rattle.wave_grammar.specs.Shared.NodeFields.{held_at, HoldsFields, fields_at}
+use Rattle.wave_grammar.specs.NodeFields.{IsLabelled, field_of, RefusesFields, IsFieldsOf, held_at, HoldsFields, fields_at}
 use Rattle.std.specs.declared.ops.Range.{Range}
 use Rattle.wave_grammar.specs.Token.{Token}
 use Rattle.wave_grammar.specs.Token as token
@@ -28,8 +27,8 @@ use Rattle.wave_lex.specs.Errors.{Diagnostic, Says, field_label_due, repeated_na
 use Rattle.wave_lex.specs.declared.error.ParserErrorKind.TheVariants.{InvalidType, DuplicateField, OutOfMemory}
 use Rattle.wave_grammar.specs.declared.form.NodeType.TheVariants as kind
 use Rattle.wave_grammar.proofs.ByKind.Lists.{HasAt}
-use Rattle.wave_wasm.proofs.NameTests.{distinct_more}
-use Rattle.wave_grammar.proofs.FieldNames.{is_found}
+use Rattle.wave_wasm.proofs.Names.NameTests.{distinct_more}
+use Rattle.wave_grammar.proofs.Fields.Names.{is_found}
 
 -- ---- lists
 

@@ -30,14 +30,13 @@ use Rattle.wave_grammar.specs.NodeTree.{NodeTree, children_of}
 use Rattle.wave_grammar.specs.Nodes.{IsNodeOf}
 use Rattle.wave_grammar.specs.NodeAccessors.{node_pairs}
 use Rattle.wave_grammar.specs.TypedReading.{IsTypedValue, IsBlamed}
-use Rattle.wave_grammar.specs.NodeFields.{IsFieldsOf, RefusesFields}
-use Rattle.wave_grammar.specs.Shared.NodeFields.{IsLeftOut, AnswersField}
+use Rattle.wave_grammar.specs.NodeFields.{IsFieldsOf, RefusesFields, IsLeftOut, AnswersField}
 use Rattle.wave_grammar.proofs.ChildNodes.Inside.{some_is}
 use Rattle.wave_grammar.proofs.ByKind.Leaves.{tree_is}
 use Rattle.wave_grammar.proofs.ByKind.Lists.{HasAt, some_at}
 use Rattle.wave_grammar.proofs.Fields.Lookup.{not_found}
 use Rattle.wave_grammar.proofs.Fields.Entries.{AreFieldsOf, RecordNodes, record_nodes, fields_of_entries, for_one, entry_found, none_found, not_both, some_map, fields_blame}
-use Rattle.wave_wasm.proofs.TypeKinds.{formed_as}
+use Rattle.wave_wasm.proofs.TypesOfValues.TypeOfKind.{formed_as}
 
 -- the entries with their trees
 abbrev pub entry_trees : List PlacedEntry → List (Token × Tree)

@@ -19,7 +19,7 @@ use Rattle.wave_grammar.specs.SpannedTree.{SpannedTree, at, entries, no_fields, 
 use Rattle.wave_grammar.specs.TypeErrors.{RefusesWith, Fault, names_in, KeyFault, UnknownField, RepeatedField, IsFor, MissingField, FaultOfField}
 use Rattle.wave_grammar.specs.TypedReading.{ReadsNone}
 use Rattle.wave_grammar.proofs.ByKind.Lists.{HasAt}
-use Rattle.wave_grammar.proofs.FieldNames.{is_found}
+use Rattle.wave_grammar.proofs.Fields.Names.{is_found}
 use Rattle.wave_grammar.proofs.Fields.Entries.{RecordFault, not_both, apart_more, none_at_first}
 use Rattle.wave_grammar.proofs.Fields.Reading.{entry_trees}
 

@@ -9,7 +9,7 @@ use Rattle.wave_lex.specs.Multiline.{DecodesLines}
 use Rattle.wave_lex.specs.Parts.{left_of, OpensTo, LinesRunTo}
 use Rattle.wave_lex.specs.declared.strings.StringPart.{StringPart}
 use Rattle.wave_lex.specs.declared.strings.StringPartsIter.{StringPartsIter}
-use Rattle.wave_lex.proofs.LineParts.{one_line_joins, lines_join}
+use Rattle.wave_lex.proofs.MultilineStrings.JoinedLines.{one_line_joins, lines_join}
 use Rattle.wave_grammar.specs.NodeTree.{NodeTree, type_of, place_of}
 use Rattle.wave_grammar.specs.NodeAccessors.{node_text, quotes_of, IsInside, GivesParts}
 use Rattle.wave_grammar.specs.StringAssembly.{IsUncopied, PutTogether}

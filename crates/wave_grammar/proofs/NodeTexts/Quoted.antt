@@ -9,10 +9,10 @@ use Rattle.std.specs.declared.ops.Range.{Range}
 use Rattle.wave_lex.specs.Regex.{Regex, except, star, Matches}
 use Rattle.wave_lex.specs.Tokens as shapes
 use Rattle.wave_lex.specs.Tokens.{shape, plain, escape, ◌then◌, ◌or◌}
-use Rattle.wave_lex.proofs.Shapes.{one_is}
-use Rattle.wave_lex.proofs.LongestMatch.{is_ascii}
+use Rattle.wave_lex.proofs.RegularShapes.Comparisons.{one_is}
+use Rattle.wave_lex.proofs.LongestPrefix.ByComputing.{is_ascii}
 use Rattle.wave_lex.specs.Tokenization.{three_quotes}
-use Rattle.wave_lex.proofs.Quotes.{through_first_quotes}
+use Rattle.wave_lex.proofs.MultilineStrings.FirstThreeQuotes.{through_first_quotes}
 use Rattle.wave_grammar.specs.Token.{Token, lexeme_of, text_of}
 use Rattle.wave_grammar.specs.Token as token
 use Rattle.wave_grammar.specs.Tree as tree

@@ -4,7 +4,7 @@ use Rattle.std.specs.Prelude.{◌&&◌}
 use Rattle.wave_wasm.specs.Types as type
 use Rattle.wave_wasm.specs.Types.{TypeTree, MaybeType, Types, Fields, Cases, Simple, IsRepresentable, every, every_maybe, every_type, every_field, every_case, can_be_made}
 use Rattle.wave_wasm.specs.Values.{Value, MaybeValue}
-use Rattle.wave_lex.proofs.Shapes.{and_true}
+use Rattle.wave_lex.proofs.RegularShapes.Comparisons.{and_true}
 use Rattle.wave_grammar.specs.Token.{Token, brace_open, brace_close, bracket_open, bracket_close, paren_close}
 use Rattle.wave_grammar.specs.CommaSeparated.{Spelling, FurtherItems, Listed}
 use Rattle.wave_grammar.specs.TypedGrammar as r

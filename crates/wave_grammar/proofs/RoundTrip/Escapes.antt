@@ -13,9 +13,9 @@ use Rattle.wave_wasm.specs.Text.{escaped, is_escaped}
 use Rattle.wave_lex.specs.Regex.{Matches, is_one_of, is_within}
 use Rattle.wave_lex.specs.Tokens.{escape, hexadecimal, up_to, one, word}
 use Rattle.wave_lex.specs.Strings.{IsEscape}
-use Rattle.wave_lex.proofs.Parts.{AllPlain}
-use Rattle.wave_lex.proofs.Derive.{matches_from}
-use Rattle.wave_lex.proofs.LongestMatch.{is_ascii}
+use Rattle.wave_lex.proofs.StringDecoding.Parts.{AllPlain}
+use Rattle.wave_lex.proofs.RegularShapes.Derivatives.{matches_from}
+use Rattle.wave_lex.proofs.LongestPrefix.ByComputing.{is_ascii}
 use Rattle.wave_grammar.proofs.RoundTrip.Tokens.{or_either}
 
 -- ---- hexadecimal digits

@@ -17,7 +17,7 @@ use Rattle.wave_grammar.specs.Token.{brace_open, brace_close, colon}
 use Rattle.wave_grammar.specs.CommaSeparated.{Spelling, Listed}
 use Rattle.wave_grammar.specs.TypedGrammar.{Named, EmptyBraces, look_up, IsOption, FieldIs, Fills}
 use Rattle.wave_grammar.proofs.RoundTrip.Cuts.{Writes, WritesField}
-use Rattle.wave_wasm.proofs.Picked.{same_bytes, unlike}
+use Rattle.wave_wasm.proofs.Names.Subsequences.{same_bytes, unlike}
 use Rattle.wave_grammar.proofs.RoundTrip.Depth.{height, height_of_fields}
 use Rattle.wave_grammar.proofs.RoundTrip.Injective.{Prints, brace_open_cut, brace_close_cut, bare_colon_cut}
 use Rattle.wave_grammar.proofs.RoundTrip.Items.{AllPrint, all_print, braces_print, named_print}

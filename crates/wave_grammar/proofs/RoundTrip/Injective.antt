@@ -8,7 +8,7 @@ use Rattle.wave_wasm.specs.Merge.{merged}
 use Rattle.wave_lex.specs.declared.lex.Token.TheVariants as class
 use Rattle.wave_lex.specs.Regex.{Matches}
 use Rattle.wave_lex.specs.Tokens.{label_or_keyword}
-use Rattle.wave_lex.proofs.LongestMatch.{is_ascii}
+use Rattle.wave_lex.proofs.LongestPrefix.ByComputing.{is_ascii}
 use Rattle.wave_grammar.specs.Token.{Token, CutsInto, brace_open, brace_close, paren_open, paren_close, bracket_open, bracket_close, colon, comma, label}
 use Rattle.wave_grammar.specs.CommaSeparated.{Spelling}
 use Rattle.wave_grammar.specs.TypedGrammar.{Reads}

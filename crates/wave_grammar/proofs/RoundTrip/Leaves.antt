@@ -10,8 +10,8 @@ use Rattle.wave_wasm.specs.Values.{Leaf}
 use Rattle.wave_wasm.specs.Text.{text, leaf_text}
 use Rattle.wave_lex.specs.declared.lex.Token.TheVariants as class
 use Rattle.wave_lex.specs.Tokens.{label_or_keyword}
-use Rattle.wave_lex.proofs.Derive.{matches_from}
-use Rattle.wave_lex.proofs.Cutting.{cuts_once}
+use Rattle.wave_lex.proofs.RegularShapes.Derivatives.{matches_from}
+use Rattle.wave_lex.proofs.Tokenization.OneCut.{cuts_once}
 use Rattle.wave_grammar.specs.Token.{Token, CutsInto, lexeme_of, label, number, brace_open}
 use Rattle.wave_grammar.specs.ParserPosition.{token_of}
 use Rattle.wave_grammar.specs.LeafTokens.{Spells}

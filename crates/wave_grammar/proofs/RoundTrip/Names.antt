@@ -7,13 +7,13 @@ use Rattle.wave_wasm.specs.Lists.{AllOf}
 use Rattle.wave_wasm.specs.Names.{IsNoneOf}
 use Rattle.wave_wasm.specs.Keywords.{keywords, is_keyword, case_label}
 use Rattle.wave_wasm.specs.Merge.{merge, last_value, without}
-use Rattle.wave_wasm.proofs.NameTests.{none_of}
+use Rattle.wave_wasm.proofs.Names.NameTests.{none_of}
 use Rattle.wave_lex.specs.Regex.{Regex, nothing, empty, range, except, seq, alt, star, Matches, joined, is_within}
 use Rattle.wave_lex.specs.Tokens as shapes
 use Rattle.wave_lex.specs.Labels.{IsLabel}
-use Rattle.wave_lex.proofs.Derive.{after_into}
-use Rattle.wave_lex.proofs.Shapes.{and_true}
-use Rattle.wave_lex.proofs.LongestMatch.{is_ascii}
+use Rattle.wave_lex.proofs.RegularShapes.Derivatives.{after_into}
+use Rattle.wave_lex.proofs.RegularShapes.Comparisons.{and_true}
+use Rattle.wave_lex.proofs.LongestPrefix.ByComputing.{is_ascii}
 use Rattle.wave_grammar.specs.Token.{label}
 use Rattle.wave_grammar.specs.LeafTokens.{name_of}
 use Rattle.wave_grammar.proofs.RoundTrip.Injective.{IsOneToken, label_cut}

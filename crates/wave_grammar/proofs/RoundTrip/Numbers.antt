@@ -7,17 +7,17 @@ use Rattle.std.proofs.lemmas.Bool.Decides.{nat_tests}
 use Rattle.wave_wasm.specs.Types.{Whole, s8, s16, s32, s64, u8, u16, u32, u64}
 use Rattle.wave_wasm.specs.Numbers.{IsInRange, is_signed}
 use Rattle.wave_lex.specs.Regex.{Matches}
-use Rattle.wave_lex.specs.Shared.Derive.{nullable, derivative, derivative_by, after_next}
+use Rattle.wave_lex.specs.Derive.{nullable, derivative, derivative_by, after_next}
 use Rattle.wave_lex.specs.Tokens.{number}
-use Rattle.wave_lex.specs.Shared.Machines.{number_rest, number_step, is_digit}
+use Rattle.wave_lex.specs.Machines.{number_rest, number_step, is_digit}
 use Rattle.wave_lex.specs.declared.machine.number.NumberState.{NumberState}
 use Rattle.wave_lex.specs.declared.machine.number.NumberState.TheVariants as state
 use Rattle.std.proofs.lemmas.Int.{ints}
-use Rattle.wave_lex.proofs.Derive.{matches_from}
-use Rattle.wave_lex.proofs.Shapes.{and_true}
-use Rattle.wave_lex.proofs.Scanning.{after_all_append}
-use Rattle.wave_lex.proofs.Machines.{number_steps}
-use Rattle.wave_lex.proofs.LongestMatch.{is_ascii}
+use Rattle.wave_lex.proofs.RegularShapes.Derivatives.{matches_from}
+use Rattle.wave_lex.proofs.RegularShapes.Comparisons.{and_true}
+use Rattle.wave_lex.proofs.LongestPrefix.MachineWalks.{after_all_append}
+use Rattle.wave_lex.proofs.Machines.Steps.{number_steps}
+use Rattle.wave_lex.proofs.LongestPrefix.ByComputing.{is_ascii}
 use Rattle.wave_grammar.specs.NumberText.{all_digits, digits, signed_text, whole_text}
 
 -- ---- one more digit

@@ -21,18 +21,18 @@ use Rattle.wave_lex.specs.declared.machine.character.CharState.TheVariants as ch
 use Rattle.wave_lex.specs.declared.machine.escape.EscapeState.TheVariants as escape
 use Rattle.wave_lex.specs.declared.machine.string.StringState.{StringState}
 use Rattle.wave_lex.specs.declared.machine.string.StringState.TheVariants as string
-use Rattle.wave_lex.specs.Shared.Machines.{character_rest, character_step, string_rest, string_step}
+use Rattle.wave_lex.specs.Machines.{character_rest, character_step, string_rest, string_step}
 use Rattle.wave_lex.specs.Regex as regex
 use Rattle.wave_lex.specs.Regex.{Regex, Matches, except, alt}
-use Rattle.wave_lex.specs.Shared.Derive.{nullable, derivative}
+use Rattle.wave_lex.specs.Derive.{nullable, derivative}
 use Rattle.wave_lex.specs.Strings.{CharMeans, Decodes}
 use Rattle.wave_lex.specs.Tokens as shapes
 use Rattle.wave_lex.specs.Tokens.{escape}
-use Rattle.wave_lex.proofs.Decoding.{plain_from, escape_from}
-use Rattle.wave_lex.proofs.Parts.{AllPlain}
-use Rattle.wave_lex.proofs.Derive.{matches_into}
-use Rattle.wave_lex.proofs.Shapes.{and_true}
-use Rattle.wave_lex.proofs.Machines.{character_steps, string_steps}
+use Rattle.wave_lex.proofs.StringDecoding.OneMeaning.{plain_from, escape_from}
+use Rattle.wave_lex.proofs.StringDecoding.Parts.{AllPlain}
+use Rattle.wave_lex.proofs.RegularShapes.Derivatives.{matches_into}
+use Rattle.wave_lex.proofs.RegularShapes.Comparisons.{and_true}
+use Rattle.wave_lex.proofs.Machines.Steps.{character_steps, string_steps}
 use Rattle.wave_grammar.specs.Token as token
 use Rattle.wave_grammar.proofs.RoundTrip.Tokens.{NoStopAfter, reached, no_stop, no_stop_after, stopped_cut, ascii_itself}
 use Rattle.wave_grammar.proofs.RoundTrip.Escapes.{IsForm, is_form, all_plain}

@@ -12,20 +12,20 @@ use Rattle.wave_lex.specs.declared.machine.number.NumberState.TheVariants as n
 use Rattle.wave_lex.specs.declared.machine.label.LabelTokenState.{LabelTokenState}
 use Rattle.wave_lex.specs.declared.machine.label.LabelTokenState.TheVariants as token
 use Rattle.wave_lex.specs.declared.machine.label.LabelState.TheVariants as l
-use Rattle.wave_lex.specs.Shared.Machines.{number_rest, number_step, label_token_rest, label_token_step}
-use Rattle.wave_lex.proofs.Machines.{number_steps, label_token_steps}
+use Rattle.wave_lex.specs.Machines.{number_rest, number_step, label_token_rest, label_token_step}
+use Rattle.wave_lex.proofs.Machines.Steps.{number_steps, label_token_steps}
 use Rattle.wave_lex.specs.Regex.{Regex, nothing, empty, Matches, is_one_of}
-use Rattle.wave_lex.specs.Shared.Derive.{nullable, derivative, derivative_by, after_next}
+use Rattle.wave_lex.specs.Derive.{nullable, derivative, derivative_by, after_next}
 use Rattle.wave_lex.specs.LongestMatch.{IsPrefixOf}
 use Rattle.wave_lex.specs.Tokens.{shape, gap, number, label_or_keyword}
 use Rattle.wave_lex.specs.Tokenization.{MayStandAt, IsToken, IsLongestToken, IsGap, Lexeme, Front, Cuts, three_quotes}
-use Rattle.wave_lex.specs.Shared.Reading.{class_of}
-use Rattle.wave_lex.proofs.Derive.{matches_from, matches_into, after_into, after_from, empty_into}
-use Rattle.wave_lex.proofs.Shapes.{and_true, same, same_true, each_below_at, after_past}
-use Rattle.wave_lex.proofs.Scanning.{after_all_append, after_all_nothing}
-use Rattle.wave_lex.proofs.LongestMatch.{is_ascii, longest_here}
-use Rattle.wave_lex.proofs.Classes.{group, token_shows, shape_not_empty}
-use Rattle.wave_lex.proofs.Cutting.{one_class}
+use Rattle.wave_lex.specs.Classes.{class_of}
+use Rattle.wave_lex.proofs.RegularShapes.Derivatives.{matches_from, matches_into, after_into, after_from, empty_into}
+use Rattle.wave_lex.proofs.RegularShapes.Comparisons.{and_true, same, same_true, each_below_at, after_past}
+use Rattle.wave_lex.proofs.LongestPrefix.MachineWalks.{after_all_append, after_all_nothing}
+use Rattle.wave_lex.proofs.LongestPrefix.ByComputing.{is_ascii, longest_here}
+use Rattle.wave_lex.proofs.Tokenization.Classes.{group, token_shows, shape_not_empty}
+use Rattle.wave_lex.proofs.Tokenization.OneCut.{one_class}
 
 -- ---- prefixes of one text
 

@@ -14,12 +14,12 @@ use Rattle.wave_wasm.specs.Commas.{in_parens}
 use Rattle.wave_wasm.specs.Text.{printed, printed_items, printed_fields, printed_payload, printed_entries}
 use Rattle.wave_lex.specs.Labels.{IsLabel, HasLabels}
 use Rattle.wave_lex.specs.Tokens.{label_or_keyword}
-use Rattle.wave_lex.proofs.Derive.{matches_from}
+use Rattle.wave_lex.proofs.RegularShapes.Derivatives.{matches_from}
 use Rattle.wave_grammar.specs.TypedGrammar.{InParens, Keyed, Name, Named}
 use Rattle.wave_grammar.proofs.RoundTrip.Cuts.{Writes, WritesPayload, WritesCase, WritesField}
 use Rattle.wave_grammar.proofs.RoundTrip.Depth.{height, height_of_maybe, height_of_values, height_of_entries}
 use Rattle.wave_grammar.proofs.RoundTrip.Names.{case_token, merge_twice, merge_keeps}
-use Rattle.wave_wasm.proofs.Picked.{picked_distinct, picked_of, picked_all, picked_found}
+use Rattle.wave_wasm.proofs.Names.Subsequences.{picked_distinct, picked_of, picked_all, picked_found}
 use Rattle.wave_grammar.proofs.RoundTrip.Injective.{Prints, label_cut}
 use Rattle.wave_grammar.proofs.RoundTrip.Leaves.{leaf_prints}
 use Rattle.wave_grammar.proofs.RoundTrip.Strings.{leaf_written}

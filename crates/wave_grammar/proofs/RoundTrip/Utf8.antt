@@ -18,11 +18,11 @@ use Rattle.wave_lex.specs.Tokenization.{Front, three_quotes}
 use Rattle.wave_lex.specs.Tokens.{shape, gap}
 use Rattle.wave_lex.specs.Strings.{IsEscape, short_escape, StringPiece, Decodes, StringMeans}
 use Rattle.wave_lex.specs.Multiline.{pieces, put_first, spaces, DropsReturn, LineMeans, LinesMean, in_lines, DecodesLines, MultilineMeans}
-use Rattle.wave_lex.proofs.Decoding.{plain_into, escape_head, decodes_once}
-use Rattle.wave_lex.proofs.Parts.{AllPlain}
-use Rattle.wave_lex.proofs.LongestMatch.{is_ascii}
-use Rattle.wave_lex.proofs.Scanning.{front_boundary}
-use Rattle.wave_lex.proofs.Shapes.{and_true}
+use Rattle.wave_lex.proofs.StringDecoding.OneMeaning.{plain_into, escape_head, decodes_once}
+use Rattle.wave_lex.proofs.StringDecoding.Parts.{AllPlain}
+use Rattle.wave_lex.proofs.LongestPrefix.ByComputing.{is_ascii}
+use Rattle.wave_lex.proofs.LongestPrefix.MachineWalks.{front_boundary}
+use Rattle.wave_lex.proofs.RegularShapes.Comparisons.{and_true}
 use Rattle.wave_grammar.specs.Token.{Token, CutsInto, lexeme_of, text_of}
 use Rattle.wave_grammar.specs.LeafTokens.{Spells}
 use Rattle.wave_grammar.proofs.RoundTrip.Tokens.{ascii_itself}

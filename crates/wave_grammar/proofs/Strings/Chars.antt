@@ -4,7 +4,7 @@ use Rattle.std.specs.Prelude.{encode_utf8}
 use Rattle.std.proofs.lemmas.List.{append-nil}
 use Rattle.std.proofs.lemmas.Str.{encode_same, encode_ascii, length-encode, len_utf8_bounds}
 use Rattle.wave_lex.specs.Strings.{IsEscape, UnescapesTo}
-use Rattle.wave_lex.proofs.Decoding.{escape_head, escape_unique}
+use Rattle.wave_lex.proofs.StringDecoding.OneMeaning.{escape_head, escape_unique}
 use Rattle.wave_grammar.specs.StringAssembly.{CharIn}
 
 -- nothing stands for no scalar

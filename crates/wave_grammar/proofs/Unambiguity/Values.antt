@@ -13,7 +13,7 @@ use Rattle.wave_grammar.specs.CommaSeparated.{Spelling, FurtherItems, Items, Lis
 use Rattle.wave_wasm.specs.Text.{bool_text}
 use Rattle.wave_lex.specs.Strings.{CharMeans, StringMeans}
 use Rattle.wave_lex.specs.Multiline.{MultilineMeans}
-use Rattle.wave_lex.proofs.Decoding.{char_once, string_once, multiline_once}
+use Rattle.wave_lex.proofs.StringDecoding.OneMeaning.{char_once, string_once, multiline_once}
 use Rattle.wave_grammar.specs.LeafTokens.{name_of, Spells}
 use Rattle.wave_grammar.specs.TypedGrammar.{InParens, Named, Keyed, Name, CaseName, EmptyBraces, look_up, IsFlat, FieldIs, Fills, ASimple, AList, AFixedList, ATuple, ARecord, Flags, AMap, AVariant, AnEnum, AnOption, AResult, Stands, Bare, Payload, First, Then, End, Provided, Either, Never, Reads, ReadsPayload, ReadsFlat, ReadsTuple, ReadsFurther, ReadsField, ReadsCase}
 use Rattle.wave_wasm.specs.Merge.{merge, leaf_eq}

@@ -2,8 +2,7 @@
 use Rattle.std.specs.Prelude.{ℕ, ℤ, ◌≡◌, ◌≢◌, ◌⊎◌, ◌+◌, ◌++◌, List, [], ◌∷◌, ◌≤◌}
 use Rattle.wave_lex.specs.declared.strings.StringPart.{StringPart}
 use Rattle.wave_lex.specs.Remaining.{LinesLeft}
-use Rattle.wave_lex.specs.Parts.{part_texts, NoPartNext}
-use Rattle.wave_lex.specs.Shared.PartRuns.{LinesRun}
+use Rattle.wave_lex.specs.Parts.{part_texts, NoPartNext, LinesRun}
 
 -- nothing is left
 abbrev pub IsEnded : LinesLeft → Type 0

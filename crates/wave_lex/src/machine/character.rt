@@ -1,5 +1,5 @@
 ghost use Rattle.std.specs.Prelude.{◌≡◌};
-ghost use Rattle.wave_lex.specs.Shared.Machines.{character_step, character_rest};
+ghost use Rattle.wave_lex.specs.Machines.{character_step, character_rest};
 
 use crate::machine::Dfa;
 use crate::machine::escape::{EscapeState, EscapeStep, escape_step};

@@ -1,7 +1,7 @@
 //! The machine of escapes, after their backslash, and what the short ones stand for.
 ghost use Rattle.std.specs.Prelude.{◌≡◌};
 ghost use Rattle.wave_lex.specs.Strings.{short_escape};
-ghost use Rattle.wave_lex.specs.Shared.Machines.{escape_step};
+ghost use Rattle.wave_lex.specs.Machines.{escape_step};
 
 /// Where an escape has been read to.
 #[derive(Clone, Copy)]

@@ -1,5 +1,5 @@
 ghost use Rattle.std.specs.Prelude.{◌≡◌};
-ghost use Rattle.wave_lex.specs.Shared.Machines.{gap_step, gap_rest};
+ghost use Rattle.wave_lex.specs.Private.Machines.{gap_step, gap_rest};
 
 use crate::machine::Dfa;
 

@@ -1,5 +1,5 @@
 ghost use Rattle.std.specs.Prelude.{◌≡◌};
-ghost use Rattle.wave_lex.specs.Shared.Machines.{invalid_step, invalid_rest};
+ghost use Rattle.wave_lex.specs.Private.Machines.{invalid_step, invalid_rest};
 
 use crate::machine::Dfa;
 

@@ -1,7 +1,7 @@
 //! The machine of labels: words joined by hyphens, each of lower-case letters and digits or of
 //! upper-case letters and digits.
 ghost use Rattle.std.specs.Prelude.{◌≡◌};
-ghost use Rattle.wave_lex.specs.Shared.Machines.{label_step, label_rest, label_token_step, label_token_rest};
+ghost use Rattle.wave_lex.specs.Machines.{label_step, label_rest, label_token_step, label_token_rest};
 
 use crate::machine::Dfa;
 

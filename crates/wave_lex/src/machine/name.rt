@@ -1,6 +1,6 @@
 //! The machine of function names.
 ghost use Rattle.std.specs.Prelude.{◌≡◌};
-ghost use Rattle.wave_lex.specs.Shared.NameMachine.{behind_label, number_step, behind_number, name_step, name_rest};
+ghost use Rattle.wave_lex.specs.NameMachine.{behind_label, number_step, behind_number, name_step, name_rest};
 
 use crate::machine::Dfa;
 use crate::machine::label::{LabelState, label_step};

@@ -1,5 +1,5 @@
 ghost use Rattle.std.specs.Prelude.{◌≡◌};
-ghost use Rattle.wave_lex.specs.Shared.Machines.{number_step, number_rest};
+ghost use Rattle.wave_lex.specs.Machines.{number_step, number_rest};
 
 use crate::machine::Dfa;
 

@@ -1,5 +1,5 @@
 ghost use Rattle.std.specs.Prelude.{◌≡◌};
-ghost use Rattle.wave_lex.specs.Shared.Machines.{string_step, string_rest};
+ghost use Rattle.wave_lex.specs.Machines.{string_step, string_rest};
 
 use crate::machine::Dfa;
 use crate::machine::escape::{EscapeState, EscapeStep, escape_step};

@@ -10,7 +10,7 @@ use Rattle.wave_tree.specs.DisplayKeeps.{IsKeptByDisplay, IsCallKeptByDisplay}
 use Rattle.wave_tree.specs.UntypedCall.{Called, MeansParams, call_shown, params_at}
 use Rattle.wave_grammar.proofs.ChildNodes.Inside.{inside}
 use Rattle.wave_tree.proofs.Displays.Nodes.{shown_known}
-use Rattle.wave_grammar.proofs.NodeMeaning.{filled}
+use Rattle.wave_grammar.proofs.NodeMeaning.AsTokens.{filled}
 use Rattle.wave_grammar.proofs.Display.Meaning.{shown_keeps}
 use Rattle.wave_grammar.proofs.Display.Calls.{shown_call_keeps}
 

@@ -3,16 +3,14 @@ use Rattle.std.proofs.Common.{◌≡◌, ℕ, zero, suc, ◌+◌, ◌<◌, inl, 
 use Rattle.std.specs.Prelude.{All, ◌⊎◌, if◌then◌else◌}
 use Rattle.std.specs.declared.ops.Range.{Range}
 use Rattle.std.proofs.lemmas.List.{drop_more}
-use Rattle.wave_wasm.specs.Commas.{joined, behind_name, in_parens, in_braces}
-use Rattle.wave_wasm.specs.Shared.Commas.{enclosed}
+use Rattle.wave_wasm.specs.Commas.{joined, behind_name, in_parens, in_braces, enclosed}
 use Rattle.wave_wasm.specs.Keywords.{case_label}
 use Rattle.wave_grammar.specs.Token.{Token, text_of}
 use Rattle.wave_grammar.specs.Token as token
 use Rattle.wave_grammar.specs.LeafTokens.{name_of}
 use Rattle.wave_grammar.specs.Tree.{shown, shown_trees, shown_entries}
 use Rattle.wave_grammar.specs.SpannedTree.{SpannedTree, SpannedShape, at, one, tuple, list, empty_braces, no_fields, entries, flags, label, none, some, ok, err, no_placed, a_placed, PlacedEntries, no_entries, entry, placed_trees, span_of, shape_of, tree_of, tree_of_shape, trees_of, entries_of, SpellsEach, SpellsEntries, SpellsFlags}
-use Rattle.wave_grammar.specs.NodeTree.{NodeTree, NodeTrees, node, no_nodes, node_and, type_of, place_of, children_of, node_list, node_trees}
-use Rattle.wave_grammar.specs.Shared.NodeTree.{depth, nodes_depth}
+use Rattle.wave_grammar.specs.NodeTree.{NodeTree, NodeTrees, node, no_nodes, node_and, type_of, place_of, children_of, node_list, node_trees, depth, nodes_depth}
 use Rattle.wave_grammar.specs.Nodes.{placed_of, shape_from, pairs_of, flags_of, flag_of, key_of, with_both, IsParsedFrom}
 use Rattle.wave_grammar.specs.NodeAccessors.{node_text}
 use Rattle.wave_grammar.specs.TypedReading.{IsValueOf}

@@ -22,9 +22,9 @@ use Rattle.wave_tree.specs.Private.TokenRoles.{IsKeyClass}
 use Rattle.wave_grammar.specs.CommaSeparated.{FurtherItems}
 use Rattle.wave_tree.proofs.NodeCorrectness.Lists.{brace_mark, closed_tokens, no_paren_further}
 use Rattle.wave_tree.proofs.NodeCorrectness.Tokens.{number_alone, in_order, sound_next, sound_tokens, start_of, at_start, holds, made, takes_plus, text_there}
-use Rattle.wave_tree.proofs.ParserSteps.{tokens_join}
-use Rattle.wave_tree.proofs.TokenAlignment.{part_at}
-use Rattle.wave_grammar.proofs.Slices.{taken_is, tokens_forward, tokens_source}
+use Rattle.wave_tree.proofs.ParserCorrectness.Steps.{tokens_join}
+use Rattle.wave_tree.proofs.NodeCorrectness.TokenAlignment.{part_at}
+use Rattle.wave_grammar.proofs.NodeTexts.Slices.{taken_is, tokens_forward, tokens_source}
 
 -- ---- keys
 

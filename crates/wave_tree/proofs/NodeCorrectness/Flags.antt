@@ -18,13 +18,13 @@ use Rattle.wave_grammar.specs.Nodes.{placed_of, all_placed, flags_of, shape_from
 use Rattle.wave_grammar.specs.declared.form.NodeType.TheVariants as kind
 use Rattle.wave_tree.specs.ParsedNodes.{IsSound, IsParsed}
 use Rattle.wave_tree.specs.Private.ParsedNodes.{flag_node, AreFurtherFlags, IsOfFlags}
-use Rattle.wave_grammar.specs.Shared.FlagOrder.{Flag, flag_name, put_flag, flags_in_order}
+use Rattle.wave_grammar.specs.FlagOrder.{Flag, flag_name, put_flag, flags_in_order}
 use Rattle.wave_grammar.specs.CommaSeparated.{FurtherItems}
 use Rattle.wave_tree.proofs.NodeCorrectness.Lists.{brace_mark, closed_tokens}
 use Rattle.wave_tree.proofs.NodeCorrectness.Tokens.{in_order, sound_next, start_of, at_start, holds, made, takes_plus, text_there}
-use Rattle.wave_tree.proofs.ParserSteps.{tokens_join}
-use Rattle.wave_tree.proofs.TokenAlignment.{part_at}
-use Rattle.wave_grammar.proofs.Slices.{taken_is, tokens_forward, tokens_source}
+use Rattle.wave_tree.proofs.ParserCorrectness.Steps.{tokens_join}
+use Rattle.wave_tree.proofs.NodeCorrectness.TokenAlignment.{part_at}
+use Rattle.wave_grammar.proofs.NodeTexts.Slices.{taken_is, tokens_forward, tokens_source}
 
 -- ---- what holds of each flag
 

@@ -19,9 +19,9 @@ use Rattle.wave_tree.specs.Private.ParsedNodes.{IsClosed, AreFurther, AreClosedI
 use Rattle.wave_tree.specs.Private.TokenRoles.{IsClose}
 use Rattle.wave_grammar.specs.CommaSeparated.{Spelling, Closes, FurtherItems, Items}
 use Rattle.wave_tree.proofs.NodeCorrectness.Tokens.{in_order, sound_next, sound_tokens, start_of, at_start, made, takes_less}
-use Rattle.wave_tree.proofs.ParserSteps.{tokens_join}
-use Rattle.wave_tree.proofs.TokenAlignment.{part_at}
-use Rattle.wave_grammar.proofs.Slices.{taken_is, tokens_forward, tokens_source}
+use Rattle.wave_tree.proofs.ParserCorrectness.Steps.{tokens_join}
+use Rattle.wave_tree.proofs.NodeCorrectness.TokenAlignment.{part_at}
+use Rattle.wave_grammar.proofs.NodeTexts.Slices.{taken_is, tokens_forward, tokens_source}
 
 -- ---- items
 

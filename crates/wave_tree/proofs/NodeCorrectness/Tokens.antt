@@ -13,10 +13,10 @@ use Rattle.wave_lex.specs.declared.lex.Token as lex
 use Rattle.wave_lex.specs.declared.lex.Token.TheVariants.{ParenOpen, ParenClose, Number, LabelOrKeyword, Char, String, MultilineString}
 use Rattle.wave_lex.specs.Tokens.{shape, gap}
 use Rattle.wave_lex.specs.Tokenization.{IsGap, IsLongestToken, Front, remainder_of, span, Stands}
-use Rattle.wave_lex.specs.Shared.Reading.{class_of}
-use Rattle.wave_lex.proofs.Classes.{token_shows, shape_not_empty}
-use Rattle.wave_lex.proofs.LongestMatch.{front_positive}
-use Rattle.wave_lex.proofs.Scanning.{front_boundary}
+use Rattle.wave_lex.specs.Classes.{class_of}
+use Rattle.wave_lex.proofs.Tokenization.Classes.{token_shows, shape_not_empty}
+use Rattle.wave_lex.proofs.LongestPrefix.ByComputing.{front_positive}
+use Rattle.wave_lex.proofs.LongestPrefix.MachineWalks.{front_boundary}
 use Rattle.wave_grammar.specs.Token as token
 use Rattle.wave_grammar.specs.Token.{Token, lexeme_of, paren_open, paren_close, brace_open, brace_close, bracket_open, bracket_close, colon, comma}
 use Rattle.wave_grammar.specs.ParserPosition.{Place, TakesItem, TakesToken, TakesTokens, token_of, text_at, span_at}
@@ -30,9 +30,9 @@ use Rattle.wave_grammar.specs.declared.form.NodeType.{NodeType}
 use Rattle.wave_grammar.specs.declared.form.NodeType.TheVariants as kind
 use Rattle.wave_tree.specs.ParsedNodes.{IsSound, IsParsed}
 use Rattle.wave_tree.specs.Private.ParsedNodes.{IsPayload, IsMaybe}
-use Rattle.wave_tree.proofs.ParserSteps.{tokens_join, token_there}
-use Rattle.wave_tree.proofs.TokenAlignment.{part_at}
-use Rattle.wave_grammar.proofs.Slices.{Taken, taken_is, gap_zero, tokens_front, tokens_forward, gap_none}
+use Rattle.wave_tree.proofs.ParserCorrectness.Steps.{tokens_join, token_there}
+use Rattle.wave_tree.proofs.NodeCorrectness.TokenAlignment.{part_at}
+use Rattle.wave_grammar.proofs.NodeTexts.Slices.{Taken, taken_is, gap_zero, tokens_front, tokens_forward, gap_none}
 
 -- ---- sound places
 

@@ -1,8 +1,8 @@
 use Rattle.std.proofs.Common.{subst}
 use Rattle.wave_tree.specs.ParserState.{Parsing}
 use Rattle.wave_tree.specs.FromStr.{IsValueTaken, RefusesText}
-use Rattle.wave_tree.proofs.ValueReading.{value_refused, trailing_refused, value_read}
-use Rattle.wave_grammar.proofs.Parameters.{error_handed}
+use Rattle.wave_tree.proofs.TextReading.TypedTexts.{value_refused, trailing_refused, value_read}
+use Rattle.wave_grammar.proofs.Elaboration.ParamsInTurn.{error_handed}
 use Rattle.wave_tree.proofs.from_str.Goals as goal
 
 pub returns-in_err-value-clause-refused : goal.returns-in_err-value-clause-refused

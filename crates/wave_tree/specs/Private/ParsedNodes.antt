@@ -10,7 +10,7 @@ use Rattle.wave_tree.specs.Private.TokenRoles.{IsKeyClass}
 use Rattle.wave_grammar.specs.ParserPosition.{Place, span_at, text_at}
 use Rattle.wave_grammar.specs.declared.form.NodeType.{NodeType}
 use Rattle.wave_grammar.specs.declared.form.NodeType.TheVariants as kind
-use Rattle.wave_grammar.specs.Shared.FlagOrder.{Flag, flag_name, flags_in_order}
+use Rattle.wave_grammar.specs.FlagOrder.{Flag, flag_name, flags_in_order}
 use Rattle.wave_tree.specs.ParsedNodes.{IsParsed, TakesClass}
 
 -- after a token of this class, which was taken before, stands what is left of a tree
@@ -116,3 +116,7 @@ pub record IsOfFlags (start : ℕ) (old new : Place) (parsed : NodeTree) : Type 
   pub are : AreFurtherFlags old more new
   pub distinct : AreDistinct (map flag_name ((span_at old, text_at old) ∷ more))
   pub is : parsed ≡ node kind.Flags (span start new.lexer.end) (node_trees (map flag_node (flags_in_order ((span_at old, text_at old) ∷ more))))
+
+-- this was made of a node, of the place's source, for which this holds
+abbrev pub IsBuilt : {M : Type 0} → (List ℕ → NodeTree → M → Type 0) → Place → (NodeTree → Type 0) → M → Type 0
+IsBuilt Of p Is made = (n : NodeTree) × Is n × Of p.lexer.source n made

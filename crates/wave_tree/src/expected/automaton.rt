@@ -96,7 +96,7 @@ impl<'source> Automaton<'source> {
     }
 
     /// The innermost open form.
-    #[tactic(auto, using(crate::proofs::Following::innermost_is_last))]
+    #[tactic(auto, using(crate::proofs::ExpectedTokens::AutomatonSteps::innermost_is_last))]
     fn form(&self) -> Option<Form>
         ensures { result ≡ innermost (stack_of self.now.forms.items) }
     {
@@ -104,7 +104,7 @@ impl<'source> Automaton<'source> {
     }
 
     /// How many levels are left.
-    #[tactic(auto, using(crate::proofs::Following::length_stack))]
+    #[tactic(auto, using(crate::proofs::ExpectedTokens::AutomatonSteps::length_stack))]
     fn left(&self) -> usize
         ensures { result ≡ self.now.levels - length (stack_of self.now.forms.items) }
     {

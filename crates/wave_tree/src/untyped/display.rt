@@ -1,8 +1,7 @@
 //! The text of what was read without a type.
 ghost use Rattle.std.specs.Prelude.{◌≡◌, ◌++◌, All, Some, map, codes};
 ghost use Rattle.std.specs.Fmt.{WritesOnOk, DisplaysOnOk};
-ghost use Rattle.wave_wasm.specs.Commas.{joined, behind_name, in_parens, in_braces};
-ghost use Rattle.wave_wasm.specs.Shared.Commas.{enclosed};
+ghost use Rattle.wave_wasm.specs.Commas.{joined, behind_name, in_parens, in_braces, enclosed};
 ghost use Rattle.wave_wasm.specs.Keywords.{case_label};
 ghost use Rattle.wave_grammar.specs.NodeTree.{type_of};
 ghost use Rattle.wave_grammar.specs.Nodes.{IsParsedFrom};

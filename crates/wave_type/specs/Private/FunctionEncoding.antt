@@ -2,7 +2,7 @@
 use Rattle.std.specs.Prelude.{ℕ, List, refl}
 use Rattle.std.specs.Coded.{Coded, code_by, coded×, coded_ℕ, coded_list}
 use Rattle.wave_wasm.specs.Types.{TypeTree}
-use Rattle.wave_wasm.specs.Shared.TypeTreeEncoding.{tree_code}
+use Rattle.wave_wasm.specs.TypeTreeEncoding.{tree_code}
 use Rattle.wave_type.specs.FunctionType.{FunctionType}
 
 -- how names and types are stored

@@ -4,8 +4,7 @@ use Rattle.std.proofs.Common.{arith, ◌+◌}
 use Rattle.wave_type.specs.declared.ty.Shape.{Shape}
 use Rattle.wave_type.specs.declared.ty.Shape.TheVariants as shapes
 use Rattle.wave_type.specs.declared.ty.Type.TheDeep.{deep-Shape}
-use Rattle.wave_wasm.specs.Types.{TypeTree, simple, types_of, fields_of, cases_of}
-use Rattle.wave_wasm.specs.Shared.Types.{depth, depth_of_types, depth_of_fields, depth_of_cases}
+use Rattle.wave_wasm.specs.Types.{TypeTree, simple, types_of, fields_of, cases_of, depth, depth_of_types, depth_of_fields, depth_of_cases}
 use Rattle.std.specs.declared.alloc.Global.{Global}
 use Rattle.std.specs.declared.rc.Rc.{Rc}
 use denote.Param.Weighed.{most}

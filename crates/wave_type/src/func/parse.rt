@@ -4,7 +4,7 @@ ghost use Rattle.wave_lex.specs.Errors.{LiesInText};
 ghost use Rattle.wave_wasm.specs.Borrowed.{named};
 ghost use Rattle.wave_type.specs.declared.error.TypeErrorKind.TheVariants.{OutOfMemory};
 ghost use Rattle.wave_type.specs.FunctionSpelling.{SpellsFunction, IsFunctionOf, IsNoFunction, levels_of_function};
-ghost use Rattle.wave_type.specs.FunctionType.{named_function};
+ghost use Rattle.wave_type.specs.Private.FunctionType.{named_function};
 ghost use Rattle.wave_type.specs.GoodNames.{IsGoodFunction};
 ghost use Rattle.wave_type.specs.Private.FunctionReading.{params_read, result_parts_read, results_read, function_read};
 ghost use Rattle.wave_type.specs.Private.TypeReading.{after, type_read};

@@ -8,7 +8,7 @@ use super::{Shape, SimpleType, Type};
 use std::alloc::{AllocError, Global};
 use wave_wasm::wasm::{WasmType, WasmTypeKind};
 
-#[tactic(auto, using(crate::proofs::TypeLists::families))]
+#[tactic(auto, using(crate::proofs::TypeTrees::Lists::families))]
 impl WasmType for Type {
     ghost tree = { λ t. t };
 

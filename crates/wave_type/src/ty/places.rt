@@ -19,7 +19,7 @@ pub fn is_representable(ty: &Type)
 
 /// Where the case of this name stands first in an enum, counted from zero; none where the type
 /// is no enum or has no such case.
-#[tactic(auto, using(crate::proofs::TypeLists::families))]
+#[tactic(auto, using(crate::proofs::TypeTrees::Lists::families))]
 pub fn enum_place(ty: &Type, name: &str) -> Option<usize>
     ensures { result ≡ position (λ n. bytes_eq name.now n) (enum_names ty.now) }
 {
@@ -31,7 +31,7 @@ pub fn enum_place(ty: &Type, name: &str) -> Option<usize>
 
 /// The name of the case at this place of an enum, counted from zero; no text past the last case,
 /// and where the type is no enum.
-#[tactic(auto, using(crate::proofs::TypeLists::families))]
+#[tactic(auto, using(crate::proofs::TypeTrees::Lists::families))]
 pub fn enum_name(ty: &Type, place: usize) -> &str
     ensures { result.now ≡ get_or (enum_names ty.now) place [] }
 {
@@ -43,7 +43,7 @@ pub fn enum_name(ty: &Type, place: usize) -> &str
 
 /// The name of the flag at this place, counted from zero; no text past the last flag, and where
 /// the type is none of flags.
-#[tactic(auto, using(crate::proofs::TypeLists::families))]
+#[tactic(auto, using(crate::proofs::TypeTrees::Lists::families))]
 pub fn flag_name(ty: &Type, place: usize) -> &str
     ensures { result.now ≡ get_or (flags_names ty.now) place [] }
 {
@@ -55,7 +55,7 @@ pub fn flag_name(ty: &Type, place: usize) -> &str
 
 /// Where the flag of this name stands first, counted from zero; none where the type is none of
 /// flags or has no such flag.
-#[tactic(auto, using(crate::proofs::TypeLists::families))]
+#[tactic(auto, using(crate::proofs::TypeTrees::Lists::families))]
 pub fn flag_place(ty: &Type, name: &str) -> Option<usize>
     ensures { result ≡ position (λ n. bytes_eq name.now n) (flags_names ty.now) }
 {
@@ -75,7 +75,7 @@ pub fn has_distinct_names(ty: &Type) -> bool
 
 /// Where the first case of this name stands in a variant, counted from zero; none where the type
 /// is no variant or has no such case.
-#[tactic(auto, using(crate::proofs::TypeLists::families))]
+#[tactic(auto, using(crate::proofs::TypeTrees::Lists::families))]
 pub fn variant_place(ty: &Type, name: &str) -> Option<usize>
     ensures { result ≡ position (λ c. bytes_eq name.now c.0) (variant_parts ty.now) }
 {
@@ -87,7 +87,7 @@ pub fn variant_place(ty: &Type, name: &str) -> Option<usize>
 
 /// The name of the case at this place of a variant, counted from zero; no text past the last
 /// case, and where the type is no variant.
-#[tactic(auto, using(crate::proofs::TypeLists::families))]
+#[tactic(auto, using(crate::proofs::TypeTrees::Lists::families))]
 pub fn variant_name(ty: &Type, place: usize) -> &str
     ensures { result.now ≡ get_or (map (λ c. c.0) (variant_parts ty.now)) place [] }
 {
@@ -99,7 +99,7 @@ pub fn variant_name(ty: &Type, place: usize) -> &str
 
 /// The name of the field at this place of a record, counted from zero; no text past the last
 /// field, and where the type is no record.
-#[tactic(auto, using(crate::proofs::TypeLists::families))]
+#[tactic(auto, using(crate::proofs::TypeTrees::Lists::families))]
 pub fn field_name(ty: &Type, place: usize) -> &str
     ensures { result.now ≡ get_or (map (λ f. f.0) (record_parts ty.now)) place [] }
 {
@@ -111,7 +111,7 @@ pub fn field_name(ty: &Type, place: usize) -> &str
 
 /// The name and the payload type of the case at this place of a variant, counted from zero; no
 /// text and none past the last case, and where the type is no variant.
-#[tactic(auto, using(crate::proofs::TypeLists::families))]
+#[tactic(auto, using(crate::proofs::TypeTrees::Lists::families))]
 pub fn variant_case(ty: &Type, place: usize) -> (&str, Option<&Type>)
     ensures { shown_case (λ t. t) result ≡ get_or (variant_parts ty.now) place ([], None) }
 {
@@ -122,7 +122,7 @@ pub fn variant_case(ty: &Type, place: usize) -> (&str, Option<&Type>)
 }
 
 /// The types of a tuple in their order; none where the type is no tuple.
-#[tactic(auto, using(crate::proofs::TypeLists::families))]
+#[tactic(auto, using(crate::proofs::TypeTrees::Lists::families))]
 pub fn tuple_types(ty: &Type) -> Option<&Vec<Type>>
     ensures { option_map (λ ts. types_of ts.now.items) result ≡ tuple_part ty.now }
 {
@@ -133,7 +133,7 @@ pub fn tuple_types(ty: &Type) -> Option<&Vec<Type>>
 }
 
 /// The names and types of a record's fields in their order; none where the type is no record.
-#[tactic(auto, using(crate::proofs::TypeLists::families))]
+#[tactic(auto, using(crate::proofs::TypeTrees::Lists::families))]
 pub fn named_types(ty: &Type) -> Option<&Vec<(String, Type)>>
     ensures { option_map (λ fs. fields_of (map by_bytes fs.now.items)) result ≡ record_part ty.now }
 {

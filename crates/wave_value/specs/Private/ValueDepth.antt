@@ -6,8 +6,7 @@ use Rattle.std.specs.declared.boxed.Box.{Box}
 use denote.Param.Weighed.{most}
 use Rattle.wave_wasm.specs.Types as type
 use Rattle.wave_wasm.specs.Types.{TypeTree, Simple}
-use Rattle.wave_wasm.specs.Shared.Values.{depth, depth_of_values, depth_of_fields, depth_of_entries}
-use Rattle.wave_wasm.specs.Values.{values, field_values, entries}
+use Rattle.wave_wasm.specs.Values.{depth, depth_of_values, depth_of_fields, depth_of_entries, values, field_values, entries}
 use Rattle.wave_wasm.specs.ConstructorContracts.{list_value}
 use Rattle.wave_value.specs.declared.value.Content.{Content}
 use Rattle.wave_value.specs.declared.value.Content.TheVariants as contents

@@ -3,8 +3,7 @@ use Rattle.std.specs.Prelude.{◌≡◌, ℕ, List, refl}
 use Rattle.std.proofs.Common.{sym, ap, ◌∙◌}
 use Rattle.std.specs.Coded.{Coded, code_by, coded×}
 use Rattle.wave_wasm.specs.Types.{TypeTree}
-use Rattle.wave_wasm.specs.TypeTreeEncoding.{stored_name}
-use Rattle.wave_wasm.specs.Shared.TypeTreeEncoding.{tree_code}
+use Rattle.wave_wasm.specs.TypeTreeEncoding.{stored_name, tree_code}
 use Rattle.wave_wasm.specs.Values.{Value}
 use Rattle.wave_value.specs.TypedValue.{TypedValue}
 use Rattle.wave_value.specs.ValueEncoding.{name_back, name_in, stored_value, value_apart}

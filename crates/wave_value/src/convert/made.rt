@@ -54,7 +54,7 @@ fn unless_memory(made: Result<Value, WasmValueError>) -> Result<Value, AllocErro
 }
 
 // The list of these items, each of the element type, or the fixed-length list of as many as its length.
-#[tactic(auto, using(crate::proofs::Lawful::list_memory))]
+#[tactic(auto, using(crate::proofs::Lawful::Values::list_memory))]
 pub(crate) fn list_of(alloc: Global, ty: &Type, vals: Vec<Value>) -> Result<Value, AllocError>
     requires { TakesList ty.now vals.items }
     ensures { IfOk result (Made (constructor.list_value ty.now (trees vals.items)) ty.now) }
@@ -63,7 +63,7 @@ pub(crate) fn list_of(alloc: Global, ty: &Type, vals: Vec<Value>) -> Result<Valu
 }
 
 // The tuple of these items, each of the type at its place.
-#[tactic(auto, using(crate::proofs::Taken::tuple_memory))]
+#[tactic(auto, using(crate::proofs::IntoValue::OutOfMemoryAlone::tuple_memory))]
 pub(crate) fn tuple_of(alloc: Global, ty: &Type, vals: Vec<Value>) -> Result<Value, AllocError>
     requires { TakesTuple ty.now vals.items }
     ensures { IfOk result (Made (value.tuple (values (trees vals.items))) ty.now) }
@@ -72,7 +72,7 @@ pub(crate) fn tuple_of(alloc: Global, ty: &Type, vals: Vec<Value>) -> Result<Val
 }
 
 // `some` of the payload, which is of the payload type, or `none`.
-#[tactic(auto, using(crate::proofs::Taken::option_memory))]
+#[tactic(auto, using(crate::proofs::IntoValue::OutOfMemoryAlone::option_memory))]
 pub(crate) fn option_of(alloc: Global, ty: &Type, val: Option<Value>) -> Result<Value, AllocError>
     requires { TakesOption ty.now val }
     ensures { IfOk result (Made (value.option (maybe_value (payload_tree val))) ty.now) }
@@ -81,7 +81,7 @@ pub(crate) fn option_of(alloc: Global, ty: &Type, val: Option<Value>) -> Result<
 }
 
 // `ok` or `err` with the payload, which is of the stated type.
-#[tactic(auto, using(crate::proofs::Taken::result_memory))]
+#[tactic(auto, using(crate::proofs::IntoValue::OutOfMemoryAlone::result_memory))]
 pub(crate) fn result_of(
     alloc: Global,
     ty: &Type,

@@ -54,7 +54,7 @@ impl Parts for () {
     }
 }
 
-#[tactic(auto, using(crate::proofs::TupleParts::parts_more))]
+#[tactic(auto, using(crate::proofs::IntoValue::TupleParts::parts_more))]
 impl<A: IntoValue, P: Parts> Parts for (A, P) {
     ghost use Rattle.std.specs.Prelude.{◌∷◌, refl};
     ghost use Rattle.wave_value.specs.Private.TupleParts.{typed_as};

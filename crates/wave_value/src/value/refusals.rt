@@ -89,7 +89,7 @@ pub(super) enum NameErrorKind {
 }
 
 // This is amiss with the case or the field of this name.
-#[tactic(auto, using(crate::proofs::Refusals::memory_said))]
+#[tactic(auto, using(crate::proofs::ConstructorAnswers::OutOfMemory::memory_said))]
 pub(super) fn named(alloc: Global, amiss: NameErrorKind, name: &str) -> WasmValueError
     ensures { SaysName amiss name.now result }
 {

@@ -16,7 +16,7 @@ use std::alloc::{AllocError, Global};
 use wave_type::ty::places::{enum_name, field_name, flag_name, variant_name};
 use wave_wasm::wasm::WasmTypeKind;
 
-#[tactic(auto, using(crate::proofs::ValueLists::value_families))]
+#[tactic(auto, using(crate::proofs::ValueModel::Lists::value_families))]
 impl Value {
     /// The items. It asks for a list. The only error is out of memory.
     pub fn unwrap_list(&self, alloc: Global) -> Result<Vec<&Value>, AllocError>

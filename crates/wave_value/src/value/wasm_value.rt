@@ -7,7 +7,7 @@ use std::alloc::{AllocError, Global};
 use std::mem::replace;
 use wave_wasm::wasm::{WasmTypeKind, WasmValue, WasmValueError};
 
-#[tactic(auto, using(crate::proofs::Lawful::made_leaf, crate::proofs::Lawful::made_only, crate::proofs::Lawful::never_refused, crate::proofs::Lawful::full_leaf, crate::proofs::Lawful::well_formed, crate::proofs::Lawful::made_where, crate::proofs::Lawful::full_list, crate::proofs::Lawful::full_tuple, crate::proofs::LawfulRecord::made_record, crate::proofs::LawfulCases::full_variant, crate::proofs::Lawful::full_option, crate::proofs::Lawful::full_enum, crate::proofs::Lawful::full_result, crate::proofs::LawfulCases::made_flags, crate::proofs::LawfulCases::full_flags, crate::proofs::LawfulCases::made_map, crate::proofs::LawfulCases::full_map))]
+#[tactic(auto, using(crate::proofs::Lawful::Values::made_leaf, crate::proofs::Lawful::Values::made_only, crate::proofs::Lawful::Values::never_refused, crate::proofs::Lawful::Values::full_leaf, crate::proofs::Lawful::Values::well_formed, crate::proofs::Lawful::Values::made_where, crate::proofs::Lawful::Values::full_list, crate::proofs::Lawful::Values::full_tuple, crate::proofs::Lawful::Records::made_record, crate::proofs::Lawful::VariantsFlagsMaps::full_variant, crate::proofs::Lawful::Values::full_option, crate::proofs::Lawful::Values::full_enum, crate::proofs::Lawful::Values::full_result, crate::proofs::Lawful::VariantsFlagsMaps::made_flags, crate::proofs::Lawful::VariantsFlagsMaps::full_flags, crate::proofs::Lawful::VariantsFlagsMaps::made_map, crate::proofs::Lawful::VariantsFlagsMaps::full_map))]
 impl WasmValue for Value {
     ghost use Rattle.std.specs.Prelude.{◌≡◌, IfOk, IfErr, OnOk, pos};
     ghost use Rattle.wave_wasm.specs.Names.{found_in};

@@ -4,7 +4,7 @@ ghost use Rattle.std.specs.Fmt.{DisplaysOnOk};
 ghost use Rattle.std.specs.List.{list_all};
 ghost use Rattle.std.specs.String.{string_bytes};
 ghost use Rattle.wave_wasm.specs.Types.{kind_of, maybe_type};
-ghost use Rattle.wave_wasm.specs.Shared.Commas.{comma_if};
+ghost use Rattle.wave_wasm.specs.Private.Commas.{comma_if};
 ghost use Rattle.wave_wasm.specs.Commas.{joined, in_parens};
 ghost use Rattle.wave_wasm.specs.Borrowed.{texts, shown, shown_all};
 ghost use Rattle.wave_wasm.specs.Text.{text, has_text, arguments_text, results_text};

@@ -1,9 +1,8 @@
 use Rattle.std.proofs.Common.{arith, ℕ, List, ap, ◌∙◌, Bor, map, Option}
 use Rattle.wave_wasm.specs.Borrowed.{shown}
-use Rattle.wave_wasm.specs.Types.{TypeTree}
-use Rattle.wave_wasm.specs.Shared.Types.{depth}
-use Rattle.wave_wasm.proofs.Sequence.{part_depth}
-use Rattle.wave_wasm.proofs.TypeTrees.{record_is, tuple_is, variant_is, field_depth, case_depth}
+use Rattle.wave_wasm.specs.Types.{TypeTree, depth}
+use Rattle.wave_wasm.proofs.CanonicalText.Sequences.{part_depth}
+use Rattle.wave_wasm.proofs.Displays.TypeParts.{record_is, tuple_is, variant_is, field_depth, case_depth}
 use Rattle.wave.proofs.HavingValue.{record_by, tuple_by, variant_by}
 use Rattle.wave.proofs.inhabited.+values.Goals as goal
 

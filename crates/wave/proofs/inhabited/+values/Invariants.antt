@@ -2,8 +2,7 @@
 use Rattle.std.proofs.Common.{ℕ, List, Option, ◌≡◌, ◌+◌, ◌*◌, map, drop}
 use Rattle.std.specs.List.{list_all, list_any}
 use Rattle.wave_wasm.specs.Borrowed.{shown}
-use Rattle.wave_wasm.specs.Shared.Types.{depth, depth_of_maybe}
-use Rattle.wave_wasm.specs.Types.{TypeTree, maybe_type}
+use Rattle.wave_wasm.specs.Types.{depth, depth_of_maybe, TypeTree, maybe_type}
 use Rattle.wave.specs.Private.Inhabited.{inhabited, payload_inhabited}
 use Rattle.wave.proofs.inhabited.+values.Given as goal
 

@@ -1,4 +1,4 @@
-use Rattle.wave_grammar.proofs.FirstFaults.{first_is_fault}
+use Rattle.wave_grammar.proofs.OneFault.FirstFaults.{first_is_fault}
 use Rattle.wave_grammar.proofs.laws.a_fault_alone_is_answered.Goals as goal
 
 pub returns : goal.returns

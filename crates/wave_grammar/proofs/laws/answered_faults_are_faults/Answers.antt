@@ -1,4 +1,4 @@
-use Rattle.wave_grammar.proofs.FirstFaults.{first_is_fault, no_fault}
+use Rattle.wave_grammar.proofs.OneFault.FirstFaults.{first_is_fault, no_fault}
 use Rattle.wave_grammar.proofs.laws.answered_faults_are_faults.Goals as goal
 
 pub returns-clause-answered : goal.returns-clause-answered

@@ -1,4 +1,4 @@
-use Rattle.wave_grammar.proofs.KeyNodes.{keys_as_values}
+use Rattle.wave_grammar.proofs.NodeMeaning.Keys.{keys_as_values}
 use Rattle.wave_grammar.proofs.laws.keys_are_values.Goals as goal
 
 pub returns : goal.returns

@@ -1,4 +1,4 @@
-use Rattle.wave_grammar.proofs.FirstFaults.{one_fault}
+use Rattle.wave_grammar.proofs.OneFault.FirstFaults.{one_fault}
 use Rattle.wave_grammar.proofs.laws.one_fault.Goals as goal
 
 pub returns : goal.returns

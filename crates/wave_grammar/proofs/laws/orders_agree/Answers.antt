@@ -1,4 +1,4 @@
-use Rattle.wave_grammar.proofs.FirstFaults.{first_is_fault, no_fault}
+use Rattle.wave_grammar.proofs.OneFault.FirstFaults.{first_is_fault, no_fault}
 use Rattle.wave_grammar.proofs.laws.orders_agree.Goals as goal
 
 pub returns : goal.returns

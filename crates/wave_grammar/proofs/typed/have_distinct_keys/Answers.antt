@@ -1,8 +1,8 @@
 use Rattle.std.proofs.Common.{ℕ, List, map, sym, ◌∙◌}
-use Rattle.wave_wasm.specs.Shared.Fingerprints.{fingerprint}
+use Rattle.wave_wasm.specs.Fingerprints.{fingerprint}
 use Rattle.wave_wasm.specs.Text.{text}
-use Rattle.wave_wasm.proofs.DistinctTexts.{distinct_texts}
-use Rattle.wave_wasm.proofs.Trees.{map_map}
+use Rattle.wave_wasm.proofs.Merging.DistinctTexts.{distinct_texts}
+use Rattle.wave_wasm.proofs.CanonicalText.ValueParts.{map_map}
 use Rattle.wave_grammar.proofs.typed.have_distinct_keys.Goals as goal
 
 pub returns-in-Ok : goal.returns-in-Ok

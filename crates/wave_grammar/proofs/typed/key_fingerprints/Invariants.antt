@@ -1,5 +1,5 @@
 use Rattle.std.proofs.Common.{◌≡◌, map, take}
-use Rattle.wave_wasm.specs.Shared.Fingerprints.{fingerprint}
+use Rattle.wave_wasm.specs.Fingerprints.{fingerprint}
 use Rattle.wave_wasm.specs.Text.{text}
 use Rattle.wave_grammar.proofs.typed.key_fingerprints.Given as goal
 

@@ -1,4 +1,4 @@
-use Rattle.wave_lex.proofs.Faults.{decoding_functional}
+use Rattle.wave_lex.proofs.StringDecoding.Faults.{decoding_functional}
 use Rattle.wave_lex.proofs.laws.decoding_functional.Goals as goal
 
 pub returns : goal.returns

@@ -1,4 +1,4 @@
-use Rattle.wave_lex.proofs.Faults.{faults_refuse}
+use Rattle.wave_lex.proofs.StringDecoding.Faults.{faults_refuse}
 use Rattle.wave_lex.proofs.laws.faults_refuse.Goals as goal
 
 pub returns : goal.returns

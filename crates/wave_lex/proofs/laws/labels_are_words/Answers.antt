@@ -1,4 +1,4 @@
-use Rattle.wave_lex.proofs.LabelWords.{labels_are_words, label_tokens_are_labels}
+use Rattle.wave_lex.proofs.RegularShapes.LabelWords.{labels_are_words, label_tokens_are_labels}
 use Rattle.wave_lex.proofs.laws.labels_are_words.Goals as goal
 
 pub returns-clause-words : goal.returns-clause-words

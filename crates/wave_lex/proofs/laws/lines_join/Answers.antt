@@ -1,4 +1,4 @@
-use Rattle.wave_lex.proofs.LineParts.{lines_join}
+use Rattle.wave_lex.proofs.MultilineStrings.JoinedLines.{lines_join}
 use Rattle.wave_lex.proofs.laws.lines_join.Goals as goal
 
 pub returns : goal.returns

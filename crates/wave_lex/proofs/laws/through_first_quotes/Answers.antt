@@ -1,4 +1,4 @@
-use Rattle.wave_lex.proofs.Quotes.{through_first_quotes}
+use Rattle.wave_lex.proofs.MultilineStrings.FirstThreeQuotes.{through_first_quotes}
 use Rattle.wave_lex.proofs.laws.through_first_quotes.Goals as goal
 
 pub returns : goal.returns

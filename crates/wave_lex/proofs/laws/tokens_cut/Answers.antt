@@ -1,4 +1,4 @@
-use Rattle.wave_lex.proofs.LexerRuns.{tokens_cut}
+use Rattle.wave_lex.proofs.Tokenization.LexerRuns.{tokens_cut}
 use Rattle.wave_lex.proofs.laws.tokens_cut.Goals as goal
 
 pub returns : goal.returns

@@ -1,6 +1,6 @@
 use Rattle.std.proofs.Common.{sym, ◌∙◌, ap, arith, ◌≡◌}
-use Rattle.wave_lex.specs.Shared.Reading.{class_of}
-use Rattle.wave_lex.proofs.Classes.{class_here, class_counted, not_quoted, not_counted}
+use Rattle.wave_lex.specs.Classes.{class_of}
+use Rattle.wave_lex.proofs.Tokenization.Classes.{class_here, class_counted, not_quoted, not_counted}
 use Rattle.wave_lex.proofs.lex.class_at.Goals as goal
 use Rattle.wave_lex.proofs.lex.class_at.Goals.{else-bytes-gt2-via-then-bytes-gt2+then-bytes-eq34+else-bytes-eq34-2, else-bytes-gt2-via-then-bytes-gt2+else-bytes-eq34, else-bytes-gt2-via-else-bytes-gt2}
 

@@ -1,5 +1,5 @@
 use Rattle.std.proofs.Common.{refl, arith}
-use Rattle.wave_lex.proofs.Marks.{first_mark_here}
+use Rattle.wave_lex.proofs.Tokenization.Marks.{first_mark_here}
 use Rattle.wave_lex.proofs.lex.first_mark.Goals as goal
 
 pub returns : goal.returns

@@ -1,5 +1,5 @@
 use Rattle.std.proofs.Common.{arith, refl}
-use Rattle.wave_lex.proofs.Marks.{numbered}
+use Rattle.wave_lex.proofs.Tokenization.Marks.{numbered}
 use Rattle.wave_lex.proofs.lex.mark_of.Goals as goal
 
 pub returns-in-48 : goal.returns-in-48

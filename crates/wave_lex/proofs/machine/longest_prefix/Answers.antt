@@ -4,7 +4,7 @@ use Rattle.std.specs.Char.{len_utf8}
 use Rattle.std.proofs.lemmas.Iterator.{YieldsList-from_chars}
 use Rattle.std.proofs.lemmas.Iterator.Consumers.{YieldsList-turn, YieldsList-end}
 use Rattle.std.proofs.lemmas.List.{length_push}
-use Rattle.wave_lex.proofs.Scanning.{seen_first, seen_none, seen_same, seen_new, seen_all, seen_dead, place_fits, get_or_default}
+use Rattle.wave_lex.proofs.LongestPrefix.MachineWalks.{seen_first, seen_none, seen_same, seen_new, seen_all, seen_dead, place_fits, get_or_default}
 use Rattle.wave_lex.proofs.machine.longest_prefix.Goals as goal
 use Rattle.wave_lex.proofs.machine.longest_prefix.Goals.{then-is_accepting, else-is_accepting}
 

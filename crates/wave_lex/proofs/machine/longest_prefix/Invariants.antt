@@ -1,6 +1,6 @@
 use Rattle.std.proofs.Common.{length}
 use Rattle.std.specs.Str.{chars}
-use Rattle.wave_lex.proofs.Seen.{Seen}
+use Rattle.wave_lex.proofs.LongestPrefix.LongestSoFar.{Seen}
 use Rattle.wave_lex.proofs.machine.longest_prefix.Given as goal
 
 abbrev pub invariant-loop-c : goal.invariant-loop-c

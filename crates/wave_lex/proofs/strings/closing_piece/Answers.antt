@@ -1,6 +1,6 @@
 use Rattle.std.proofs.Common.{◌≡◌, ◌≢◌, ℕ, ◌≤◌, ◌<◌, List, length, ap, subst, ◌∙◌, arith, get_or}
 use Rattle.wave_lex.specs.Private.Lines.{BehindLastFeed}
-use Rattle.wave_lex.proofs.Lines.{closing_return, closing_plain, behind_return, behind_last}
+use Rattle.wave_lex.proofs.MultilineStrings.Lines.{closing_return, closing_plain, behind_return, behind_last}
 use Rattle.wave_lex.proofs.strings.closing_piece.Goals as goal
 use Rattle.wave_lex.proofs.strings.closing_piece.Goals.{else-start-eq0-via-then-start-eq0+then-bytes-gt0+else-bytes-eq13, else-start-eq0-via-then-start-eq0+else-bytes-gt0, else-start-eq0-via-else-start-eq0}
 

@@ -1,5 +1,5 @@
 use Rattle.std.proofs.Common.{arith}
-use Rattle.wave_lex.proofs.Unescape.{small_number, one_digit_more}
+use Rattle.wave_lex.proofs.StringDecoding.EscapesFound.{small_number, one_digit_more}
 use Rattle.wave_lex.proofs.strings.hexadecimal.Goals as goal
 
 pub overflow_mul-value : goal.overflow_mul-value

@@ -1,4 +1,4 @@
-use Rattle.wave_lex.proofs.Unescape.{DigitsSoFar}
+use Rattle.wave_lex.proofs.StringDecoding.EscapesFound.{DigitsSoFar}
 use Rattle.wave_lex.proofs.strings.hexadecimal.Given as goal
 
 abbrev pub invariant-loop-i : goal.invariant-loop-i

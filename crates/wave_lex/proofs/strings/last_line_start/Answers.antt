@@ -1,6 +1,6 @@
 use Rattle.std.proofs.Common.{None, Some, arith}
 use Rattle.std.proofs.lemmas.Str.Pattern.{rfind_char}
-use Rattle.wave_lex.proofs.Lines.{behind_found, behind_no_feed}
+use Rattle.wave_lex.proofs.MultilineStrings.Lines.{behind_found, behind_no_feed}
 use Rattle.wave_lex.proofs.strings.last_line_start.Goals as goal
 
 pub returns-in-Some : goal.returns-in-Some

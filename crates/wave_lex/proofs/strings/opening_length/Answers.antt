@@ -1,6 +1,6 @@
 use Rattle.std.proofs.Common.{◌≢◌, ℕ, List, None, Some, inl, inr, subst, get_or, arith}
 use Rattle.std.proofs.lemmas.Str.Pattern.{find_char}
-use Rattle.wave_lex.proofs.Lines.{pieces_before, opens_badly, opens_alone}
+use Rattle.wave_lex.proofs.MultilineStrings.Lines.{pieces_before, opens_badly, opens_alone}
 use Rattle.wave_lex.proofs.strings.opening_length.Goals as goal
 
 pub returns-in_err-first : goal.returns-in_err-first

@@ -1,6 +1,6 @@
 use Rattle.std.proofs.Common.{ℕ, subst, sym}
 use Rattle.wave_lex.specs.Private.Runs.{IsRun}
-use Rattle.wave_lex.proofs.Parts.{run_found}
+use Rattle.wave_lex.proofs.StringDecoding.Parts.{run_found}
 use Rattle.wave_lex.proofs.strings.run_at_once.Goals as goal
 
 pub returns : goal.returns

@@ -1,6 +1,6 @@
 use Rattle.std.proofs.Common.{ℕ, ◌+◌, List, refl, subst, arith, length-drop, le_of_eq, take_all}
 use Rattle.wave_lex.specs.Private.Runs.{IsRun}
-use Rattle.wave_lex.proofs.Parts.{run_first, run_joined}
+use Rattle.wave_lex.proofs.StringDecoding.Parts.{run_first, run_joined}
 use Rattle.wave_lex.proofs.strings.run_length.Goals as goal
 
 pub returns-then-run-lt-FEW-clause-run : goal.returns-then-run-lt-FEW-clause-run

@@ -1,5 +1,5 @@
 use Rattle.std.proofs.Common.{◌≡◌, ℕ, ◌-◌, take, ap, ◌∙◌, arith}
-use Rattle.wave_lex.proofs.Lines.{no_stop_found, plain_feed_found, line_run, none_found, feed_found, line_split, behind_feed}
+use Rattle.wave_lex.proofs.MultilineStrings.Lines.{no_stop_found, plain_feed_found, line_run, none_found, feed_found, line_split, behind_feed}
 use Rattle.wave_lex.proofs.strings.split_line.Goals as goal
 
 pub returns-in_err-stop : goal.returns-in_err-stop

@@ -1,7 +1,7 @@
 use Rattle.std.proofs.Common.{◌≡◌, ℕ, ◌≤◌, ◌-◌, List, ◌∷◌, length, drop, take, sym, ap, subst, ◌∙◌, arith, get_or, Some}
 use Rattle.std.specs.Char.{IsScalar}
 use Rattle.wave_lex.specs.Strings.{UnescapesTo, short_escape}
-use Rattle.wave_lex.proofs.Unescape.{Good, none_few, none_long, few_closed, some_long, opened_cut, short}
+use Rattle.wave_lex.proofs.StringDecoding.EscapesFound.{Good, none_few, none_long, few_closed, some_long, opened_cut, short}
 use Rattle.wave_lex.proofs.strings.unescape.Goals as goal
 use Rattle.wave_lex.proofs.strings.unescape.Goals.{then-count-eq0-via-then-count-eq0, then-count-eq0-via-else-count-eq0+then-count-digits, then-count-eq0-via-else-count-eq0+else-count-digits+then-digits-count-ne125}
 

@@ -1,7 +1,7 @@
 use Rattle.std.proofs.Common.{◌≡◌, sym, subst}
 use Rattle.wave_lex.specs.Errors.{Diagnostic}
 use Rattle.wave_read.specs.Errors.{IsRefusedBy}
-use Rattle.wave_read.proofs.Errors.{refused_or_memory}
+use Rattle.wave_read.proofs.ReadErrors.HandedOn.{refused_or_memory}
 use Rattle.wave_read.proofs.fault.caused.Goals as goal
 
 pub returns : goal.returns

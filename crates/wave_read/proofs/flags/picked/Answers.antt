@@ -5,9 +5,9 @@ use Rattle.std.proofs.lemmas.Map.Iter.{iter_end}
 use Rattle.wave_wasm.specs.Borrowed.{texts}
 use Rattle.wave_wasm.specs.Names.{found_in}
 use Rattle.wave_wasm.specs.Types.{flags_names}
-use Rattle.wave_wasm.proofs.NameSets.{on_ok}
-use Rattle.wave_read.specs.NamedFlags.{flag_names}
-use Rattle.wave_read.proofs.PlacedNames.{names_shown, shown_first, tells_unknown, none_there, stands_there, known_next, none_placed, placed_next, placed_in_order}
+use Rattle.wave_wasm.proofs.Names.NameSets.{on_ok}
+use Rattle.wave_read.specs.Private.NamedFlags.{flag_names}
+use Rattle.wave_read.proofs.FlagReading.PlacedNames.{names_shown, shown_first, tells_unknown, none_there, stands_there, known_next, none_placed, placed_next, placed_in_order}
 use Rattle.wave_read.proofs.flags.picked.Goals as goal
 
 pub loop-name-init : goal.loop-name-init

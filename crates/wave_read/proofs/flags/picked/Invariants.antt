@@ -1,6 +1,6 @@
 use Rattle.wave_wasm.specs.Names.{AreAllOf}
 use Rattle.wave_wasm.specs.Types.{flags_names}
-use Rattle.wave_read.proofs.PlacedNames.{names_shown, ArePlaced}
+use Rattle.wave_read.proofs.FlagReading.PlacedNames.{names_shown, ArePlaced}
 use Rattle.wave_read.proofs.flags.picked.Given as goal
 
 abbrev pub invariant-loop-name : goal.invariant-loop-name

@@ -2,7 +2,7 @@ use Rattle.std.proofs.Common.{inl, refl}
 use Rattle.wave_grammar.specs.NodeTree.{node}
 use Rattle.wave_grammar.specs.declared.form.NodeType.TheVariants as node_type
 use Rattle.wave_grammar.specs.FlagParts.{flag_nodes}
-use Rattle.wave_read.proofs.FlagReading.{names_are, told_typed}
+use Rattle.wave_read.proofs.FlagReading.ByNames.{names_are, told_typed}
 use Rattle.wave_read.proofs.flags.read_flags.Goals as goal
 
 pub returns-clause-read : goal.returns-clause-read

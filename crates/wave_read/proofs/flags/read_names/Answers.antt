@@ -1,7 +1,7 @@
 use Rattle.std.proofs.Common.{◌≡◌, sym}
 use Rattle.wave_grammar.specs.FaultOrder.{in_text}
-use Rattle.wave_read.specs.NamedFlags.{flag_names}
-use Rattle.wave_read.proofs.FlagReading.{unknown_read, flags_read, flags_refused, flags_typed, no_value}
+use Rattle.wave_read.specs.Private.NamedFlags.{flag_names}
+use Rattle.wave_read.proofs.FlagReading.ByNames.{unknown_read, flags_read, flags_refused, flags_typed, no_value}
 use Rattle.wave_read.proofs.flags.read_names.Goals as goal
 
 pub returns-in_err-picked-clause-read : goal.returns-in_err-picked-clause-read

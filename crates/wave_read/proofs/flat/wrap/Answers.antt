@@ -2,8 +2,8 @@ use Rattle.std.proofs.Common.{Result, sym, ◌∙◌, subst}
 use Rattle.wave_lex.specs.Errors.{Diagnostic}
 use Rattle.wave_grammar.specs.NodeTree.{type_of}
 use Rattle.wave_read.specs.Reading.{IsOfType}
-use Rattle.wave_read.proofs.FlatReading.{flat_refused, option_around, option_typed, result_around, result_typed}
-use Rattle.wave_read.proofs.OtherKinds.{none_flat}
+use Rattle.wave_read.proofs.PayloadReading.FlatValues.{flat_refused, option_around, option_typed, result_around, result_typed}
+use Rattle.wave_read.proofs.PayloadReading.KindsWithoutForm.{none_flat}
 use Rattle.wave_read.proofs.flat.wrap.Goals as goal
 
 pub make_option_unchecked-requires : goal.make_option_unchecked-requires

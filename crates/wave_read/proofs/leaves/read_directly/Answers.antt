@@ -1,9 +1,9 @@
 use Rattle.std.proofs.Common.{◌∙◌, sym, subst}
 use Rattle.wave_read.specs.Leaves.{leaf_node}
 use Rattle.wave_grammar.specs.NodeParts.{IsOneToken}
-use Rattle.wave_read.proofs.LeafForms.{leaf_refused, named_simple}
-use Rattle.wave_read.proofs.OptionReading.{other_option}
-use Rattle.wave_read.proofs.ResultReading.{other_result}
+use Rattle.wave_read.proofs.LeafReading.RefusedForms.{leaf_refused, named_simple}
+use Rattle.wave_read.proofs.PayloadReading.Options.{other_option}
+use Rattle.wave_read.proofs.PayloadReading.Results.{other_result}
 use Rattle.wave_read.proofs.leaves.read_directly.Goals as goal
 
 pub returns-in-List : goal.returns-in-List

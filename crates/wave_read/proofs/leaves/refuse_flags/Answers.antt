@@ -2,7 +2,7 @@ use Rattle.std.proofs.Common.{inl, inr, sym, subst, ◌∙◌}
 use Rattle.wave_grammar.specs.declared.form.NodeType.{NodeType}
 use Rattle.wave_wasm.specs.Types.{TypeTree}
 use Rattle.wave_read.specs.Flat.{IsFlatAt}
-use Rattle.wave_read.proofs.LeafForms.{flags_refused, named_simple}
+use Rattle.wave_read.proofs.LeafReading.RefusedForms.{flags_refused, named_simple}
 use Rattle.wave_read.proofs.leaves.refuse_flags.Goals as goal
 
 pub returns-in-Flags : goal.returns-in-Flags

@@ -1,7 +1,7 @@
 use Rattle.std.proofs.Common.{refl}
 use Rattle.wave_grammar.specs.NodeTree.{node, no_nodes}
 use Rattle.wave_grammar.specs.declared.form.NodeType.TheVariants as kind
-use Rattle.wave_read.proofs.MapEntries.{none_made}
+use Rattle.wave_read.proofs.MapReading.Entries.{none_made}
 use Rattle.wave_read.proofs.maps.read_no_entries.Goals as goal
 
 pub returns : goal.returns

@@ -1,5 +1,5 @@
 use Rattle.wave_read.specs.Leaves.{leaf_node}
-use Rattle.wave_read.proofs.OptionReading.{none_read}
+use Rattle.wave_read.proofs.PayloadReading.Options.{none_read}
 use Rattle.wave_read.proofs.options.read_none.Goals as goal
 
 pub returns : goal.returns

@@ -1,4 +1,4 @@
-use Rattle.wave_read.proofs.OtherKinds.{none_empty}
+use Rattle.wave_read.proofs.PayloadReading.KindsWithoutForm.{none_empty}
 use Rattle.wave_read.proofs.parts.read_empty.Goals as goal
 
 pub returns-in-Flags : goal.returns-in-Flags

@@ -1,14 +1,14 @@
 use Rattle.std.proofs.Common.{◌≡◌, List, [], ◌++◌, Result, Ok, Err, IfOk, refl, sym, ap, ◌∙◌, subst, inl, inr}
 use Rattle.std.specs.Result.{IsErrAnd}
 use Rattle.wave_grammar.specs.NodeTree.{NodeTree, node, no_nodes, place_of}
-use Rattle.wave_grammar.specs.Shared.ErrorSpans.{RefusesAt}
+use Rattle.wave_grammar.specs.ErrorSpans.{RefusesAt}
 use Rattle.wave_lex.specs.Errors.{Diagnostic}
 use Rattle.wave_grammar.specs.declared.form.NodeType.TheVariants as kind
-use Rattle.wave_grammar.proofs.Parameters.{error_handed}
+use Rattle.wave_grammar.proofs.Elaboration.ParamsInTurn.{error_handed}
 use Rattle.wave_grammar.proofs.ErrorSpans.Nodes.{memory_here}
 use Rattle.wave_read.specs.declared.records.Field.{Field}
-use Rattle.wave_read.specs.RecordParts.{IsFull, AreFull, FirstUnfilled, IsLeftUnfilled}
-use Rattle.wave_read.proofs.RecordFields.{given_front, given_all, unfilled_behind, full_more, full_read, full_left}
+use Rattle.wave_read.specs.Private.RecordParts.{IsFull, AreFull, FirstUnfilled, IsLeftUnfilled}
+use Rattle.wave_read.proofs.RecordReading.Fields.{given_front, given_all, unfilled_behind, full_more, full_read, full_left}
 use Rattle.wave_read.proofs.records.filled.Goals.{in-Some-value, in-None-value+in_ok-val-in-None-value}
 use Rattle.wave_read.proofs.records.filled.Goals as goal
 

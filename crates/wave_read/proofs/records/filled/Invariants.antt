@@ -1,4 +1,4 @@
-use Rattle.wave_read.specs.RecordParts.{AreFull}
+use Rattle.wave_read.specs.Private.RecordParts.{AreFull}
 use Rattle.wave_read.proofs.records.filled.Given as goal
 
 abbrev pub invariant-loop-field : goal.invariant-loop-field

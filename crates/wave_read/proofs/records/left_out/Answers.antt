@@ -9,12 +9,12 @@ use Rattle.wave_wasm.specs.declared.wasm.WasmValueError.{WasmValueError}
 use Rattle.wave_wasm.specs.declared.wasm.WasmValueError.TheVariants as causes
 use Rattle.wave_lex.specs.Errors.{Diagnostic, Refusal, refused_by}
 use Rattle.wave_grammar.specs.NodeTree.{NodeTree, place_of}
-use Rattle.wave_grammar.specs.Shared.NodeFields.{IsMissing}
+use Rattle.wave_grammar.specs.NodeFields.{IsMissing}
 use Rattle.wave_read.specs.Errors.{IsRefusedBy}
-use Rattle.wave_read.proofs.Errors.{made_at}
+use Rattle.wave_read.proofs.ReadErrors.HandedOn.{made_at}
 use Rattle.wave_grammar.proofs.Fields.LeftOut.{missing, left_made}
-use Rattle.wave_read.specs.RecordParts.{IsMissingOrMemory}
-use Rattle.wave_read.proofs.OtherKinds.{no_option}
+use Rattle.wave_read.specs.Private.RecordParts.{IsMissingOrMemory}
+use Rattle.wave_read.proofs.PayloadReading.KindsWithoutForm.{no_option}
 use Rattle.wave_read.proofs.records.left_out.Goals.{in-Option+in-Err, in-Bool}
 use Rattle.wave_read.proofs.records.left_out.Goals as goal
 

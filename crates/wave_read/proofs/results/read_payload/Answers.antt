@@ -1,9 +1,9 @@
 use Rattle.std.proofs.Common.{inl, sym, ◌∙◌, subst, true, false, Option, Result, IfErr}
 use Rattle.wave_lex.specs.Errors.{Diagnostic}
 use Rattle.wave_grammar.specs.NodeAccessors.{first_of}
-use Rattle.wave_grammar.specs.Shared.ErrorSpans.{RefusesInPart}
+use Rattle.wave_grammar.specs.ErrorSpans.{RefusesInPart}
 use Rattle.wave_grammar.proofs.ErrorSpans.Nodes.{caused_at}
-use Rattle.wave_read.specs.Payloads.{payload_cause}
+use Rattle.wave_read.specs.Private.Payloads.{payload_cause}
 use Rattle.wave_read.proofs.results.read_payload.Goals.{in-Some-made, in-None-made-2}
 use Rattle.wave_read.proofs.results.read_payload.Goals as goal
 

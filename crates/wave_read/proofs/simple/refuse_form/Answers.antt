@@ -2,8 +2,8 @@ use Rattle.std.proofs.Common.{ℕ, None, sym, ◌∙◌, subst}
 use Rattle.std.specs.declared.ops.Range.{Range}
 use Rattle.wave_lex.specs.Errors.{Says}
 use Rattle.wave_lex.specs.declared.error.ParserErrorKind.TheVariants.{InvalidType}
-use Rattle.wave_read.proofs.SimpleTypes.{plain_readable, unreadable_is, none_unreadable, form_refused, type_refused}
-use Rattle.wave_read.proofs.NamedKinds.{none_unread}
+use Rattle.wave_read.proofs.LeafReading.SimpleTypes.{plain_readable, unreadable_is, none_unreadable, form_refused, type_refused}
+use Rattle.wave_read.proofs.LeafReading.MatchedKinds.{none_unread}
 use Rattle.wave_read.proofs.simple.refuse_form.Goals as goal
 
 pub returns-in-F32-clause-read : goal.returns-in-F32-clause-read

@@ -1,6 +1,6 @@
 use Rattle.std.proofs.Common.{Option, Bor, subst}
 use Rattle.wave_read.specs.Flat.{IsOfPartWithin}
-use Rattle.wave_read.proofs.Surrounding.{around_read, alone_read}
+use Rattle.wave_read.proofs.PayloadReading.Surrounding.{around_read, alone_read}
 use Rattle.wave_read.proofs.values.wrapped.Goals as goal
 
 pub wrap-requires : goal.wrap-requires

@@ -1,6 +1,5 @@
 use Rattle.std.proofs.Common.{arith, ap, List}
-use Rattle.wave_grammar.specs.NodeTree.{NodeTree, node_trees}
-use Rattle.wave_grammar.specs.Shared.NodeTree.{depth, nodes_depth}
+use Rattle.wave_grammar.specs.NodeTree.{NodeTree, node_trees, depth, nodes_depth}
 use Rattle.wave_grammar.proofs.ChildNodes.Trees.{node_below}
 use Rattle.wave_tree.proofs.ast.+clone.Goals as goal
 

@@ -1,6 +1,5 @@
 use Rattle.std.proofs.Common.{◌≡◌, ◌+◌, ◌*◌, take}
-use Rattle.wave_grammar.specs.Shared.NodeTree.{depth, nodes_depth}
-use Rattle.wave_grammar.specs.NodeTree.{node_trees}
+use Rattle.wave_grammar.specs.NodeTree.{depth, nodes_depth, node_trees}
 use Rattle.wave_tree.proofs.ast.+clone.Given as goal
 
 abbrev pub decreases-Node::clone : goal.decreases-Node::clone

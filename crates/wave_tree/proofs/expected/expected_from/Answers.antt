@@ -1,6 +1,6 @@
 use Rattle.std.proofs.Common.{refl}
-use Rattle.wave_lex.proofs.Next.{next_less}
-use Rattle.wave_tree.proofs.PlacedTokens.{read_more, is_expected}
+use Rattle.wave_lex.proofs.Tokenization.NextToken.{next_less}
+use Rattle.wave_tree.proofs.ExpectedTokens.PlacedTokens.{read_more, is_expected}
 use Rattle.wave_tree.proofs.expected.expected_from.Goals as goal
 
 pub loop-class-smaller : goal.loop-class-smaller

@@ -1,6 +1,6 @@
 use Rattle.std.proofs.Common.{length}
 use Rattle.wave_lex.specs.Tokenization.{remainder_of}
-use Rattle.wave_tree.proofs.PlacedTokens.{IsReadTo}
+use Rattle.wave_tree.proofs.ExpectedTokens.PlacedTokens.{IsReadTo}
 use Rattle.wave_tree.proofs.expected.expected_from.Given as goal
 
 abbrev pub invariant-loop-class : goal.invariant-loop-class

@@ -1,6 +1,6 @@
 use Rattle.std.proofs.Common.{subst, Some, ◌<◌}
 use Rattle.wave_lex.specs.Tokenization.{NextIs}
-use Rattle.wave_tree.proofs.PlacedTokens.{no_token, no_token_at_end, token_ends}
+use Rattle.wave_tree.proofs.ExpectedTokens.PlacedTokens.{no_token, no_token_at_end, token_ends}
 use Rattle.wave_tree.proofs.expected.next_before.Goals as goal
 
 pub returns-in-None : goal.returns-in-None

@@ -1,5 +1,5 @@
 use Rattle.std.proofs.Common.{ℕ, ◌-◌, ap, ◌∙◌, take}
-use Rattle.wave_tree.proofs.PlacedTokens.{closed_after}
+use Rattle.wave_tree.proofs.ExpectedTokens.PlacedTokens.{closed_after}
 use Rattle.wave_tree.proofs.expected.note_bracket.Goals as goal
 
 pub returns-in-BraceClose : goal.returns-in-BraceClose

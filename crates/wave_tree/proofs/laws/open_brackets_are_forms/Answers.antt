@@ -1,4 +1,4 @@
-use Rattle.wave_tree.proofs.OpenForms.{brackets_are_forms}
+use Rattle.wave_tree.proofs.ExpectedTokens.OpenBrackets.{brackets_are_forms}
 use Rattle.wave_tree.proofs.laws.open_brackets_are_forms.Goals as goal
 
 pub returns : goal.returns

@@ -1,4 +1,4 @@
-use Rattle.wave_tree.proofs.RefusalPlaces.{read_stand_before, unexpected_may_not_follow}
+use Rattle.wave_tree.proofs.ExpectedTokens.RefusalPlaces.{read_stand_before, unexpected_may_not_follow}
 use Rattle.wave_tree.proofs.laws.unexpected_may_not_follow.Goals as goal
 
 pub returns-clause-before : goal.returns-clause-before

@@ -1,5 +1,5 @@
 use Rattle.wave_grammar.proofs.Equivalence.ByTree.{means_by_tree}
-use Rattle.wave_tree.proofs.UntypedAgreement.{read_alike, refused_alike}
+use Rattle.wave_tree.proofs.TextReading.UntypedAgreement.{read_alike, refused_alike}
 use Rattle.wave_tree.proofs.laws.untyped_reading_agrees.Goals as goal
 
 pub returns-clause-tree : goal.returns-clause-tree

@@ -1,4 +1,4 @@
-use Rattle.wave_tree.proofs.ValueReading.{whole_text, whole_tree}
+use Rattle.wave_tree.proofs.TextReading.TypedTexts.{whole_text, whole_tree}
 use Rattle.wave_tree.proofs.laws.whole_texts_are_read.Goals as goal
 
 pub returns-clause-typed : goal.returns-clause-typed

@@ -2,7 +2,7 @@ use Rattle.std.proofs.Common.{map, sym, ap, ◌∙◌}
 use Rattle.wave_wasm.specs.Types.{kind_of}
 use Rattle.wave_grammar.specs.TypedGrammar.{IsOption}
 use Rattle.wave_grammar.specs.NodeParams.{IsNoOption}
-use Rattle.wave_grammar.proofs.Parameters.{option_kind, no_option_kind, all_more, some_of}
+use Rattle.wave_grammar.proofs.Elaboration.ParamsInTurn.{option_kind, no_option_kind, all_more, some_of}
 use Rattle.wave_grammar.proofs.ByKind.Tuples.{place_has, map_has}
 use Rattle.wave_tree.proofs.params.are_options.Goals as goal
 

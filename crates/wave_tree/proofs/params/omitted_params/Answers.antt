@@ -1,7 +1,7 @@
 use Rattle.wave_lex.specs.declared.error.ParserErrorKind.TheVariants as because
 use Rattle.wave_grammar.proofs.ErrorSpans.Nodes.{memory_or_plain}
 use Rattle.std.proofs.Common.{map, ap, length, ◌++◌, ◌∙◌}
-use Rattle.wave_grammar.proofs.Parameters.{omitted_count, mapped_count}
+use Rattle.wave_grammar.proofs.Elaboration.ParamsInTurn.{omitted_count, mapped_count}
 use Rattle.wave_tree.proofs.params.omitted_params.Goals as goal
 
 pub returns-clause-count : goal.returns-clause-count

@@ -1,10 +1,9 @@
 use Rattle.std.proofs.Common.{map, sym, subst}
 use Rattle.wave_grammar.specs.TypedGrammar.{IsOption}
-use Rattle.wave_grammar.proofs.Parameters.{omission_refused, omitted_more}
+use Rattle.wave_grammar.proofs.Elaboration.ParamsInTurn.{omission_refused, omitted_more, error_handed}
 use Rattle.wave_grammar.proofs.ByKind.Lists.{HasAt}
 use Rattle.wave_grammar.proofs.ByKind.Tuples.{place_has, map_has, all_has}
 use Rattle.wave_grammar.specs.ErrorSpans.{IsAtPlace}
-use Rattle.wave_grammar.proofs.Parameters.{error_handed}
 use Rattle.wave_grammar.proofs.ErrorSpans.Nodes.{made_cause, memory_at}
 use Rattle.wave_tree.proofs.params.push_omitted.Goals as goal
 

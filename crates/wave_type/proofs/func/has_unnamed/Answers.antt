@@ -3,7 +3,7 @@ use Rattle.std.proofs.lemmas.Iterator.{YieldsList-from_slice}
 use Rattle.std.proofs.lemmas.Iterator.Search.{any_from_yields_List}
 use Rattle.wave_type.specs.TypeModel.{by_bytes}
 use Rattle.wave_type.specs.NamingRule.{is_unnamed}
-use Rattle.wave_wasm.proofs.MappedSearch.{list_any-map}
+use Rattle.wave_wasm.proofs.Names.MappedSearch.{list_any-map}
 use Rattle.wave_type.proofs.func.has_unnamed.Goals as goal
 
 pub returns : goal.returns

@@ -1,7 +1,7 @@
 use Rattle.std.proofs.Common.{[], subst}
 use Rattle.wave_type.specs.TypeSpelling.{Spells}
-use Rattle.wave_type.proofs.TypeComplete.{one_spelling}
-use Rattle.wave_type.proofs.TypeTokens.{one_cut}
+use Rattle.wave_type.proofs.TypeReading.Complete.{one_spelling}
+use Rattle.wave_type.proofs.TypeReading.TextTokens.{one_cut}
 use Rattle.wave_type.proofs.laws.one_type_of_text.Goals as goal
 
 pub returns : goal.returns

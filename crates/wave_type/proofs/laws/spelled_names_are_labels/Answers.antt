@@ -1,4 +1,4 @@
-use Rattle.wave_type.proofs.SpelledNames.{text_good, function_text_good}
+use Rattle.wave_type.proofs.TypeReading.SpelledNames.{text_good, function_text_good}
 use Rattle.wave_type.proofs.laws.spelled_names_are_labels.Goals as goal
 
 pub returns-clause-types : goal.returns-clause-types

@@ -1,4 +1,4 @@
-use Rattle.wave_type.proofs.TypeReadBack.{text_spells}
+use Rattle.wave_type.proofs.TypeTexts.ReadBack.{text_spells}
 use Rattle.wave_type.proofs.laws.type_text_spells.Goals as goal
 
 pub returns : goal.returns

@@ -1,7 +1,7 @@
 use Rattle.std.proofs.Common.{◌≡◌, true, false}
 use Rattle.std.specs.Fmt.{decimal}
 use Rattle.std.specs.Str.{bytes_eq}
-use Rattle.wave_type.proofs.CountTokens.{unparsed_count, other_count, parsed_small, same_count}
+use Rattle.wave_type.proofs.TypeReading.CountTokens.{unparsed_count, other_count, parsed_small, same_count}
 use Rattle.wave_type.proofs.reader.count_of_token.Goals as goal
 
 pub returns-in_default : goal.returns-in_default

@@ -1,5 +1,5 @@
 use Rattle.std.proofs.Common.{ap}
-use Rattle.wave_type.proofs.TypeTokens.{items_end, items_more}
+use Rattle.wave_type.proofs.TypeReading.TextTokens.{items_end, items_more}
 use Rattle.wave_type.proofs.tokens.tokens_of.Goals as goal
 
 pub loop-item-preserved : goal.loop-item-preserved

@@ -1,4 +1,4 @@
-use Rattle.wave_type.proofs.TypeTokens.{KeepsItems}
+use Rattle.wave_type.proofs.TypeReading.TextTokens.{KeepsItems}
 use Rattle.wave_type.proofs.tokens.tokens_of.Given as goal
 
 abbrev pub invariant-loop-item : goal.invariant-loop-item

@@ -1,12 +1,11 @@
 use Rattle.std.proofs.Common.{arith, ◌≡◌, ℕ, List, ap, subst, ◌∙◌, Bor, map, Option}
 use Rattle.std.specs.Result.{IfOk}
 use Rattle.wave_wasm.specs.Borrowed.{shown, named}
-use Rattle.wave_wasm.specs.Types.{TypeTree, is_representable}
+use Rattle.wave_wasm.specs.Types.{TypeTree, is_representable, depth}
 use Rattle.wave_type.specs.TypeMade.{tuple_type, record_type, variant_type}
-use Rattle.wave_wasm.specs.Shared.Types.{depth}
-use Rattle.wave_wasm.proofs.Sequence.{part_depth}
-use Rattle.wave_wasm.proofs.TypeTrees.{record_is, tuple_is, variant_is, field_depth, case_depth}
-use Rattle.wave_type.proofs.TypeConversion.{record_start, tuple_start, variant_start, can_be_payload, converted_is, refused_is, payload_is, refused_payload, remaining_more, remaining_none, remaining_done, pushed, named_pushed}
+use Rattle.wave_wasm.proofs.CanonicalText.Sequences.{part_depth}
+use Rattle.wave_wasm.proofs.Displays.TypeParts.{record_is, tuple_is, variant_is, field_depth, case_depth}
+use Rattle.wave_type.proofs.TypeTrees.Conversion.{record_start, tuple_start, variant_start, can_be_payload, converted_is, refused_is, payload_is, refused_payload, remaining_more, remaining_none, remaining_done, pushed, named_pushed}
 use Rattle.wave_type.proofs.ty.+conversion.Goals as goal
 
 pub conversion::convert_record-loop-field-init : goal.conversion::convert_record-loop-field-init

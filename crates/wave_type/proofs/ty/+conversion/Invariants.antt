@@ -1,10 +1,9 @@
 use Rattle.std.proofs.Common.{◌≡◌, ◌+◌, ◌*◌, map, drop}
 use Rattle.wave_wasm.specs.Borrowed.{shown, named}
-use Rattle.wave_wasm.specs.Shared.Types.{depth, depth_of_maybe}
-use Rattle.wave_wasm.specs.Types.{maybe_type, is_representable}
+use Rattle.wave_wasm.specs.Types.{depth, depth_of_maybe, maybe_type, is_representable}
 use Rattle.wave_type.specs.TypeMade.{tuple_type, record_type, variant_type}
 use Rattle.wave_type.specs.TypeConversion.{converted_type}
-use Rattle.wave_type.proofs.TypeConversion.{can_be_payload, remaining}
+use Rattle.wave_type.proofs.TypeTrees.Conversion.{can_be_payload, remaining}
 use Rattle.wave_type.proofs.ty.+conversion.Given as goal
 
 abbrev pub decreases-Type::from_wasm_type : goal.decreases-Type::from_wasm_type

@@ -19,7 +19,7 @@ use types.Logic.{sem}
 use types.Run.{enter, of_opd, unit_lit, returns}
 use Rattle.wave_wasm.specs.Types.{IsRepresentable}
 use Rattle.wave_type.specs.contracts.ty.are_own as f
-use Rattle.wave_type.proofs.Known.{Types, types_known, all_of}
+use Rattle.wave_type.proofs.TypeTrees.Representable.{Types, types_known, all_of}
 use Rattle.wave_type.proofs.ty.are_own.Statement.{statement}
 use Rattle.wave_type.proofs.ty.are_own.Code as code
 

@@ -1,7 +1,7 @@
 use Rattle.std.proofs.Common.{arith, ap}
-use Rattle.wave_wasm.specs.Shared.Values.{depth}
+use Rattle.wave_wasm.specs.Values.{depth}
 use Rattle.wave_value.specs.TypedValue.{TypedValue}
-use Rattle.wave_value.proofs.ValueDepths.{values_depth, pairs_depth, content_deep, value_below, pair_below}
+use Rattle.wave_value.proofs.ValueModel.Depths.{values_depth, pairs_depth, content_deep, value_below, pair_below}
 use Rattle.wave_value.proofs.value.+clone.Goals as goal
 
 pub Value::clone-clone_content-requires : goal.Value::clone-clone_content-requires

@@ -1,7 +1,7 @@
 use Rattle.std.proofs.Common.{◌≡◌, ◌+◌, ◌*◌, take}
-use Rattle.wave_wasm.specs.Shared.Values.{depth}
+use Rattle.wave_wasm.specs.Values.{depth}
 use Rattle.wave_value.specs.ValueModel.{boxed}
-use Rattle.wave_value.proofs.ValueDepths.{values_depth, payload_depth, pairs_depth, content_depth}
+use Rattle.wave_value.proofs.ValueModel.Depths.{values_depth, payload_depth, pairs_depth, content_depth}
 use Rattle.wave_value.proofs.value.+clone.Given as goal
 
 abbrev pub decreases-Value::clone : goal.decreases-Value::clone

@@ -121,7 +121,7 @@ impl Value {
     }
 
     // `some` of the payload, or `none`, which an option of the type has.
-    #[tactic(auto, using(crate::proofs::TypedParts::option_fits, crate::proofs::TypedParts::option_made, crate::proofs::TypedParts::option_taken))]
+    #[tactic(auto, using(crate::proofs::TypedParts::ValuesFit::option_fits, crate::proofs::TypedParts::ValuesFit::option_made, crate::proofs::TypedParts::ValuesFit::option_taken))]
     pub(crate) fn option_unchecked(
         alloc: Global,
         ty: &Type,
@@ -146,7 +146,7 @@ impl Value {
     }
 
     // `ok` or `err` with the payload, which a result of the type has.
-    #[tactic(auto, using(crate::proofs::TypedParts::ok_fits, crate::proofs::TypedParts::err_fits, crate::proofs::TypedParts::ok_made, crate::proofs::TypedParts::err_made, crate::proofs::TypedParts::ok_taken, crate::proofs::TypedParts::err_taken))]
+    #[tactic(auto, using(crate::proofs::TypedParts::ValuesFit::ok_fits, crate::proofs::TypedParts::ValuesFit::err_fits, crate::proofs::TypedParts::ValuesFit::ok_made, crate::proofs::TypedParts::ValuesFit::err_made, crate::proofs::TypedParts::ValuesFit::ok_taken, crate::proofs::TypedParts::ValuesFit::err_taken))]
     pub(crate) fn result_unchecked(
         alloc: Global,
         ty: &Type,

@@ -1,5 +1,5 @@
 use Rattle.std.proofs.lemmas.List.Sorted.{IsNonDecreasingBy-from_sort}
-use Rattle.wave_wasm.proofs.DistinctTexts.{differ_sorted}
+use Rattle.wave_wasm.proofs.Merging.DistinctTexts.{differ_sorted}
 use Rattle.wave_wasm.proofs.fingerprints.all_differ.Goals as goal
 
 pub returns : goal.returns

@@ -1,6 +1,6 @@
 use Rattle.std.proofs.Common.{ap, sym, ◌∙◌}
 use Rattle.wave_wasm.specs.Merge.{leaf_eq}
-use Rattle.wave_wasm.proofs.Merging.{leaf_eq-self, leaf_eq-true, merge_of_values}
+use Rattle.wave_wasm.proofs.Merging.LastValues.{leaf_eq-self, leaf_eq-true, merge_of_values}
 use Rattle.wave_wasm.proofs.laws.merging_keeps_last_values.Goals as goal
 
 pub returns-clause-keys : goal.returns-clause-keys

@@ -1,10 +1,10 @@
 use Rattle.std.proofs.Common.{rules, ap, sym, codes, ◌++◌, ◌∙◌, ℕ, List, Bool, map}
 use Rattle.std.specs.String.{string_bytes}
-use Rattle.wave_wasm.proofs.Sequence.{at_end, parted, item_passes, items_pass}
+use Rattle.wave_wasm.proofs.CanonicalText.Sequences.{at_end, parted, item_passes, items_pass}
 use Rattle.wave_wasm.specs.Text.{text, has_text}
 use Rattle.wave_wasm.specs.Commas.{joined}
-use Rattle.wave_wasm.proofs.TextAppend.{adding_none, adding_as, adding_start, adding_more, adding_item}
-use Rattle.wave_wasm.proofs.Trees.{map_map, all_map}
+use Rattle.wave_wasm.proofs.Displays.TextAppend.{adding_none, adding_as, adding_start, adding_more, adding_item}
+use Rattle.wave_wasm.proofs.CanonicalText.ValueParts.{map_map, all_map}
 use Rattle.wave_wasm.proofs.writer.arguments_to_string.Goals as goal
 
 pub loop-val-init : goal.loop-val-init

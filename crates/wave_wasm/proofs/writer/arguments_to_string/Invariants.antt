@@ -2,8 +2,8 @@ use Rattle.std.proofs.Common.{◌≡◌, ◌++◌, [], map, drop, codes}
 use Rattle.std.specs.List.{list_all}
 use Rattle.std.specs.String.{string_bytes}
 use Rattle.wave_wasm.specs.Text.{text, has_text, arguments_text}
-use Rattle.wave_wasm.proofs.TextAppend.{Adding}
-use Rattle.wave_wasm.proofs.Sequence.{parted}
+use Rattle.wave_wasm.proofs.Displays.TextAppend.{Adding}
+use Rattle.wave_wasm.proofs.CanonicalText.Sequences.{parted}
 use Rattle.wave_wasm.proofs.writer.arguments_to_string.Given as goal
 
 abbrev pub invariant-loop-val : goal.invariant-loop-val

@@ -1,6 +1,6 @@
 use Rattle.std.proofs.Common.{Bor}
-use Rattle.wave_wasm.specs.Shared.Values.{IsLeaf}
-use Rattle.wave_wasm.proofs.Sequence.{all_at}
+use Rattle.wave_wasm.specs.Private.Values.{IsLeaf}
+use Rattle.wave_wasm.proofs.CanonicalText.Sequences.{all_at}
 use Rattle.wave_wasm.proofs.writer.key_fingerprints.Goals as goal
 
 pub write_leaf-requires : goal.write_leaf-requires

@@ -2,7 +2,7 @@ use Rattle.std.proofs.Common.{ℕ, List, String, Global, ◌≡◌, ap, sym, ◌
 use Rattle.std.proofs.lemmas.Map.Text.{btree_map_updates_text}
 use Rattle.std.specs.String.{string_bytes}
 use Rattle.wave_wasm.specs.Merge.{merge, same_text}
-use Rattle.wave_wasm.proofs.Places.{found_at, texts_of, merge_found, merge_new, place_fits}
+use Rattle.wave_wasm.proofs.Merging.EntryPlaces.{found_at, texts_of, merge_found, merge_new, place_fits}
 use Rattle.wave_wasm.proofs.writer.merge_by_places.Goals as goal
 
 pub index_mut-requires : goal.index_mut-requires

@@ -2,7 +2,7 @@ use Rattle.std.proofs.Common.{◌≡◌, ℕ, List, map}
 use Rattle.std.specs.BTreeMap.{get_by_text}
 use Rattle.std.specs.String.{string_bytes}
 use Rattle.wave_wasm.specs.Merge.{merge, same_text}
-use Rattle.wave_wasm.proofs.Places.{found_at, texts_of, pairs_of}
+use Rattle.wave_wasm.proofs.Merging.EntryPlaces.{found_at, texts_of, pairs_of}
 use Rattle.wave_wasm.proofs.writer.merge_by_places.Given as goal
 
 abbrev pub invariant-loop-text : goal.invariant-loop-text

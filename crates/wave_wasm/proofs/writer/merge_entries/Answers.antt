@@ -1,12 +1,12 @@
 use Rattle.std.proofs.Common.{ℕ, List, Bor, map, ap, sym, ◌∙◌, arith}
 use Rattle.std.proofs.lemmas.List.{take_all}
 use Rattle.wave_wasm.specs.Merge.{merge_by_text}
-use Rattle.wave_wasm.specs.Shared.Values.{IsLeaf}
+use Rattle.wave_wasm.specs.Private.Values.{IsLeaf}
 use Rattle.wave_wasm.specs.Text.{text}
 use Rattle.std.proofs.lemmas.Bool.{OnTrue_at}
-use Rattle.wave_wasm.proofs.DistinctKeys.{merge_distinct}
-use Rattle.wave_wasm.proofs.MergeCongruence.{merge_keyed}
-use Rattle.wave_wasm.proofs.Sequence.{all_at}
+use Rattle.wave_wasm.proofs.Merging.DistinctKeys.{merge_distinct}
+use Rattle.wave_wasm.proofs.Merging.Congruence.{merge_keyed}
+use Rattle.wave_wasm.proofs.CanonicalText.Sequences.{all_at}
 use Rattle.wave_wasm.proofs.writer.merge_entries.Goals as goal
 
 pub returns-then-have_distinct_keys-clause-ok : goal.returns-then-have_distinct_keys-clause-ok

@@ -2,7 +2,7 @@ use Rattle.std.proofs.Common.{◌≡◌, ℕ, List, String, Global, sym, subst}
 use Rattle.std.specs.Result.{IfOk}
 use Rattle.std.specs.String.{string_bytes}
 use Rattle.std.proofs.lemmas.Bool.{OnTrue_at}
-use Rattle.wave_wasm.proofs.DistinctKeys.{distinct_by_text}
+use Rattle.wave_wasm.proofs.Merging.DistinctKeys.{distinct_by_text}
 use Rattle.wave_wasm.proofs.writer.merge_map_entries.Goals as goal
 
 pub returns-then-have_distinct_texts : goal.returns-then-have_distinct_texts

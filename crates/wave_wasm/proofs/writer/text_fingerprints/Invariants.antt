@@ -1,6 +1,6 @@
 use Rattle.std.proofs.Common.{◌≡◌, map, take}
 use Rattle.std.specs.String.{string_bytes}
-use Rattle.wave_wasm.specs.Shared.Fingerprints.{fingerprint}
+use Rattle.wave_wasm.specs.Fingerprints.{fingerprint}
 use Rattle.wave_wasm.proofs.writer.text_fingerprints.Given as goal
 
 abbrev pub invariant-loop-entry : goal.invariant-loop-entry

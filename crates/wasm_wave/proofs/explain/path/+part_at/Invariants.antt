@@ -1,4 +1,4 @@
-use Rattle.wave_wasm.specs.Shared.Types.{depth}
+use Rattle.wave_wasm.specs.Types.{depth}
 use Rattle.wasm_wave.proofs.explain.path.+part_at.Given as goal
 
 abbrev pub decreases-part_at : goal.decreases-part_at

@@ -1,8 +1,8 @@
 use Rattle.std.proofs.Common.{◌≡◌, ℕ, List, length, drop, refl, ap, subst, ◌∙◌, arith}
 use Rattle.wave_lex.specs.Tokens.{gap, invalid}
 use Rattle.wave_lex.specs.Tokenization.{IsGap, IsLongestToken, IsInvalid}
-use Rattle.wave_lex.proofs.Scanning.{front_boundary}
-use Rattle.wave_lex.proofs.Tokenization.{stands_at, stands_next, gap_is_rest}
+use Rattle.wave_lex.proofs.LongestPrefix.MachineWalks.{front_boundary}
+use Rattle.wave_lex.proofs.Tokenization.LexerSteps.{stands_at, stands_next, gap_is_rest}
 use Rattle.wave_lex.proofs.lex.Lexer.advance.Goals as goal
 
 pub range_from-text-requires : goal.range_from-text-requires

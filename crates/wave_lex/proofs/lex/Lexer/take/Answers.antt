@@ -1,7 +1,7 @@
 use Rattle.std.proofs.Common.{ℕ, List, sym, ap, subst, ◌∙◌, arith}
 use Rattle.wave_lex.specs.Tokenization.{Lexed, IsGap, IsLongestToken, remainder_of}
-use Rattle.wave_lex.proofs.Scanning.{front_boundary}
-use Rattle.wave_lex.proofs.Tokenization.{stands_behind}
+use Rattle.wave_lex.proofs.LongestPrefix.MachineWalks.{front_boundary}
+use Rattle.wave_lex.proofs.Tokenization.LexerSteps.{stands_behind}
 use Rattle.wave_lex.proofs.lex.Lexer.take.Goals as goal
 
 pub invariant_of-self : goal.invariant_of-self

@@ -1,4 +1,4 @@
-use Rattle.wave_lex.proofs.Next.{item_goes}
+use Rattle.wave_lex.proofs.Tokenization.NextToken.{item_goes}
 use Rattle.wave_lex.proofs.lex.LexerIterator.next.Goals as goal
 
 pub returns-clause-goes : goal.returns-clause-goes

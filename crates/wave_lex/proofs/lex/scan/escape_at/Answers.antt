@@ -1,6 +1,6 @@
 use Rattle.std.proofs.Common.{arith, refl, sym, ◌∙◌}
-use Rattle.wave_lex.proofs.Unescape.{opened_cut}
-use Rattle.wave_lex.proofs.EscapeRuns.{some_leads, long_leads}
+use Rattle.wave_lex.proofs.StringDecoding.EscapesFound.{opened_cut}
+use Rattle.wave_lex.proofs.QuickScan.EscapeRuns.{some_leads, long_leads}
 use Rattle.wave_lex.proofs.lex.scan.escape_at.Goals as goal
 
 pub returns-then-ends_short : goal.returns-then-ends_short

@@ -1,7 +1,7 @@
 use Rattle.std.proofs.Common.{refl, arith}
 use Rattle.wave_lex.specs.Tokens.{gap}
-use Rattle.wave_lex.proofs.Prefixes.{front_there, front_behind}
-use Rattle.wave_lex.proofs.Runs.{blanks_end, blanks_cut, blanks_lead, no_gap, one_blank}
+use Rattle.wave_lex.proofs.QuickScan.Prefixes.{front_there, front_behind}
+use Rattle.wave_lex.proofs.QuickScan.ByteRuns.{blanks_end, blanks_cut, blanks_lead, no_gap, one_blank}
 use Rattle.wave_lex.proofs.lex.scan.gap_at.Goals as goal
 
 pub range_from-requires : goal.range_from-requires

@@ -1,7 +1,7 @@
 use Rattle.std.proofs.Common.{length, ◌-◌}
-use Rattle.wave_lex.specs.Shared.Reading.{LeadsTo}
+use Rattle.wave_lex.specs.Private.Reading.{LeadsTo}
 use Rattle.wave_lex.specs.Tokens.{string}
-use Rattle.wave_lex.specs.Shared.Machines.{string_rest}
+use Rattle.wave_lex.specs.Machines.{string_rest}
 use Rattle.wave_lex.specs.declared.machine.string.StringState.TheVariants.{Inside}
 use Rattle.wave_lex.proofs.lex.scan.inside_end.Given as goal
 

@@ -1,10 +1,10 @@
 use Rattle.std.proofs.Common.{refl, arith, sym, ◌∙◌}
 use Rattle.wave_lex.specs.Tokens.{label_or_keyword}
-use Rattle.wave_lex.specs.Shared.Machines.{label_token_rest}
+use Rattle.wave_lex.specs.Machines.{label_token_rest}
 use Rattle.wave_lex.specs.declared.machine.label.LabelState.TheVariants.{Lower}
 use Rattle.wave_lex.specs.declared.machine.label.LabelTokenState.TheVariants.{Label}
-use Rattle.wave_lex.proofs.Prefixes.{front_there, front_behind, lead_boundary}
-use Rattle.wave_lex.proofs.WordRuns.{word_first, words_are}
+use Rattle.wave_lex.proofs.QuickScan.Prefixes.{front_there, front_behind, lead_boundary}
+use Rattle.wave_lex.proofs.QuickScan.WordRuns.{word_first, words_are}
 use Rattle.wave_lex.proofs.lex.scan.label_at.Goals as goal
 
 pub words_end-place-requires : goal.words_end-place-requires

@@ -1,5 +1,5 @@
 use Rattle.std.proofs.Common.{◌≡◌, ℕ, ◌<◌, true, get_or}
-use Rattle.wave_lex.specs.Shared.Machines.{is_lower}
+use Rattle.wave_lex.specs.Machines.{is_lower}
 use Rattle.wave_lex.proofs.lex.scan.lowers.Given as goal
 
 abbrev pub invariant-loop-i : goal.invariant-loop-i

@@ -1,5 +1,5 @@
 use Rattle.std.proofs.Common.{arith}
-use Rattle.wave_lex.proofs.Runs.{mark_here}
+use Rattle.wave_lex.proofs.QuickScan.ByteRuns.{mark_here}
 use Rattle.wave_lex.proofs.lex.scan.mark_at.Goals as goal
 
 pub returns : goal.returns

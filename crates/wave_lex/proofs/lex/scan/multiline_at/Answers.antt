@@ -1,6 +1,6 @@
 use Rattle.std.proofs.Common.{ap, sym, List, ℕ, ◌++◌, ◌∙◌}
 use Rattle.wave_lex.specs.Tokenization.{three_quotes}
-use Rattle.wave_lex.proofs.FirstQuotes.{none_unquoted, none_unclosed, greatest_through}
+use Rattle.wave_lex.proofs.MultilineStrings.QuotesFound.{none_unquoted, none_unclosed, greatest_through}
 use Rattle.wave_lex.proofs.lex.scan.multiline_at.Goals as goal
 
 pub returns-in_err-inside : goal.returns-in_err-inside

@@ -1,9 +1,9 @@
 use Rattle.std.proofs.Common.{refl, arith, sym, ◌∙◌}
 use Rattle.wave_lex.specs.Tokens.{number}
-use Rattle.wave_lex.specs.Shared.Machines.{number_rest}
+use Rattle.wave_lex.specs.Machines.{number_rest}
 use Rattle.wave_lex.specs.declared.machine.number.NumberState.TheVariants.{Whole}
-use Rattle.wave_lex.proofs.Prefixes.{front_there, front_behind}
-use Rattle.wave_lex.proofs.Runs.{digits_end, digits_cut, digits_lead}
+use Rattle.wave_lex.proofs.QuickScan.Prefixes.{front_there, front_behind}
+use Rattle.wave_lex.proofs.QuickScan.ByteRuns.{digits_end, digits_cut, digits_lead}
 use Rattle.wave_lex.proofs.lex.scan.number_at.Goals as goal
 
 pub range_from-requires : goal.range_from-requires

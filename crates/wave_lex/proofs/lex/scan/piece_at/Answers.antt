@@ -1,8 +1,8 @@
 use Rattle.std.proofs.Common.{arith, ap, drop, ◌∙◌}
 use Rattle.std.proofs.lemmas.List.{take_rest}
 use Rattle.std.proofs.lemmas.Str.{IsUtf8-drop}
-use Rattle.wave_lex.proofs.EscapeRuns.{plains_here}
-use Rattle.wave_lex.proofs.Prefixes.{lead_boundary}
+use Rattle.wave_lex.proofs.QuickScan.EscapeRuns.{plains_here}
+use Rattle.wave_lex.proofs.QuickScan.Prefixes.{lead_boundary}
 use Rattle.wave_lex.proofs.lex.scan.piece_at.Goals as goal
 
 pub returns : goal.returns

@@ -1,5 +1,5 @@
 use Rattle.std.proofs.Common.{refl, arith, length-drop, le_of_eq, take_all}
-use Rattle.wave_lex.proofs.Runs.{plain_first, plain_joined}
+use Rattle.wave_lex.proofs.QuickScan.ByteRuns.{plain_first, plain_joined}
 use Rattle.wave_lex.proofs.lex.scan.plains.Goals as goal
 
 pub returns-then-run-lt-FEW : goal.returns-then-run-lt-FEW

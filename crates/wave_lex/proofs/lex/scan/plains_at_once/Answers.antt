@@ -1,6 +1,6 @@
 use Rattle.std.proofs.Common.{ℕ, subst, sym}
-use Rattle.wave_lex.specs.Shared.Reading.{IsPlainRun}
-use Rattle.wave_lex.proofs.Runs.{plain_found}
+use Rattle.wave_lex.specs.Private.Reading.{IsPlainRun}
+use Rattle.wave_lex.proofs.QuickScan.ByteRuns.{plain_found}
 use Rattle.wave_lex.proofs.lex.scan.plains_at_once.Goals as goal
 
 pub returns : goal.returns

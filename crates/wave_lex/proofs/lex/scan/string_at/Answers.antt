@@ -1,10 +1,10 @@
 use Rattle.std.proofs.Common.{arith}
 use Rattle.wave_lex.specs.Tokens.{string}
-use Rattle.wave_lex.specs.Shared.Machines.{string_rest}
+use Rattle.wave_lex.specs.Machines.{string_rest}
 use Rattle.wave_lex.specs.declared.machine.string.StringState.TheVariants.{Inside}
-use Rattle.wave_lex.proofs.Prefixes.{front_behind, none_behind, lead_boundary}
-use Rattle.wave_lex.proofs.Runs.{inside_none}
-use Rattle.wave_lex.proofs.EscapeRuns.{quote_leads, plains_lead, string_closes}
+use Rattle.wave_lex.proofs.QuickScan.Prefixes.{front_behind, none_behind, lead_boundary}
+use Rattle.wave_lex.proofs.QuickScan.ByteRuns.{inside_none}
+use Rattle.wave_lex.proofs.QuickScan.EscapeRuns.{quote_leads, plains_lead, string_closes}
 use Rattle.wave_lex.proofs.lex.scan.string_at.Goals as goal
 
 pub range_from-requires : goal.range_from-requires

@@ -1,5 +1,5 @@
 use Rattle.std.proofs.Common.{arith, sym, ◌∙◌, length-drop, le_of_eq, take_all}
-use Rattle.wave_lex.proofs.WordRuns.{word_here}
+use Rattle.wave_lex.proofs.QuickScan.WordRuns.{word_here}
 use Rattle.wave_lex.proofs.lex.scan.word_at.Goals as goal
 
 pub returns : goal.returns

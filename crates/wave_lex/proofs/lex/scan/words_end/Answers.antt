@@ -1,5 +1,5 @@
-use Rattle.wave_lex.proofs.Prefixes.{lead_boundary}
-use Rattle.wave_lex.proofs.WordRuns.{words_on}
+use Rattle.wave_lex.proofs.QuickScan.Prefixes.{lead_boundary}
+use Rattle.wave_lex.proofs.QuickScan.WordRuns.{words_on}
 use Rattle.wave_lex.proofs.lex.scan.words_end.Goals as goal
 
 pub range_from-requires : goal.range_from-requires

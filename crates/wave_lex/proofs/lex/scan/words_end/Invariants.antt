@@ -1,5 +1,5 @@
 use Rattle.std.proofs.Common.{length, ◌-◌}
-use Rattle.wave_lex.specs.Shared.Reading.{EndsWord}
+use Rattle.wave_lex.specs.Private.Reading.{EndsWord}
 use Rattle.wave_lex.specs.Tokens.{label_or_keyword}
 use Rattle.wave_lex.proofs.lex.scan.words_end.Given as goal
 

@@ -1,8 +1,8 @@
 use Rattle.std.proofs.Common.{arith, ◌≡◌, ◌≢◌, ℕ, ◌+◌, ◌<◌, ◌≤◌, inl, inr, List, length, sym, ap, subst, get_or}
 use Rattle.wave_lex.specs.Multiline.{IsSpaces}
 use Rattle.wave_lex.specs.Remaining.{Undecoded}
-use Rattle.wave_lex.proofs.Lines.{not_spaces, all_spaces, behind_feed, behind_last, feed_before, begins_here, opened}
-use Rattle.wave_lex.proofs.LineParts.{body_whole}
+use Rattle.wave_lex.proofs.MultilineStrings.Lines.{not_spaces, all_spaces, behind_feed, behind_last, feed_before, begins_here, opened}
+use Rattle.wave_lex.proofs.MultilineStrings.JoinedLines.{body_whole}
 use Rattle.wave_lex.proofs.strings.MultilineStringParts.new.Goals as goal
 
 pub returns-then-length_of_spaces-closing : goal.returns-then-length_of_spaces-closing

@@ -2,7 +2,7 @@ use Rattle.std.proofs.Common.{◌≡◌, ◌≢◌, ℕ, List, length, inr, refl
 use Rattle.std.specs.Str.{IsUtf8}
 use Rattle.wave_lex.specs.Multiline.{DropsReturn}
 use Rattle.wave_lex.specs.Remaining.{Undecoded, ended_lines}
-use Rattle.wave_lex.proofs.Lines.{too_few, indented, behind_spaces}
+use Rattle.wave_lex.proofs.MultilineStrings.Lines.{too_few, indented, behind_spaces}
 use Rattle.wave_lex.proofs.strings.MultilineStringParts.next_line.Goals as goal
 
 pub returns-then-length_of_spaces-self : goal.returns-then-length_of_spaces-self

@@ -1,6 +1,6 @@
 use Rattle.std.proofs.Common.{refl, arith, subst, List, ℕ}
 use Rattle.std.specs.Str.{IsUtf8}
-use Rattle.wave_lex.proofs.Parts.{run_taken, escape_taken, escape_boundary, none_or_begins}
+use Rattle.wave_lex.proofs.StringDecoding.Parts.{run_taken, escape_taken, escape_boundary, none_or_begins}
 use Rattle.wave_lex.proofs.strings.StringParts.part.Goals as goal
 
 pub returns-then-self-gt0 : goal.returns-then-self-gt0

@@ -1,5 +1,5 @@
 use Rattle.wave_lex.specs.Remaining.{one_line}
-use Rattle.wave_lex.proofs.LineParts.{one_line_ends, ends_there}
+use Rattle.wave_lex.proofs.MultilineStrings.JoinedLines.{one_line_ends, ends_there}
 use Rattle.wave_lex.proofs.strings.StringPartsIter.end.Goals as goal
 
 pub returns-in-Normal : goal.returns-in-Normal

@@ -1,5 +1,5 @@
 use Rattle.std.proofs.Common.{refl}
-use Rattle.wave_lex.proofs.LineParts.{refused_escape}
+use Rattle.wave_lex.proofs.MultilineStrings.JoinedLines.{refused_escape}
 use Rattle.wave_lex.proofs.strings.StringPartsIterator.next.Goals as goal
 
 pub returns-in-Err-clause-steps : goal.returns-in-Err-clause-steps

@@ -1,6 +1,6 @@
 use Rattle.std.proofs.Common.{ap, ◌∙◌}
 use Rattle.wave_lex.specs.Errors.{refusal_of}
-use Rattle.wave_read.proofs.WholeErrors.{no_form}
+use Rattle.wave_read.proofs.ReadErrors.ByParts.{no_form}
 use Rattle.wave_read.proofs.error.ReadError.is_wrong_form.Goals as goal
 
 pub returns-in_default : goal.returns-in_default

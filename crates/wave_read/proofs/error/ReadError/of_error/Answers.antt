@@ -1,4 +1,4 @@
-use Rattle.wave_read.proofs.WholeErrors.{kept_or_memory}
+use Rattle.wave_read.proofs.ReadErrors.ByParts.{kept_or_memory}
 use Rattle.wave_read.proofs.error.ReadError.of_error.Goals as goal
 
 pub returns : goal.returns

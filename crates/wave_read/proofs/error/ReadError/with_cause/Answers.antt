@@ -1,4 +1,4 @@
-use Rattle.wave_read.proofs.Errors.{refused_or_memory}
+use Rattle.wave_read.proofs.ReadErrors.HandedOn.{refused_or_memory}
 use Rattle.wave_read.proofs.error.ReadError.with_cause.Goals as goal
 
 pub returns-clause-refusal : goal.returns-clause-refusal

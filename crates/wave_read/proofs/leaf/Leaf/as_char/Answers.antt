@@ -2,7 +2,7 @@ use Rattle.std.proofs.Common.{◌≡◌, inr, rules}
 use Rattle.wave_grammar.specs.declared.form.NodeType.TheVariants as kind
 use Rattle.wave_grammar.proofs.NodeTexts.Chars.{char_none}
 use Rattle.wave_read.specs.Leaves.{leaf_node}
-use Rattle.wave_read.proofs.Inside.{leaf_inside}
+use Rattle.wave_read.proofs.LeafReading.BetweenQuotes.{leaf_inside}
 use Rattle.wave_read.proofs.leaf.Leaf.as_char.Goals as goal
 
 pub returns-in-None-char_in-clause-gives : goal.returns-in-None-char_in-clause-gives

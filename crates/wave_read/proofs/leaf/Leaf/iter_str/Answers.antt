@@ -1,7 +1,7 @@
 use Rattle.std.proofs.Common.{inl, ap}
 use Rattle.wave_lex.specs.Parts.{left_of}
 use Rattle.wave_grammar.specs.declared.form.NodeType.TheVariants as kind
-use Rattle.wave_read.proofs.Inside.{leaf_inside, not_bare, opened}
+use Rattle.wave_read.proofs.LeafReading.BetweenQuotes.{leaf_inside, not_bare, opened}
 use Rattle.wave_read.proofs.leaf.Leaf.iter_str.Goals as goal
 
 pub returns-in-Some : goal.returns-in-Some

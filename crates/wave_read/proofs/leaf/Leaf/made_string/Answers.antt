@@ -1,7 +1,7 @@
 use Rattle.std.proofs.Common.{sym}
 use Rattle.wave_wasm.specs.Values.{string}
 use Rattle.wave_read.specs.Leaves.{leaf_node}
-use Rattle.wave_read.proofs.Errors.{leaf_anew}
+use Rattle.wave_read.proofs.ReadErrors.HandedOn.{leaf_anew}
 use Rattle.wave_read.proofs.leaf.Leaf.made_string.Goals as goal
 
 pub returns-in-Borrowed : goal.returns-in-Borrowed

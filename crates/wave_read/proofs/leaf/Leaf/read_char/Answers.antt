@@ -1,13 +1,13 @@
 use Rattle.std.proofs.Common.{◌≡◌, inl, refl}
 use Rattle.wave_wasm.specs.Types as type
 use Rattle.wave_wasm.specs.Values.{char}
-use Rattle.wave_grammar.specs.Shared.ErrorSpans.{RefusesAt}
-use Rattle.wave_grammar.proofs.MakerAnswers.{faulty}
-use Rattle.wave_grammar.proofs.Parameters.{error_handed}
+use Rattle.wave_grammar.specs.ErrorSpans.{RefusesAt}
+use Rattle.wave_grammar.proofs.ByKind.MakerAnswers.{faulty}
+use Rattle.wave_grammar.proofs.Elaboration.ParamsInTurn.{error_handed}
 use Rattle.wave_grammar.proofs.ByKind.TextLeaves.{char_read, char_blame}
 use Rattle.wave_grammar.proofs.ErrorSpans.Nodes.{all_in, char_at}
 use Rattle.wave_read.specs.Leaves.{leaf_node}
-use Rattle.wave_read.proofs.Errors.{leaf_made, made_at, leaf_anew, leaf_of, none_of}
+use Rattle.wave_read.proofs.ReadErrors.HandedOn.{leaf_made, made_at, leaf_anew, leaf_of, none_of}
 use Rattle.wave_read.proofs.leaf.Leaf.read_char.Goals as goal
 
 pub returns-in_err-val : goal.returns-in_err-val

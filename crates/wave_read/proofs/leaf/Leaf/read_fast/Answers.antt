@@ -2,7 +2,7 @@ use Rattle.std.proofs.Common.{pos, w8, w16, w32, w64, to_z, of_z, FitsSigned, ru
 use Rattle.std.proofs.lemmas.Int.{to_z-of_z}
 use Rattle.wave_wasm.specs.Types as type
 use Rattle.wave_read.specs.Leaves.{leaf_node}
-use Rattle.wave_read.proofs.SoonRead.{whole_soon, bool_soon, char_soon, string_soon}
+use Rattle.wave_read.proofs.LeafReading.ReadAtOnce.{whole_soon, bool_soon, char_soon, string_soon}
 use Rattle.wave_read.proofs.leaf.Leaf.read_fast.Goals as goal
 
 pub returns-in_ok-number-in-S8 : goal.returns-in_ok-number-in-S8

@@ -3,7 +3,7 @@ use Rattle.wave_lex.specs.Errors.{Diagnostic}
 use Rattle.wave_grammar.proofs.ErrorSpans.Nodes.{told_in}
 use Rattle.wave_read.specs.Leaves.{leaf_node}
 use Rattle.wave_read.specs.Reading.{IsOfType}
-use Rattle.wave_read.proofs.DetailedKeys.{as_told, key_told}
+use Rattle.wave_read.proofs.LeafReading.LabelKeys.{as_told, key_told}
 use Rattle.wave_read.proofs.leaf.Leaf.read_key.Goals as goal
 
 pub returns-in-Err-clause-answer : goal.returns-in-Err-clause-answer

@@ -2,10 +2,10 @@ use Rattle.std.proofs.Common.{◌≡◌, inr, refl, ap, ◌∙◌, sym, subst}
 use Rattle.wave_wasm.specs.Types as type
 use Rattle.wave_wasm.specs.Types.{TypeTree, kind_of}
 use Rattle.wave_wasm.specs.Values as value
-use Rattle.wave_wasm.proofs.TypeKinds.{simple_is}
+use Rattle.wave_wasm.proofs.TypesOfValues.TypeOfKind.{simple_is}
 use Rattle.wave_grammar.specs.TypedReading.{AnswersKey}
-use Rattle.wave_grammar.specs.Shared.ErrorSpans.{RefusesIn}
-use Rattle.wave_grammar.proofs.Parameters.{error_handed}
+use Rattle.wave_grammar.specs.ErrorSpans.{RefusesIn}
+use Rattle.wave_grammar.proofs.Elaboration.ParamsInTurn.{error_handed}
 use Rattle.wave_grammar.proofs.ByKind.Keys.{bool_key, no_bool_key, key_faulty}
 use Rattle.wave_grammar.proofs.ByKind.Wholes.{whole_answers_key, whole_at}
 use Rattle.wave_grammar.proofs.ByKind.TextKeys.{char_key, no_char_key}
@@ -13,9 +13,9 @@ use Rattle.wave_grammar.proofs.ErrorSpans.Nodes.{all_in, at_in, form_at, char_at
 use Rattle.wave_read.specs.Leaves.{leaf_node}
 use Rattle.wave_grammar.specs.FaultOrder.{in_text}
 use Rattle.wave_read.specs.Reading.{IsOfType}
-use Rattle.wave_read.proofs.SimpleTypes.{whole_of}
-use Rattle.wave_read.proofs.NamedKinds.{none_word}
-use Rattle.wave_read.proofs.Errors.{key_made, made_in, leaf_anew, leaf_of, none_of}
+use Rattle.wave_read.proofs.LeafReading.SimpleTypes.{whole_of}
+use Rattle.wave_read.proofs.LeafReading.MatchedKinds.{none_word}
+use Rattle.wave_read.proofs.ReadErrors.HandedOn.{key_made, made_in, leaf_anew, leaf_of, none_of}
 use Rattle.wave_read.proofs.leaf.Leaf.read_plain_key.Goals as goal
 
 pub returns-in_err-as_bool_key-in-Bool-clause-answer : goal.returns-in_err-as_bool_key-in-Bool-clause-answer

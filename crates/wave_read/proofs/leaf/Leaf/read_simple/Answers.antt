@@ -1,8 +1,8 @@
 use Rattle.std.proofs.Common.{◌∙◌, sym}
 use Rattle.wave_wasm.specs.Types as type
 use Rattle.wave_read.specs.Leaves.{leaf_node}
-use Rattle.wave_read.proofs.SimpleTypes.{read_at_kind, whole_at_kind}
-use Rattle.wave_read.proofs.NamedKinds.{none_word}
+use Rattle.wave_read.proofs.LeafReading.SimpleTypes.{read_at_kind, whole_at_kind}
+use Rattle.wave_read.proofs.LeafReading.MatchedKinds.{none_word}
 use Rattle.wave_read.proofs.leaf.Leaf.read_simple.Goals as goal
 
 pub returns-in-Bool : goal.returns-in-Bool

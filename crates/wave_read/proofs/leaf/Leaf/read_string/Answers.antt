@@ -1,13 +1,13 @@
 use Rattle.std.proofs.Common.{inl, refl}
 use Rattle.std.specs.Cow.{cow_str_bytes}
 use Rattle.wave_wasm.specs.Values.{string}
-use Rattle.wave_grammar.proofs.MakerAnswers.{leaf_made}
+use Rattle.wave_grammar.proofs.ByKind.MakerAnswers.{leaf_made}
 use Rattle.wave_grammar.proofs.ByKind.TextLeaves.{string_read}
 use Rattle.wave_grammar.proofs.ErrorSpans.Nodes.{all_in, leaf_at}
 use Rattle.wave_read.specs.Leaves.{leaf_node}
-use Rattle.wave_read.proofs.Errors.{same_or_memory, leaf_of}
-use Rattle.wave_read.proofs.Inside.{leaf_quoted}
-use Rattle.wave_read.proofs.Strings.{told_blame, told_string_in, given_one}
+use Rattle.wave_read.proofs.ReadErrors.HandedOn.{same_or_memory, leaf_of}
+use Rattle.wave_read.proofs.LeafReading.BetweenQuotes.{leaf_quoted}
+use Rattle.wave_read.proofs.LeafReading.Strings.{told_blame, told_string_in, given_one}
 use Rattle.wave_read.proofs.leaf.Leaf.read_string.Goals as goal
 
 pub returns-in-Ok : goal.returns-in-Ok

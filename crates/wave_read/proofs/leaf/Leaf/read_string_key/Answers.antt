@@ -6,9 +6,9 @@ use Rattle.wave_grammar.proofs.ByKind.Keys.{key_made}
 use Rattle.wave_grammar.proofs.ByKind.TextKeys.{string_key}
 use Rattle.wave_grammar.proofs.ErrorSpans.Nodes.{all_in, leaf_at}
 use Rattle.wave_read.specs.Leaves.{leaf_node}
-use Rattle.wave_read.proofs.Errors.{kept_blame, kept_within, leaf_of}
-use Rattle.wave_read.proofs.Inside.{leaf_quoted}
-use Rattle.wave_read.proofs.Strings.{string_key_blamed, told_string_in, given_one}
+use Rattle.wave_read.proofs.ReadErrors.HandedOn.{kept_blame, kept_within, leaf_of}
+use Rattle.wave_read.proofs.LeafReading.BetweenQuotes.{leaf_quoted}
+use Rattle.wave_read.proofs.LeafReading.Strings.{string_key_blamed, told_string_in, given_one}
 use Rattle.wave_read.proofs.leaf.Leaf.read_string_key.Goals as goal
 
 pub returns-in-Ok-clause-answer : goal.returns-in-Ok-clause-answer

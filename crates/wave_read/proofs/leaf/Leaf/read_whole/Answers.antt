@@ -3,8 +3,8 @@ use Rattle.std.proofs.lemmas.Int.{to_z-of_z}
 use Rattle.wave_wasm.specs.Types as type
 use Rattle.wave_grammar.proofs.ByKind.Wholes.{whole_refused, none_whole}
 use Rattle.wave_read.specs.Leaves.{leaf_node}
-use Rattle.wave_read.proofs.NamedKinds.{no_whole}
-use Rattle.wave_read.proofs.Errors.{whole_made}
+use Rattle.wave_read.proofs.LeafReading.MatchedKinds.{no_whole}
+use Rattle.wave_read.proofs.ReadErrors.HandedOn.{whole_made}
 use Rattle.wave_read.proofs.leaf.Leaf.read_whole.Goals as goal
 
 pub returns-in_err-as_number-in-S8 : goal.returns-in_err-as_number-in-S8

@@ -1,7 +1,7 @@
 use Rattle.std.proofs.Common.{ℕ, ◌≡◌, List, false, sym, subst, ◌∙◌, rules}
 use Rattle.std.specs.List.{list_any}
 use Rattle.wave_grammar.specs.declared.form.NodeType.TheVariants as kind
-use Rattle.wave_read.proofs.SoonRead.{is_backslash, run_stands}
+use Rattle.wave_read.proofs.LeafReading.ReadAtOnce.{is_backslash, run_stands}
 use Rattle.wave_read.proofs.leaf.Leaf.run.Goals as goal
 
 pub returns : goal.returns

@@ -3,7 +3,7 @@ use Rattle.std.proofs.Common.{sym, subst, ap, ◌∙◌, ◌++◌, ◌∷◌, []
 use Rattle.wave_wasm.specs.Borrowed.{shown}
 use Rattle.wave_read.specs.Reading.{IsReadWhereDue}
 use Rattle.wave_read.specs.ListParts.{element_due}
-use Rattle.wave_read.proofs.ListItems.{one_more, held_still, item_kept, refusal_held}
+use Rattle.wave_read.proofs.ItemReading.Lists.{one_more, held_still, item_kept, refusal_held}
 use Rattle.wave_read.proofs.lists.Items+V+Type+V.push_part.Goals as goal
 
 pub returns-then-is_some : goal.returns-then-is_some

@@ -4,11 +4,11 @@ use Rattle.std.specs.Prelude.{IfOk, IfErr}
 use Rattle.wave_wasm.specs.Types.{TypeTree, HasDistinctNames}
 use Rattle.wave_wasm.specs.ConstructorContracts.{MakesList, FullList, TypedList}
 use Rattle.wave_grammar.specs.NodeTree.{node, node_trees}
-use Rattle.wave_grammar.specs.Shared.TypedReading.{IsOfLength, IsOtherLength}
+use Rattle.wave_grammar.specs.PartReading.{IsOfLength, IsOtherLength}
 use Rattle.wave_grammar.specs.declared.form.NodeType.TheVariants as kind
 use Rattle.wave_read.specs.Reading.{IsReadAs}
 use Rattle.wave_read.specs.ListParts.{ReadOrHeld}
-use Rattle.wave_read.proofs.ListItems.{refusal_handed, length_refused, item_refused, items_typed, list_read}
+use Rattle.wave_read.proofs.ItemReading.Lists.{refusal_handed, length_refused, item_refused, items_typed, list_read}
 use Rattle.wave_read.proofs.lists.Items+V+Type+V.whole.Goals as goal
 
 pub returns-in_err-check_length : goal.returns-in_err-check_length

@@ -1,6 +1,6 @@
 use Rattle.wave_grammar.specs.FaultOrder.{in_text}
 use Rattle.wave_grammar.specs.NodeTree.{node, no_nodes}
-use Rattle.wave_read.proofs.MapSteps.{key_taken, key_refused}
+use Rattle.wave_read.proofs.MapReading.EntrySteps.{key_taken, key_refused}
 use Rattle.wave_read.proofs.maps.Entries+V+Type+V.push_key.Goals as goal
 
 pub returns-in-Ok : goal.returns-in-Ok

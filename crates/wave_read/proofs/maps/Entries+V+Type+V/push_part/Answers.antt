@@ -1,6 +1,6 @@
 use Rattle.wave_grammar.specs.FaultOrder.{in_text}
 use Rattle.std.proofs.Common.{refl, sym, ap, ◌∙◌, ◌++◌, ◌∷◌, []}
-use Rattle.wave_read.proofs.MapSteps.{value_taken, no_value_alone}
+use Rattle.wave_read.proofs.MapReading.EntrySteps.{value_taken, no_value_alone}
 use Rattle.wave_read.proofs.maps.Entries+V+Type+V.push_part.Goals as goal
 
 pub returns-in_ok-reserve : goal.returns-in_ok-reserve

@@ -4,7 +4,7 @@ use Rattle.wave_wasm.specs.Types.{TypeTree, HasDistinctNames}
 use Rattle.wave_wasm.specs.ConstructorContracts.{TypedMap}
 use Rattle.wave_grammar.specs.NodeTree.{node, node_trees}
 use Rattle.wave_grammar.specs.declared.form.NodeType.TheVariants as kind
-use Rattle.wave_read.proofs.MapSteps.{map_typed, whole_made}
+use Rattle.wave_read.proofs.MapReading.EntrySteps.{map_typed, whole_made}
 use Rattle.wave_read.proofs.maps.Entries+V+Type+V.whole.Goals as goal
 
 pub make_map_unchecked-requires : goal.make_map_unchecked-requires

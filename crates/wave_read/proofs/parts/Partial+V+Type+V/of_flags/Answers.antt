@@ -1,6 +1,6 @@
 use Rattle.std.proofs.Common.{◌∙◌, sym}
-use Rattle.wave_read.proofs.FlagReading.{other_form}
-use Rattle.wave_read.proofs.PartsBegun.{no_flags, wrong}
+use Rattle.wave_read.proofs.FlagReading.ByNames.{other_form}
+use Rattle.wave_read.proofs.PartByPart.NoneRead.{no_flags, wrong}
 use Rattle.wave_read.proofs.parts.Partial+V+Type+V.of_flags.Goals as goal
 
 pub returns-in_default : goal.returns-in_default

@@ -1,6 +1,6 @@
 use Rattle.std.proofs.Common.{◌∙◌, sym}
-use Rattle.wave_read.proofs.ListItems.{other_than_list}
-use Rattle.wave_read.proofs.PartsBegun.{sound, wrong}
+use Rattle.wave_read.proofs.ItemReading.Lists.{other_than_list}
+use Rattle.wave_read.proofs.PartByPart.NoneRead.{sound, wrong}
 use Rattle.wave_read.proofs.parts.Partial+V+Type+V.of_list.Goals as goal
 
 pub returns-in-List : goal.returns-in-List

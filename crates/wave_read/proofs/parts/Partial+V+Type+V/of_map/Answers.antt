@@ -1,7 +1,7 @@
 use Rattle.std.proofs.Common.{◌∙◌, refl, sym, subst}
 use Rattle.wave_read.specs.PartsOfKinds.{TakesEmptySet}
-use Rattle.wave_read.proofs.MapEntries.{other_form, of_map_kind}
-use Rattle.wave_read.proofs.PartsBegun.{sound, wrong}
+use Rattle.wave_read.proofs.MapReading.Entries.{other_form, of_map_kind}
+use Rattle.wave_read.proofs.PartByPart.NoneRead.{sound, wrong}
 use Rattle.wave_read.proofs.parts.Partial+V+Type+V.of_map.Goals as goal
 
 pub returns-in-TupleSet : goal.returns-in-TupleSet

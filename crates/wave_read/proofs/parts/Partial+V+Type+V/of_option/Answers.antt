@@ -1,8 +1,8 @@
 use Rattle.std.proofs.Common.{◌∙◌, sym, subst}
 use Rattle.wave_grammar.specs.declared.form.NodeType.{NodeType}
 use Rattle.wave_read.specs.Flat.{IsFlatAt}
-use Rattle.wave_read.proofs.OptionReading.{other_option}
-use Rattle.wave_read.proofs.PartsBegun.{no_none, sound, wrong}
+use Rattle.wave_read.proofs.PayloadReading.Options.{other_option}
+use Rattle.wave_read.proofs.PartByPart.NoneRead.{no_none, sound, wrong}
 use Rattle.wave_read.proofs.parts.Partial+V+Type+V.of_option.Goals as goal
 
 pub returns-in-OptionSome : goal.returns-in-OptionSome

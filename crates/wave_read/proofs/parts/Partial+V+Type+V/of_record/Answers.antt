@@ -1,6 +1,6 @@
 use Rattle.std.proofs.Common.{◌∙◌, sym}
-use Rattle.wave_read.proofs.PartsBegun.{sound, unasked, wrong}
-use Rattle.wave_read.proofs.RecordFaults.{other_form}
+use Rattle.wave_read.proofs.PartByPart.NoneRead.{sound, unasked, wrong}
+use Rattle.wave_read.proofs.RecordReading.Faults.{other_form}
 use Rattle.wave_read.proofs.parts.Partial+V+Type+V.of_record.Goals as goal
 
 pub returns-in-Ok : goal.returns-in-Ok

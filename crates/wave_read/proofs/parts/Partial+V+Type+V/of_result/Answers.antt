@@ -2,8 +2,8 @@ use Rattle.std.proofs.Common.{◌∙◌, sym, ap, subst}
 use Rattle.wave_grammar.specs.declared.form.NodeType.{NodeType}
 use Rattle.wave_read.specs.Flat.{IsFlatAt}
 use Rattle.wave_read.specs.Payloads.{result_node}
-use Rattle.wave_read.proofs.ResultReading.{other_result}
-use Rattle.wave_read.proofs.PartsBegun.{sound, wrong}
+use Rattle.wave_read.proofs.PayloadReading.Results.{other_result}
+use Rattle.wave_read.proofs.PartByPart.NoneRead.{sound, wrong}
 use Rattle.wave_read.proofs.parts.Partial+V+Type+V.of_result.Goals as goal
 
 pub returns-in-ResultOk : goal.returns-in-ResultOk

@@ -1,6 +1,6 @@
 use Rattle.std.proofs.Common.{◌∙◌, sym}
-use Rattle.wave_read.proofs.TupleItems.{other_than_tuple}
-use Rattle.wave_read.proofs.PartsBegun.{sound, unasked, wrong}
+use Rattle.wave_read.proofs.ItemReading.Tuples.{other_than_tuple}
+use Rattle.wave_read.proofs.PartByPart.NoneRead.{sound, unasked, wrong}
 use Rattle.wave_read.proofs.parts.Partial+V+Type+V.of_tuple.Goals as goal
 
 pub returns-in-Ok : goal.returns-in-Ok

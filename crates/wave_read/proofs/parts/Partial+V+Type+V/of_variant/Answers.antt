@@ -1,6 +1,6 @@
 use Rattle.std.proofs.Common.{◌∙◌, sym}
-use Rattle.wave_read.proofs.CaseNodes.{variant_other_form}
-use Rattle.wave_read.proofs.PartsBegun.{no_label, sound, wrong}
+use Rattle.wave_read.proofs.PayloadReading.CaseNodes.{variant_other_form}
+use Rattle.wave_read.proofs.PartByPart.NoneRead.{no_label, sound, wrong}
 use Rattle.wave_read.proofs.parts.Partial+V+Type+V.of_variant.Goals as goal
 
 pub returns-in-VariantWithPayload : goal.returns-in-VariantWithPayload

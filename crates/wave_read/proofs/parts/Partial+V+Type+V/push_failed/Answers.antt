@@ -2,10 +2,10 @@ use Rattle.wave_grammar.specs.FaultOrder.{in_text}
 use Rattle.std.proofs.Common.{[], ◌∷◌, ◌++◌, Some, refl, ◌∙◌}
 use Rattle.wave_grammar.specs.declared.form.NodeType.TheVariants as kind
 use Rattle.wave_read.specs.declared.fault.Fault.TheVariants as fault
-use Rattle.wave_read.proofs.CaseAnswers.{part_refused}
-use Rattle.wave_read.proofs.MapSteps as entries
-use Rattle.wave_read.proofs.RecordSteps as fields
-use Rattle.wave_read.proofs.PartsKept.{behind_part, fault_placed, found_at, none_found, where_ok}
+use Rattle.wave_read.proofs.PayloadReading.CaseAnswers.{part_refused}
+use Rattle.wave_read.proofs.MapReading.EntrySteps as entries
+use Rattle.wave_read.proofs.RecordReading.FieldSteps as fields
+use Rattle.wave_read.proofs.PartByPart.OneMore.{behind_part, fault_placed, found_at, none_found, where_ok}
 use Rattle.wave_read.proofs.parts.Partial+V+Type+V.push_failed.Goals as goal
 use Rattle.wave_read.proofs.parts.Partial+V+Type+V.push_failed.Goals.{in-TupleItems+in_ok-found-in-TupleItems, in-OfCase, in-Fields, in-Entries, in_default}
 

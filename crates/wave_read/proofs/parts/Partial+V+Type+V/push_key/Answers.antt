@@ -1,7 +1,7 @@
 use Rattle.std.proofs.Common.{[], ◌∷◌, ◌++◌, refl, ◌∙◌}
 use Rattle.wave_grammar.specs.NodeTree.{node, no_nodes}
 use Rattle.wave_grammar.specs.declared.form.NodeType.TheVariants as kind
-use Rattle.wave_read.proofs.PartsKept.{behind_key, fault_placed, found_at, none_found}
+use Rattle.wave_read.proofs.PartByPart.OneMore.{behind_key, fault_placed, found_at, none_found}
 use Rattle.wave_read.proofs.parts.Partial+V+Type+V.push_key.Goals as goal
 use Rattle.wave_read.proofs.parts.Partial+V+Type+V.push_key.Goals.{in-OfCase+in_ok-found-in-OfCase, in-Fields+in_ok-found-in-Fields, in-Entries+in_ok-found-in-Entries, in_default}
 

@@ -1,4 +1,4 @@
-use Rattle.wave_read.proofs.PartsKept.{behind_part, where_ok}
+use Rattle.wave_read.proofs.PartByPart.OneMore.{behind_part, where_ok}
 use Rattle.wave_read.proofs.parts.Partial+V+Type+V.push_other_part.Goals as goal
 
 pub returns-in-TupleItems-clause-grown : goal.returns-in-TupleItems-clause-grown

@@ -1,4 +1,4 @@
-use Rattle.wave_read.proofs.PartsKept.{no_items, where_ok}
+use Rattle.wave_read.proofs.PartByPart.OneMore.{no_items, where_ok}
 use Rattle.wave_read.proofs.parts.Partial+V+Type+V.push_part.Goals as goal
 
 pub returns-in-Items-clause-grown : goal.returns-in-Items-clause-grown

@@ -8,8 +8,8 @@ use Rattle.wave_read.specs.PlainReading.{IsPlain}
 use Rattle.wave_read.specs.Reading.{IsReadAs}
 use Rattle.wave_read.specs.PartsOfKinds.{AreParts, AreBareOrRead}
 use Rattle.wave_read.specs.declared.parts.Partial.{Partial}
-use Rattle.wave_read.proofs.Doomed.{told}
-use Rattle.wave_read.proofs.PartsRead.{items_read, row_read, some_was_read, result_was_read, case_read, fields_read, entries_read}
+use Rattle.wave_read.proofs.ReadErrors.DoomedValues.{told}
+use Rattle.wave_read.proofs.PartByPart.ReadByKind.{items_read, row_read, some_was_read, result_was_read, case_read, fields_read, entries_read}
 use Rattle.wave_read.proofs.parts.Partial+V+Type+V.whole.Goals as goal
 
 pub whole-requires : goal.whole-requires

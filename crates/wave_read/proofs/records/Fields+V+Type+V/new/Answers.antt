@@ -1,6 +1,6 @@
 use Rattle.std.proofs.Common.{◌≡◌, [], map, refl, sym, ap, ◌∙◌, subst}
 use Rattle.wave_read.specs.RecordParts.{AreKeptAs, part_of}
-use Rattle.wave_read.proofs.RecordFields.{given_all, empty_field, empty_parts, none_kept}
+use Rattle.wave_read.proofs.RecordReading.Fields.{given_all, empty_field, empty_parts, none_kept}
 use Rattle.wave_read.proofs.records.Fields+V+Type+V.new.Goals as goal
 
 pub returns : goal.returns

@@ -1,5 +1,5 @@
 use Rattle.std.proofs.Common.{◌≡◌, map}
-use Rattle.wave_read.proofs.RecordFields.{empty_field}
+use Rattle.wave_read.proofs.RecordReading.Fields.{empty_field}
 use Rattle.wave_read.proofs.records.Fields+V+Type+V.new.Given as goal
 
 abbrev pub invariant-loop-name : goal.invariant-loop-name

@@ -1,7 +1,7 @@
 use Rattle.std.proofs.Common.{ℕ, List, [], ◌∷◌, ◌++◌, Some, refl, subst}
 use Rattle.wave_grammar.specs.NodeTree.{node, no_nodes}
-use Rattle.wave_read.specs.RecordParts.{IsFieldKey, IsKeyFault}
-use Rattle.wave_read.proofs.RecordSteps.{key_taken, key_doomed, same_fields}
+use Rattle.wave_read.specs.Private.RecordParts.{IsFieldKey, IsKeyFault}
+use Rattle.wave_read.proofs.RecordReading.FieldSteps.{key_taken, key_doomed, same_fields}
 use Rattle.wave_read.proofs.records.Fields+V+Type+V.push_key.Goals as goal
 
 pub returns-in-Ok : goal.returns-in-Ok

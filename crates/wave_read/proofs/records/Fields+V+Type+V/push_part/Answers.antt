@@ -1,5 +1,5 @@
 use Rattle.std.proofs.Common.{refl, sym, ◌∙◌}
-use Rattle.wave_read.proofs.RecordSteps.{no_value_alone, value_taken}
+use Rattle.wave_read.proofs.RecordReading.FieldSteps.{no_value_alone, value_taken}
 use Rattle.wave_read.proofs.records.Fields+V+Type+V.push_part.Goals as goal
 
 pub returns-in_default : goal.returns-in_default

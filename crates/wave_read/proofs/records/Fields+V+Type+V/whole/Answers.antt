@@ -3,7 +3,7 @@ use Rattle.wave_wasm.specs.Types.{TypeTree, HasDistinctNames}
 use Rattle.wave_wasm.specs.ConstructorContracts.{TypedRecord}
 use Rattle.wave_grammar.specs.NodeTree.{node, node_trees}
 use Rattle.wave_grammar.specs.declared.form.NodeType.TheVariants as kind
-use Rattle.wave_read.proofs.RecordWholes.{record_typed, whole_made, whole_unfilled}
+use Rattle.wave_read.proofs.RecordReading.WholeRecords.{record_typed, whole_made, whole_unfilled}
 use Rattle.wave_read.proofs.records.Fields+V+Type+V.whole.Goals as goal
 
 pub returns-in_err-fields : goal.returns-in_err-fields

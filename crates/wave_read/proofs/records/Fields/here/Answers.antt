@@ -1,6 +1,6 @@
 use Rattle.std.proofs.Common.{arith, sym, ◌∙◌}
 use Rattle.std.proofs.lemmas.Slice.Eq.{bytes_eq-Decides}
-use Rattle.wave_read.proofs.RecordFields.{got_here}
+use Rattle.wave_read.proofs.RecordReading.Fields.{got_here}
 use Rattle.wave_read.proofs.records.Fields.here.Goals as goal
 
 pub returns-then-eq : goal.returns-then-eq

@@ -2,8 +2,8 @@ use Rattle.std.proofs.Common.{ℕ, ◌≡◌, List, rules, inr, sym, ap, ◌∙�
 use Rattle.wave_lex.specs.Errors.{repeated_name}
 use Rattle.wave_lex.specs.declared.error.ParserErrorKind.TheVariants.{DuplicateField}
 use Rattle.wave_grammar.specs.declared.form.NodeType.TheVariants as kind
-use Rattle.wave_read.specs.RecordParts.{IsToldAs}
-use Rattle.wave_read.proofs.RecordFields.{got_same, none_there, some_there}
+use Rattle.wave_read.specs.Private.RecordParts.{IsToldAs}
+use Rattle.wave_read.proofs.RecordReading.Fields.{got_same, none_there, some_there}
 use Rattle.wave_read.proofs.records.Fields.named.Goals as goal
 
 pub returns-then-is_some : goal.returns-then-is_some

@@ -1,6 +1,6 @@
 use Rattle.std.proofs.Common.{arith, sym, ◌∙◌}
 use Rattle.std.proofs.lemmas.Slice.Eq.{bytes_eq-Decides}
-use Rattle.wave_read.proofs.RecordFields.{got_here, has_got, none_up_to, other_name}
+use Rattle.wave_read.proofs.RecordReading.Fields.{got_here, has_got, none_up_to, other_name}
 use Rattle.wave_read.proofs.records.Fields.search.Goals as goal
 
 pub returns-then-eq : goal.returns-then-eq

@@ -5,9 +5,9 @@ use Rattle.wave_grammar.specs.FaultOrder.{in_text}
 use Rattle.wave_wasm.specs.Borrowed.{shown}
 use Rattle.wave_grammar.specs.NodeTree.{node, node_trees}
 use Rattle.wave_grammar.specs.NodeAccessors.{first_of}
-use Rattle.wave_grammar.specs.Shared.TypedReading.{AnswersPayload}
+use Rattle.wave_grammar.specs.PartReading.{AnswersPayload}
 use Rattle.wave_read.specs.Payloads.{result_node}
-use Rattle.wave_read.proofs.ResultReading.{result_typed, result_read, result_refused}
+use Rattle.wave_read.proofs.PayloadReading.Results.{result_typed, result_read, result_refused}
 use Rattle.wave_read.proofs.results.ResultPayload+V+Type+V.whole.Goals as goal
 
 pub make_result_unchecked-requires : goal.make_result_unchecked-requires

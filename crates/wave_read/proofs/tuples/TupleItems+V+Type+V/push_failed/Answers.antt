@@ -1,7 +1,7 @@
 use Rattle.wave_grammar.specs.FaultOrder.{in_text}
 use Rattle.std.proofs.Common.{is_some, sym, ap, ◌∙◌}
-use Rattle.wave_read.proofs.ListItems.{one_more}
-use Rattle.wave_read.proofs.TupleItems.{each_beyond, item_refused}
+use Rattle.wave_read.proofs.ItemReading.Lists.{one_more}
+use Rattle.wave_read.proofs.ItemReading.Tuples.{each_beyond, item_refused}
 use Rattle.wave_read.proofs.tuples.TupleItems+V+Type+V.push_failed.Goals as goal
 
 pub returns-then-is_none : goal.returns-then-is_none

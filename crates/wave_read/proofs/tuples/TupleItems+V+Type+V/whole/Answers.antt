@@ -8,7 +8,7 @@ use Rattle.wave_grammar.specs.NodeTree.{node, node_trees}
 use Rattle.wave_grammar.specs.declared.form.NodeType.TheVariants as kind
 use Rattle.wave_grammar.proofs.ByKind.Tuples.{as_shown}
 use Rattle.wave_read.specs.TupleParts.{AreReadEach}
-use Rattle.wave_read.proofs.TupleItems.{items_fine, count_refused, row_typed, tuple_read}
+use Rattle.wave_read.proofs.ItemReading.Tuples.{items_fine, count_refused, row_typed, tuple_read}
 use Rattle.wave_read.proofs.tuples.TupleItems+V+Type+V.whole.Goals as goal
 
 pub returns-then-count-want : goal.returns-then-count-want

@@ -1,4 +1,4 @@
-use Rattle.wave_read.proofs.FlatReading.{doomed_around, none_flat_within, begun_around, plain_begun}
+use Rattle.wave_read.proofs.PayloadReading.FlatValues.{doomed_around, none_flat_within, begun_around, plain_begun}
 use Rattle.wave_read.proofs.values.Frame+V+Type+V.new.Goals as goal
 
 pub new-requires : goal.new-requires

@@ -1,6 +1,6 @@
 use Rattle.wave_grammar.specs.NodeTree.{node, no_nodes}
-use Rattle.wave_read.proofs.KeptSteps.{one_more, wants_where_due}
-use Rattle.wave_read.proofs.PartsKept.{where_ok}
+use Rattle.wave_read.proofs.PartByPart.FrameSteps.{one_more, wants_where_due}
+use Rattle.wave_read.proofs.PartByPart.OneMore.{where_ok}
 use Rattle.wave_read.proofs.values.Frame+V+Type+V.push_key.Goals as goal
 
 pub returns-clause-kept : goal.returns-clause-kept

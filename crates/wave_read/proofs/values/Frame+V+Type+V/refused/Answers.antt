@@ -1,5 +1,5 @@
-use Rattle.wave_read.proofs.TupleCounts.{count_answered}
-use Rattle.wave_read.proofs.ReadTypes.{fault_answered, fault_counts, row_counts, others_count}
+use Rattle.wave_read.proofs.ItemReading.TupleCounts.{count_answered}
+use Rattle.wave_read.proofs.PartByPart.NodeTypes.{fault_answered, fault_counts, row_counts, others_count}
 use Rattle.wave_read.proofs.values.Frame+V+Type+V.refused.Goals as goal
 
 pub returns-in-Faulty-clause-refused : goal.returns-in-Faulty-clause-refused

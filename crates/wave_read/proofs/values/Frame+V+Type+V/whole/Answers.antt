@@ -1,7 +1,7 @@
 use Rattle.wave_grammar.specs.FaultOrder.{in_text}
 use Rattle.std.proofs.Common.{refl}
 use Rattle.wave_grammar.specs.NodeTree.{node, node_trees}
-use Rattle.wave_read.proofs.KeptSteps.{kept_read, part_around, whole_alone, whole_around, alone_spares, around_spares}
+use Rattle.wave_read.proofs.PartByPart.FrameSteps.{kept_read, part_around, whole_alone, whole_around, alone_spares, around_spares}
 use Rattle.wave_read.proofs.values.Frame+V+Type+V.whole.Goals as goal
 
 pub whole-made-requires : goal.whole-made-requires

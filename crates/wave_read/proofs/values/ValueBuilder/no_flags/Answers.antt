@@ -5,9 +5,9 @@ use Rattle.wave_wasm.specs.Borrowed.{shown}
 use Rattle.wave_grammar.specs.declared.form.NodeType.{NodeType}
 use Rattle.wave_grammar.specs.declared.form.NodeType.TheVariants as kind
 use Rattle.wave_read.specs.Reading.{IsReadWhereDue}
-use Rattle.wave_read.proofs.PlainTypes.{no_row_spares, flags_no_row}
+use Rattle.wave_read.proofs.LeafReading.PlainTypes.{no_row_spares, flags_no_row}
 use Rattle.wave_read.specs.Flat.{IsAround}
-use Rattle.wave_read.proofs.Surrounding.{part_within}
+use Rattle.wave_read.proofs.PayloadReading.Surrounding.{part_within}
 use Rattle.wave_read.proofs.values.ValueBuilder.no_flags.Goals as goal
 
 pub wrapped-requires : goal.wrapped-requires

@@ -5,7 +5,7 @@ use Rattle.wave_grammar.specs.declared.form.NodeType.{NodeType}
 use Rattle.wave_grammar.specs.declared.form.NodeType.TheVariants as node_type
 use Rattle.wave_grammar.proofs.ChildNodes.Inside.{some_is}
 use Rattle.wave_read.specs.Flat.{IsAround, IsReadAt}
-use Rattle.wave_read.proofs.ReadTypes.{no_record}
+use Rattle.wave_read.proofs.PartByPart.NodeTypes.{no_record}
 use Rattle.wave_read.proofs.values.ValueBuilder.record.Goals as goal
 
 pub returns-in_default : goal.returns-in_default

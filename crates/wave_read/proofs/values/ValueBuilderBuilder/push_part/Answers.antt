@@ -1,6 +1,6 @@
 use Rattle.wave_grammar.specs.FaultOrder.{in_text}
 use Rattle.wave_wasm.specs.Borrowed.{shown}
-use Rattle.wave_read.proofs.PartsKept.{where_ok, where_err}
+use Rattle.wave_read.proofs.PartByPart.OneMore.{where_ok, where_err}
 use Rattle.wave_read.proofs.values.ValueBuilderBuilder.push_part.Goals as goal
 
 pub returns-clause-kept : goal.returns-clause-kept

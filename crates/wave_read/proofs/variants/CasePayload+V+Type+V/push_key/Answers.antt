@@ -5,8 +5,8 @@ use Rattle.wave_wasm.specs.declared.wasm.WasmValueError.TheVariants as error
 use Rattle.wave_grammar.specs.LeafTokens.{name_of}
 use Rattle.wave_grammar.specs.NodeTree.{NodeTree, node, no_nodes}
 use Rattle.wave_read.specs.CaseParts.{IsCaseRead}
-use Rattle.wave_read.proofs.CaseNodes.{case_named, none_named}
-use Rattle.wave_read.proofs.CaseAnswers.{label_of, label_read, unknown_doomed, unexpected_doomed}
+use Rattle.wave_read.proofs.PayloadReading.CaseNodes.{case_named, none_named}
+use Rattle.wave_read.proofs.PayloadReading.CaseAnswers.{label_of, label_read, unknown_doomed, unexpected_doomed}
 use Rattle.wave_read.proofs.variants.CasePayload+V+Type+V.push_key.Goals as goal
 
 pub returns-in-Some-default-Some : goal.returns-in-Some-default-Some

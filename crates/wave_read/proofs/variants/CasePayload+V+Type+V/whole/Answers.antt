@@ -2,7 +2,7 @@ use Rattle.wave_grammar.specs.FaultOrder.{in_text}
 use Rattle.std.proofs.Common.{refl}
 use Rattle.wave_grammar.specs.NodeTree.{node, node_trees}
 use Rattle.wave_grammar.specs.declared.form.NodeType.TheVariants as kind
-use Rattle.wave_read.proofs.CaseAnswers.{whole_made, whole_typed}
+use Rattle.wave_read.proofs.PayloadReading.CaseAnswers.{whole_made, whole_typed}
 use Rattle.wave_read.proofs.variants.CasePayload+V+Type+V.whole.Goals as goal
 
 pub make_variant_unchecked-requires : goal.make_variant_unchecked-requires

@@ -9,8 +9,8 @@ use Rattle.wave_grammar.specs.TypedGrammar.{names_of}
 use Rattle.wave_grammar.specs.NodeTree.{NodeTree, type_of, place_of, children_of}
 use Rattle.wave_grammar.specs.NodeAccessors.{shown_node}
 use Rattle.wave_grammar.specs.TypedReading.{IsValueOf, IsKeyOf, Answers}
-use Rattle.wave_grammar.specs.Shared.ErrorSpans.{RefusesIn}
-use Rattle.wave_grammar.specs.Shared.NodeFields.{fields_at, AnswersField, IsFieldNode}
+use Rattle.wave_grammar.specs.ErrorSpans.{RefusesIn}
+use Rattle.wave_grammar.specs.NodeFields.{fields_at, AnswersField, IsFieldNode}
 use Rattle.wave_grammar.specs.declared.form.NodeType.{NodeType}
 use Rattle.wave_grammar.specs.declared.form.NodeType.TheVariants as kind
 use Rattle.wave_grammar.specs.NodeParts.{IsOfParts, TakesKey, TakesPart}
@@ -21,22 +21,22 @@ use Rattle.wave_grammar.proofs.ErrorSpans.Nodes.{at_in, refused_at, part_in}
 use Rattle.wave_grammar.proofs.Fields.Entries.{record_nodes}
 use Rattle.wave_grammar.proofs.Fields.FieldOrder.{field_blamed}
 use Rattle.wave_grammar.proofs.Fields.Reading.{RecordType, record_is, fields_distinct, given_fields, failed, nodes_blame, field_read}
-use Rattle.wave_grammar.proofs.MakerAnswers.{handed}
-use Rattle.wave_grammar.proofs.Parameters.{error_handed}
+use Rattle.wave_grammar.proofs.ByKind.MakerAnswers.{handed}
+use Rattle.wave_grammar.proofs.Elaboration.ParamsInTurn.{error_handed}
 use Rattle.wave_read.specs.Leaves.{leaf_node}
 use Rattle.wave_read.specs.PlainReading.{IsReadSparing}
-use Rattle.wave_read.proofs.PlainTypes.{no_row_spares}
+use Rattle.wave_read.proofs.LeafReading.PlainTypes.{no_row_spares}
 use Rattle.wave_read.specs.Flat.{ReadsNoRecord, IsCounted}
 use Rattle.wave_read.specs.KeptParts.{AreKeptWhereDue}
 use Rattle.wave_read.specs.PartsOfKinds.{AreDoomedAtOnce}
-use Rattle.wave_tree.proofs.Children.{child_below, key_child, value_child, if_true, if_false, more_children, key_alone, whole_at}
-use Rattle.wave_tree.proofs.TypeOrder.{read_by_type}
-use Rattle.wave_tree.proofs.ReadNodes.{due_read, set_no_row, record_read, field_told, left_told}
-use Rattle.wave_tree.proofs.RecordNodes.{part_at, as_parts, still_held, held_value, none_before, removed_next, unknown_blame, fields_kept, record_typed, record_done, held_belongs, held_below, depth_of_maybe}
+use Rattle.wave_tree.proofs.NodeReading.Children.{child_below, key_child, value_child, if_true, if_false, more_children, key_alone, whole_at}
+use Rattle.wave_tree.proofs.NodeReading.FaultOrder.{read_by_type}
+use Rattle.wave_tree.proofs.NodeReading.BuilderAnswers.{due_read, set_no_row, record_read, field_told, left_told}
+use Rattle.wave_tree.proofs.NodeReading.Records.{part_at, as_parts, still_held, held_value, none_before, removed_next, unknown_blame, fields_kept, record_typed, record_done, held_belongs, held_below, depth_of_maybe}
 use Rattle.wave_tree.proofs.ast.Node.+making.Goals.{make_of_parts-then-takes_key+in_ok-push_key, make_of_parts-else-takes_key+in_ok-made+in_ok-push_part}
 use Rattle.wave_tree.proofs.ast.Node.+making.Goals as goal
-use Rattle.wave_read.proofs.Surrounding.{due_within}
-use Rattle.wave_read.proofs.Errors.{made_in, no_memory, same_or_memory, none_of, typed_of}
+use Rattle.wave_read.proofs.PayloadReading.Surrounding.{due_within}
+use Rattle.wave_read.proofs.ReadErrors.HandedOn.{made_in, no_memory, same_or_memory, none_of, typed_of}
 
 -- ---- at the type that is due
 

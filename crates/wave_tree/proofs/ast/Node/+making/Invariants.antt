@@ -3,14 +3,13 @@ use Rattle.wave_wasm.specs.Borrowed.{shown, shown_fields}
 use Rattle.wave_grammar.specs.SpannedTree.{PlacedEntry}
 use Rattle.wave_grammar.specs.FaultOrder.{by_type}
 use Rattle.wave_grammar.specs.TypedGrammar.{names_of}
-use Rattle.wave_grammar.specs.NodeTree.{NodeTree, type_of, children_of}
+use Rattle.wave_grammar.specs.NodeTree.{NodeTree, type_of, children_of, depth}
 use Rattle.wave_grammar.specs.NodeAccessors.{shown_node}
-use Rattle.wave_grammar.specs.Shared.NodeFields.{HoldsFields}
-use Rattle.wave_grammar.specs.Shared.NodeTree.{depth}
+use Rattle.wave_grammar.specs.NodeFields.{HoldsFields}
 use Rattle.wave_grammar.proofs.Fields.Entries.{AreFieldsOf}
 use Rattle.wave_grammar.proofs.Fields.Reading.{PartsDistinct, FieldsRead}
 use Rattle.wave_read.specs.KeptParts.{AreKeptWhereDue}
-use Rattle.wave_tree.proofs.RecordNodes.{Removed, depth_of_maybe}
+use Rattle.wave_tree.proofs.NodeReading.Records.{Removed, depth_of_maybe}
 use Rattle.wave_tree.proofs.ast.Node.+making.Given as goal
 
 abbrev pub decreases-read : goal.decreases-read

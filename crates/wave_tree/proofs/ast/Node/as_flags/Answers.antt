@@ -1,7 +1,6 @@
 use Rattle.std.proofs.Common.{sym, ap, ◌∙◌, subst}
-use Rattle.wave_grammar.specs.Shared.NodeFlags.{AreAllParsed}
-use Rattle.wave_grammar.specs.NodeFlags.{AreInOrder, names_at}
-use Rattle.wave_grammar.proofs.FlagNodes.{labels_of, labels_ordered}
+use Rattle.wave_grammar.specs.NodeFlags.{AreAllParsed, AreInOrder, names_at}
+use Rattle.wave_grammar.proofs.NodeMeaning.Flags.{labels_of, labels_ordered}
 use Rattle.wave_tree.proofs.ast.Node.as_flags.Goals as goal
 
 pub new-requires : goal.new-requires

@@ -3,11 +3,11 @@ use Rattle.wave_wasm.specs.Lists.{AllOf}
 use Rattle.wave_grammar.specs.NodeTree.{NodeTree, children_of}
 use Rattle.wave_grammar.specs.NodeAccessors.{IsEntryOf, node_pairs}
 use Rattle.wave_grammar.specs.TypedReading.{IsValueOf}
-use Rattle.wave_grammar.specs.Shared.NodeFields.{fields_at}
+use Rattle.wave_grammar.specs.NodeFields.{fields_at}
 use Rattle.wave_grammar.proofs.ChildNodes.Parts.{fields_values, entries_within}
 use Rattle.wave_grammar.proofs.Fields.Lookup.{set_value}
 use Rattle.wave_grammar.specs.ErrorSpans.{StandsIn}
-use Rattle.wave_grammar.proofs.Parameters.{error_handed}
+use Rattle.wave_grammar.proofs.Elaboration.ParamsInTurn.{error_handed}
 use Rattle.wave_tree.proofs.ast.Node.as_record.Goals as goal
 
 pub new-requires : goal.new-requires

@@ -3,8 +3,8 @@ use Rattle.wave_grammar.specs.NodeAccessors.{node_pairs}
 use Rattle.wave_grammar.specs.NodeFields.{field_of, RefusesFields}
 use Rattle.wave_grammar.proofs.ByKind.Lists.{HasAt}
 use Rattle.wave_grammar.proofs.Fields.Lookup.{pair_has, key_parsed, new_name, old_name, refused_label, refused_name, fields_whole, held_whole, fields_kept, field_held, err_handed}
-use Rattle.wave_grammar.specs.Shared.ErrorSpans.{RefusesIn}
-use Rattle.wave_grammar.proofs.Parameters.{error_handed}
+use Rattle.wave_grammar.specs.ErrorSpans.{RefusesIn}
+use Rattle.wave_grammar.proofs.Elaboration.ParamsInTurn.{error_handed}
 use Rattle.wave_lex.specs.declared.error.ParserErrorKind.TheVariants as because
 use Rattle.wave_grammar.proofs.ErrorSpans.Nodes.{deeper, key_belongs, at_in, form_at, said_here, memory_here, memory_or_said}
 use Rattle.wave_tree.proofs.ast.Node.fields.Goals as goal

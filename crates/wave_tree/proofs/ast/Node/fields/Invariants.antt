@@ -1,7 +1,6 @@
 use Rattle.std.proofs.Common.{take, map}
 use Rattle.wave_grammar.specs.NodeAccessors.{node_pairs}
-use Rattle.wave_grammar.specs.NodeFields.{field_of}
-use Rattle.wave_grammar.specs.Shared.NodeFields.{HoldsFields}
+use Rattle.wave_grammar.specs.NodeFields.{field_of, HoldsFields}
 use Rattle.wave_grammar.proofs.Fields.Lookup.{FieldsSoFar}
 use Rattle.wave_tree.proofs.ast.Node.fields.Given as goal
 

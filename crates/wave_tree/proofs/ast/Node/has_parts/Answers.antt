@@ -2,7 +2,7 @@ use Rattle.std.proofs.Common.{◌≡◌, ◌⊎◌, sym, ◌∙◌, subst}
 use Rattle.wave_grammar.specs.declared.form.NodeType.{NodeType}
 use Rattle.wave_grammar.specs.declared.form.NodeType.TheVariants as kind
 use Rattle.wave_grammar.specs.NodeParts.{IsOneToken}
-use Rattle.wave_tree.proofs.Children.{token_type, token_other, payload_parts}
+use Rattle.wave_tree.proofs.NodeReading.Children.{token_type, token_other, payload_parts}
 use Rattle.wave_tree.proofs.ast.Node.has_parts.Goals as goal
 
 pub returns-in-ResultOk : goal.returns-in-ResultOk

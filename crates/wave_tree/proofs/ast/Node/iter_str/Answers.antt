@@ -1,6 +1,6 @@
 use Rattle.wave_grammar.specs.NodeAccessors.{GivesParts}
 use Rattle.wave_read.specs.Leaves.{leaf_node}
-use Rattle.wave_tree.proofs.LeafAnswers.{node_gives}
+use Rattle.wave_tree.proofs.NodeReading.LeafAnswers.{node_gives}
 use Rattle.wave_tree.proofs.ast.Node.iter_str.Goals as goal
 
 pub returns : goal.returns

@@ -1,10 +1,10 @@
 use Rattle.std.proofs.Common.{inl, map, ap, ◌∙◌}
-use Rattle.wave_wasm.proofs.Sequence.{all_at}
+use Rattle.wave_wasm.proofs.CanonicalText.Sequences.{all_at}
 use Rattle.wave_grammar.specs.LeafTokens.{name_of}
 use Rattle.wave_grammar.specs.NodeTree.{children_of}
 use Rattle.wave_grammar.specs.Nodes.{IsParsedFrom}
-use Rattle.wave_grammar.proofs.FlagNodes.{labels_of}
-use Rattle.wave_tree.proofs.FlagPlaces.{shown_entry, holds_next, all_held, flags_whole}
+use Rattle.wave_grammar.proofs.NodeMeaning.Flags.{labels_of}
+use Rattle.wave_tree.proofs.NodeReading.FlagPlaces.{shown_entry, holds_next, all_held, flags_whole}
 use Rattle.wave_tree.proofs.ast.Node.places_by_name.Goals as goal
 
 pub slice-requires : goal.slice-requires

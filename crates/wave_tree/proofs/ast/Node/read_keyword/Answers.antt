@@ -2,16 +2,16 @@ use Rattle.std.proofs.Common.{◌≡◌, inl, inr, sym, ap, ◌∙◌, subst}
 use Rattle.std.specs.Prelude.{IfErr}
 use Rattle.wave_wasm.specs.Types as type
 use Rattle.wave_wasm.specs.Types.{kind_of}
-use Rattle.wave_wasm.proofs.TypeKinds.{simple_is}
+use Rattle.wave_wasm.proofs.TypesOfValues.TypeOfKind.{simple_is}
 use Rattle.wave_grammar.specs.NodeTree.{NodeTree, place_of}
 use Rattle.wave_grammar.specs.TypedReading.{IsKeyOf, AnswersKey}
-use Rattle.wave_grammar.specs.Shared.ErrorSpans.{RefusesIn}
-use Rattle.wave_grammar.proofs.KeyNodes.{keyword_fault}
+use Rattle.wave_grammar.specs.ErrorSpans.{RefusesIn}
+use Rattle.wave_grammar.proofs.NodeMeaning.Keys.{keyword_fault}
 use Rattle.wave_grammar.proofs.ErrorSpans.Nodes.{at_in, form_at, caused_at}
 use Rattle.wave_read.specs.Leaves.{leaf_node}
-use Rattle.wave_read.proofs.SimpleTypes.{unreadable_is, has_values, caused_there}
-use Rattle.wave_tree.proofs.Children.{key_alone}
-use Rattle.wave_tree.proofs.ReadNodes.{keyword_unread, keyword_other, other_kind}
+use Rattle.wave_read.proofs.LeafReading.SimpleTypes.{unreadable_is, has_values, caused_there}
+use Rattle.wave_tree.proofs.NodeReading.Children.{key_alone}
+use Rattle.wave_tree.proofs.NodeReading.BuilderAnswers.{keyword_unread, keyword_other, other_kind}
 use Rattle.wave_tree.proofs.ast.Node.read_keyword.Goals as goal
 
 pub returns-in-Bool-clause-answer : goal.returns-in-Bool-clause-answer

@@ -1,9 +1,8 @@
 use Rattle.std.proofs.Common.{◌≡◌, ◌≤◌, ◌-◌, length, map, take, drop, inl, inr, sym, subst, arith}
-use Rattle.wave_grammar.specs.NodeParams.{RefusesParams}
-use Rattle.wave_grammar.specs.Shared.NodeParams.{RefusesOmitted}
+use Rattle.wave_grammar.specs.NodeParams.{RefusesParams, RefusesOmitted}
 use Rattle.wave_grammar.proofs.ByKind.Lists.{HasAt}
 use Rattle.wave_grammar.proofs.ByKind.Tuples.{tuple_nodes, given_items, tuple_item, place_has, map_has}
-use Rattle.wave_grammar.proofs.Parameters.{mapped_count, rest_mapped, error_handed, handed_is, too_many_refused, item_kept, item_refused, missing_refused, params_read, params_count, pushed, omitted_refused}
+use Rattle.wave_grammar.proofs.Elaboration.ParamsInTurn.{mapped_count, rest_mapped, error_handed, handed_is, too_many_refused, item_kept, item_refused, missing_refused, params_read, params_count, pushed, omitted_refused}
 use Rattle.std.proofs.Common.{ℕ, ap, ◌∙◌}
 use Rattle.std.specs.declared.ops.Range.{Range}
 use Rattle.wave_lex.specs.Errors.{Diagnostic, Refusal}
@@ -13,7 +12,7 @@ use Rattle.wave_grammar.specs.NodeAccessors.{RefusedAs}
 use Rattle.wave_lex.specs.Errors.{LiesInText}
 use Rattle.wave_grammar.specs.ErrorSpans.{IsAtPlace, IsCausedIn, IsTypeKind, HasParamsKind}
 use Rattle.wave_grammar.proofs.ErrorSpans.Nodes.{at_in, at_in_text, form_at, memory_at, memory_here, node_in_text, deeper_at, close_lies, said_params_kind, omitted_kind}
-use Rattle.wave_grammar.proofs.KeyNodes.{other_value}
+use Rattle.wave_grammar.proofs.NodeMeaning.Keys.{other_value}
 use Rattle.wave_tree.proofs.ast.Node.read_params.Goals as goal
 
 pub returns-then-i-types-clause-refused : goal.returns-then-i-types-clause-refused

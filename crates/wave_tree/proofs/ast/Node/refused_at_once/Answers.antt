@@ -3,8 +3,8 @@ use Rattle.wave_grammar.specs.FaultOrder.{by_type}
 use Rattle.wave_grammar.specs.NodeTree.{NodeTree, type_of, children_of}
 use Rattle.wave_read.specs.PlainReading.{IsReadSparing}
 use Rattle.wave_read.specs.Flat.{IsCounted}
-use Rattle.wave_tree.proofs.Children.{whole_at}
-use Rattle.wave_tree.proofs.ReadNodes.{where_some, where_none}
+use Rattle.wave_tree.proofs.NodeReading.Children.{whole_at}
+use Rattle.wave_tree.proofs.NodeReading.BuilderAnswers.{where_some, where_none}
 use Rattle.wave_tree.proofs.ast.Node.refused_at_once.Goals as goal
 
 pub returns-clause-refused : goal.returns-clause-refused

@@ -1,7 +1,7 @@
 use Rattle.std.proofs.Common.{◌%◌, eqb, refl, sym, ◌∙◌, subst}
 use Rattle.wave_grammar.specs.NodeTree.{children_of}
 use Rattle.wave_grammar.specs.declared.form.NodeType.{NodeType}
-use Rattle.wave_tree.proofs.Children.{IsNext, set_next, case_next, part_next}
+use Rattle.wave_tree.proofs.NodeReading.Children.{IsNext, set_next, case_next, part_next}
 use Rattle.wave_tree.proofs.ast.Node.takes_key.Goals as goal
 
 pub returns-in-TupleSet : goal.returns-in-TupleSet

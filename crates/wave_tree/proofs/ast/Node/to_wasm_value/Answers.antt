@@ -1,6 +1,6 @@
 use Rattle.wave_grammar.specs.FaultOrder.{by_type}
-use Rattle.wave_grammar.proofs.Faultless.{refused}
-use Rattle.wave_grammar.proofs.KeyNodes.{keyword_key, keyword_no_value, value_node, key_node, key_read, key_told_none, simple_distinct}
+use Rattle.wave_grammar.proofs.OneFault.FaultyTrees.{refused}
+use Rattle.wave_grammar.proofs.NodeMeaning.Keys.{keyword_key, keyword_no_value, value_node, key_node, key_read, key_told_none, simple_distinct}
 use Rattle.wave_grammar.proofs.ErrorSpans.Nodes.{all_stand, all_kinds, all_in_text}
 use Rattle.wave_tree.proofs.ast.Node.to_wasm_value.Goals as goal
 

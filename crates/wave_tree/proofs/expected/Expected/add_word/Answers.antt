@@ -1,4 +1,4 @@
-use Rattle.wave_tree.proofs.ExpectedWords.{word_left}
+use Rattle.wave_tree.proofs.ExpectedTokens.Words.{word_left}
 use Rattle.wave_tree.proofs.expected.Expected.add_word.Goals as goal
 
 pub returns-else-contains : goal.returns-else-contains

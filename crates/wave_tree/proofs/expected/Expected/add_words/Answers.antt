@@ -1,5 +1,5 @@
 use Rattle.wave_wasm.specs.Borrowed.{texts}
-use Rattle.wave_tree.proofs.ExpectedWords.{words_more}
+use Rattle.wave_tree.proofs.ExpectedTokens.Words.{words_more}
 use Rattle.wave_tree.proofs.expected.Expected.add_words.Goals as goal
 
 pub loop-class-preserved : goal.loop-class-preserved

@@ -1,4 +1,4 @@
-use Rattle.wave_tree.proofs.ExpectedWords.{starts_then, starts_else}
+use Rattle.wave_tree.proofs.ExpectedTokens.Words.{starts_then, starts_else}
 use Rattle.wave_tree.proofs.expected.Expected.starts_told.Goals as goal
 
 pub returns-then-contains : goal.returns-then-contains

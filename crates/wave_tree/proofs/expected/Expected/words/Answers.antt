@@ -2,7 +2,7 @@ use Rattle.std.proofs.Common.{◌≡◌, ap, subst, ◌∙◌}
 use Rattle.std.specs.Prelude.{IfOk, string_bytes}
 use Rattle.wave_wasm.specs.Borrowed.{texts}
 use Rattle.wave_tree.specs.Expected.{or_joined}
-use Rattle.wave_tree.proofs.ExpectedWords.{all_told}
+use Rattle.wave_tree.proofs.ExpectedTokens.Words.{all_told}
 use Rattle.wave_tree.proofs.expected.Expected.words.Goals as goal
 
 pub returns : goal.returns

@@ -1,7 +1,7 @@
 use Rattle.std.proofs.Common.{[], ◌∷◌, ◌++◌, false, refl, sym, ap, subst, ◌∙◌}
 use Rattle.std.specs.Option.{is_some}
 use Rattle.wave_wasm.specs.Names.{is_one_of}
-use Rattle.wave_wasm.proofs.NameSets.{holds_none, holds_more}
+use Rattle.wave_wasm.proofs.Names.NameSets.{holds_none, holds_more}
 use Rattle.wave_tree.specs.Private.Prefixes.{HasNames, IsNoted}
 use Rattle.wave_tree.proofs.expected.automaton.note_label.Goals as goal
 

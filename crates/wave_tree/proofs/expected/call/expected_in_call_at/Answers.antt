@@ -2,7 +2,7 @@ use Rattle.std.proofs.Common.{ℕ, ◌≡◌, ◌≤◌, ◌<◌, ap, subst, ref
 use Rattle.wave_lex.specs.Tokenization.{Lexed}
 use Rattle.wave_tree.specs.declared.expected.Expected.{Expected}
 use Rattle.wave_tree.specs.Expected.{MayFollowInCall, AreParams, IsExpectedFrom}
-use Rattle.wave_tree.proofs.ParamTokens.{in_call, refused_name, name_behind}
+use Rattle.wave_tree.proofs.ExpectedTokens.ParamTokens.{in_call, refused_name, name_behind}
 use Rattle.wave_tree.proofs.expected.call.expected_in_call_at.Goals as goal
 
 pub returns-in_default : goal.returns-in_default

@@ -1,8 +1,8 @@
 use Rattle.std.proofs.Common.{◌∷◌, ap, sym, ◌∙◌}
 use Rattle.wave_lex.specs.declared.lex.Token.TheVariants.{ParenClose}
 use Rattle.wave_tree.specs.Private.CallFronts.{classes_of, front_behind}
-use Rattle.wave_tree.proofs.ClassTests.{differs, differs_not}
-use Rattle.wave_tree.proofs.ParamTokens.{stand_none, stand_next, goes_on_other, goes_on_two}
+use Rattle.wave_tree.proofs.ParserCorrectness.ClassTests.{differs, differs_not}
+use Rattle.wave_tree.proofs.ExpectedTokens.ParamTokens.{stand_none, stand_next, goes_on_other, goes_on_two}
 use Rattle.wave_tree.proofs.expected.call.front_behind.Goals as goal
 
 pub returns-in_default : goal.returns-in_default

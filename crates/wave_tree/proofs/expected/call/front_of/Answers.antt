@@ -3,8 +3,8 @@ use Rattle.wave_lex.specs.declared.lex.Token.TheVariants.{ParenOpen}
 use Rattle.wave_lex.specs.Tokenization.{Lexed}
 use Rattle.wave_tree.specs.Expected.{StandBefore}
 use Rattle.wave_tree.specs.Private.CallFronts.{classes_of, front_of}
-use Rattle.wave_tree.proofs.ClassTests.{differs, differs_not}
-use Rattle.wave_tree.proofs.ParamTokens.{stand_none, stand_next, begins_other}
+use Rattle.wave_tree.proofs.ParserCorrectness.ClassTests.{differs, differs_not}
+use Rattle.wave_tree.proofs.ExpectedTokens.ParamTokens.{stand_none, stand_next, begins_other}
 use Rattle.wave_tree.proofs.expected.call.front_of.Goals as goal
 
 pub returns-in_default : goal.returns-in_default

@@ -1,6 +1,6 @@
 use Rattle.std.proofs.Common.{sym, ◌∙◌, arith}
 use Rattle.std.specs.Prelude.{string_bytes}
-use Rattle.wave_tree.proofs.ExpectedWords.{first_joined, next_joined}
+use Rattle.wave_tree.proofs.ExpectedTokens.Words.{first_joined, next_joined}
 use Rattle.wave_tree.proofs.expected.words.or_joined.Goals as goal
 
 pub loop-index-init : goal.loop-index-init

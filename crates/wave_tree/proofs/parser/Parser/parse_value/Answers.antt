@@ -1,6 +1,6 @@
 use Rattle.std.specs.Prelude.{IfOk}
 use Rattle.std.proofs.Common.{sym, subst}
-use Rattle.wave_tree.proofs.ReadTokens.{all_print}
+use Rattle.wave_tree.proofs.TextReading.ValuesFromTokens.{all_print}
 use Rattle.wave_tree.specs.ParserState.{Parsing, BeginsRow, HoldsNoBrace}
 use Rattle.wave_tree.specs.FromStr.{PrintsWithinTwice}
 use Rattle.wave_tree.proofs.parser.Parser.parse_value.Goals as goal

@@ -8,26 +8,25 @@ use Rattle.wave_grammar.specs.SyntaxErrors.{Gives, IsBehind, LeadsBehindValue}
 use Rattle.std.specs.declared.ops.Range.{Range}
 use Rattle.wave_tree.specs.Private.TokenRoles.{form_of, IsClose}
 use Rattle.wave_lex.specs.declared.error.ParserErrorKind.TheVariants as because
-use Rattle.wave_tree.proofs.ParserSteps.{gives_or_memory, no_level, refuses_there, kind_is, here, here_is, handed, gives_then, fails, any_token, shallow, value_read, level_open, read_there, unexpected_there, no_paren, then_token, token_there, behind_bare, reached, fails_behind, then_behind, payload_other, unexpected_behind, expected, untrue, moved, then_class, then_behind_class, range_path, close_first, close_empty, close_next, then_same, then_refuses, item_refuses, item_read, then_reached, Reached, IsItemDue, no_close, empty_there, key_reads, no_key, brace_key, entries_other, close_behind, comma_behind, other_behind, token_less, tokens_less, left_at, no_colon, no_brace}
+use Rattle.wave_tree.proofs.ParserCorrectness.Steps.{gives_or_memory, no_level, refuses_there, kind_is, here, here_is, handed, gives_then, fails, any_token, shallow, value_read, level_open, read_there, unexpected_there, no_paren, then_token, token_there, behind_bare, reached, fails_behind, then_behind, payload_other, unexpected_behind, expected, untrue, moved, then_class, then_behind_class, range_path, close_first, close_empty, close_next, then_same, then_refuses, item_refuses, item_read, then_reached, Reached, IsItemDue, no_close, empty_there, key_reads, no_key, brace_key, entries_other, close_behind, comma_behind, other_behind, token_less, tokens_less, left_at, no_colon, no_brace}
 use Rattle.wave_tree.specs.declared.role.ValueStart.{ValueStart}
 use Rattle.wave_tree.specs.declared.role.ValueStart.TheVariants as front
 use Rattle.wave_tree.specs.Private.ParserState.{Stream, AsksFor, IsAlone, IsValueStart}
-use Rattle.wave_tree.specs.Private.ParsedNodes.{IsParsedBehind, IsMaybe, IsPayload, IsOfItems, IsOfEntries, IsOfFlags, items_type, label_children}
-use Rattle.wave_tree.specs.ParsedNodes.{TakesClass}
+use Rattle.wave_tree.specs.Private.ParsedNodes.{IsParsedBehind, IsMaybe, IsPayload, IsOfItems, IsOfEntries, IsOfFlags, items_type, label_children, IsBuilt}
+use Rattle.wave_tree.specs.ParsedNodes.{TakesClass, IsParsed}
 use Rattle.wave_grammar.specs.NodeTree.{NodeTree, node, no_nodes}
 use Rattle.wave_grammar.specs.declared.form.NodeType.{NodeType}
 use Rattle.wave_grammar.specs.declared.form.NodeType.TheVariants as kind_of_node
 use Rattle.wave_tree.proofs.NodeCorrectness.Items.{class_as, label_tied, items_tied, braces_tied, some_tied, ok_tied, err_tied, case_tied, some_there, type_of_items, items_made, items_none, items_first, items_next, pairs_next, pairs_close, empty_tied, no_fields_tied, entries_tied, flags_tied, payload_tied}
-use Rattle.wave_grammar.proofs.Parameters.{error_handed}
+use Rattle.wave_grammar.proofs.Elaboration.ParamsInTurn.{error_handed}
 use Rattle.wave_tree.specs.Private.ParserState.{OnlyOutOfMemory}
-use Rattle.wave_tree.proofs.AloneTokens.{alone_parsed, alone_led, nothing_begins}
-use Rattle.wave_tree.proofs.Wanting.{whatever_parts, wants_any, wants_refused, wants_reached, wants_less, answer_token, answer_brace, wants_other, wants_fails, wants_taken}
-use Rattle.wave_tree.proofs.PartsDue.{key_next, value_next, payload_due, payload_parts}
-use Rattle.wave_tree.proofs.Built.{as_added, part_added, built, whole_built, as_ok, of_front, of_part, wants_part, source_item, source_parsed, source_reached}
+use Rattle.wave_tree.proofs.ParserCorrectness.AloneTokens.{alone_parsed, alone_led, nothing_begins}
+use Rattle.wave_tree.proofs.ParserCorrectness.OutOfMemory.{whatever_parts, wants_any, wants_refused, wants_reached, wants_less, answer_token, answer_brace, wants_other, wants_fails, wants_taken}
+use Rattle.wave_tree.proofs.ParserCorrectness.PartsDue.{key_next, value_next, payload_due, payload_parts}
+use Rattle.wave_tree.proofs.ParserCorrectness.BuiltNodes.{as_added, part_added, built, whole_built, as_ok, of_front, of_part, wants_part, source_item, source_parsed, source_reached}
 use Rattle.wave_grammar.specs.NodeParts.{IsOfParts, TakesPart}
-use Rattle.wave_tree.specs.ParsedNodes.{IsBuilt, IsParsed}
-use Rattle.wave_tree.proofs.ClassTests.{is_class, is_other, differs, differs_not}
-use Rattle.wave_tree.proofs.LexerCallCount.{asks_none, asks_once, asks_token, asks_looked, asks_read, asks_reached}
+use Rattle.wave_tree.proofs.ParserCorrectness.ClassTests.{is_class, is_other, differs, differs_not}
+use Rattle.wave_tree.proofs.ParserCorrectness.LexerCalls.{asks_none, asks_once, asks_token, asks_looked, asks_read, asks_reached}
 use Rattle.wave_tree.proofs.tokens.Tokens.+parser.Goals as goal
 use Rattle.wave_tree.proofs.tokens.Tokens.+parser.Goals.{parse_items-then-eq-2, parse_items-else-eq-2}
 

@@ -8,7 +8,7 @@ use Rattle.wave_grammar.specs.NodeParts.{TakesPart}
 use Rattle.wave_grammar.specs.declared.form.NodeType.TheVariants as kind
 use Rattle.wave_tree.specs.ParsedNodes.{IsParsed}
 use Rattle.wave_tree.specs.Private.ParsedNodes.{AreFurther, AreClosedItems, ArePairs}
-use Rattle.wave_tree.proofs.ParserSteps.{Reached, IsItemDue, left_at}
+use Rattle.wave_tree.proofs.ParserCorrectness.Steps.{Reached, IsItemDue, left_at}
 use Rattle.wave_tree.specs.Private.ParserState.{AsksFor}
 use Rattle.wave_tree.proofs.tokens.Tokens.+parser.Given as goal
 

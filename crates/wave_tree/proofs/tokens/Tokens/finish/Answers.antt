@@ -1,7 +1,7 @@
 use Rattle.std.proofs.Common.{◌≡◌, ap, sym, ◌∙◌}
 use Rattle.wave_grammar.specs.ParserPosition.{Place}
 use Rattle.wave_tree.specs.Private.ParserState.{Stream, lexer_of}
-use Rattle.wave_tree.proofs.Lookahead.{one_ahead, finish_at, finish_within}
+use Rattle.wave_tree.proofs.ParserCorrectness.Lookahead.{one_ahead, finish_at, finish_within}
 use Rattle.wave_tree.proofs.tokens.Tokens.finish.Goals as goal
 use Rattle.wave_tree.proofs.tokens.Tokens.finish.Goals.{in-Some, in-None}
 

@@ -1,6 +1,6 @@
 use Rattle.std.proofs.Common.{[]}
 use Rattle.wave_grammar.specs.declared.form.NodeType.TheVariants as node_type
-use Rattle.wave_grammar.proofs.Parameters.{error_handed}
+use Rattle.wave_grammar.proofs.Elaboration.ParamsInTurn.{error_handed}
 use Rattle.wave_tree.proofs.tokens.Tokens.first_key.Goals as goal
 
 pub returns-in_err-push_key-clause-takes : goal.returns-in_err-push_key-clause-takes

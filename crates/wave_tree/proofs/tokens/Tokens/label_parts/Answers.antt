@@ -1,5 +1,5 @@
 use Rattle.std.proofs.Common.{[]}
-use Rattle.wave_grammar.proofs.Parameters.{error_handed}
+use Rattle.wave_grammar.proofs.Elaboration.ParamsInTurn.{error_handed}
 use Rattle.wave_grammar.specs.NodeParts.{IsOfParts}
 use Rattle.wave_tree.proofs.tokens.Tokens.label_parts.Goals as goal
 

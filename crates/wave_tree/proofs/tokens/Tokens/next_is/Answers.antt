@@ -1,7 +1,7 @@
 use Rattle.std.proofs.Common.{◌≡◌, ap, sym, ◌∙◌}
 use Rattle.wave_grammar.specs.ParserPosition.{Place}
 use Rattle.wave_tree.specs.Private.ParserState.{Stream, lexer_of}
-use Rattle.wave_tree.proofs.Lookahead.{one_ahead, at_hand}
+use Rattle.wave_tree.proofs.ParserCorrectness.Lookahead.{one_ahead, at_hand}
 use Rattle.wave_tree.proofs.tokens.Tokens.next_is.Goals as goal
 use Rattle.wave_tree.proofs.tokens.Tokens.next_is.Goals.{in-Some, in-None}
 

@@ -6,23 +6,23 @@ use Rattle.wave_grammar.specs.ParserPosition.{Place, TakesItem, span_at, text_at
 use Rattle.wave_grammar.specs.LeafTokens.{name_of}
 use Rattle.wave_grammar.specs.PrefixAutomaton.{Expectation, StackSymbol, due_behind, reads, behind_step, step, key_step, brace_step, behind_flag_step, flag_step}
 use Rattle.wave_grammar.specs.PrefixAutomaton as due
-use Rattle.wave_tree.proofs.ParserSteps.{here, refuses_there, handed, fails, any_token, read_there, unexpected_there, then_class, then_same, Reached, repeated_there, gives_read, flags_other, no_flag, IsFlagDue, flag_same, flag_not_deep, flag_within, token_less}
+use Rattle.wave_tree.proofs.ParserCorrectness.Steps.{here, refuses_there, handed, fails, any_token, read_there, unexpected_there, then_class, then_same, Reached, repeated_there, gives_read, flags_other, no_flag, IsFlagDue, flag_same, flag_not_deep, flag_within, token_less}
 use Rattle.std.specs.Prelude.{if◌then◌else◌}
 use Rattle.std.specs.Option.{is_some}
 use Rattle.wave_wasm.specs.Names.{is_one_of}
 use Rattle.wave_lex.specs.Errors.{Says}
 use Rattle.wave_lex.specs.Errors.{repeated_name}
-use Rattle.wave_wasm.proofs.NameSets.{Holds, holds_none, holds_more, on_ok}
+use Rattle.wave_wasm.proofs.Names.NameSets.{Holds, holds_none, holds_more, on_ok}
 use Rattle.std.specs.Prelude.{map}
 use Rattle.std.specs.BTreeMap.{insert_entry}
 use Rattle.std.specs.Cmp.Lexicographic.{slice_cmp}
 use Rattle.std.specs.Ordering.{nat_cmp}
-use Rattle.wave_grammar.specs.Shared.FlagOrder.{flag_name}
+use Rattle.wave_grammar.specs.FlagOrder.{flag_name}
 use Rattle.wave_tree.proofs.NodeCorrectness.Items.{class_as}
-use Rattle.wave_tree.proofs.FlagsSorted.{entry_of}
-use Rattle.wave_tree.proofs.FlagLoop.{flag_at, grown, ended, asks_flags}
-use Rattle.wave_tree.proofs.ClassTests.{is_class, is_other, differs, differs_not}
-use Rattle.wave_tree.proofs.LexerCallCount.{asks_none, asks_once, asks_token}
+use Rattle.wave_tree.proofs.ParserCorrectness.FlagsSorted.{entry_of}
+use Rattle.wave_tree.proofs.ParserCorrectness.FlagLoop.{flag_at, grown, ended, asks_flags}
+use Rattle.wave_tree.proofs.ParserCorrectness.ClassTests.{is_class, is_other, differs, differs_not}
+use Rattle.wave_tree.proofs.ParserCorrectness.LexerCalls.{asks_none, asks_once, asks_token}
 use Rattle.wave_tree.proofs.tokens.Tokens.parse_flags.Goals as goal
 
 -- after a comma a further flag is due

@@ -1,5 +1,5 @@
-use Rattle.wave_tree.proofs.ParserSteps.{left_at}
-use Rattle.wave_tree.proofs.FlagLoop.{FlagsSoFar}
+use Rattle.wave_tree.proofs.ParserCorrectness.Steps.{left_at}
+use Rattle.wave_tree.proofs.ParserCorrectness.FlagLoop.{FlagsSoFar}
 use Rattle.wave_tree.specs.Private.ParserState.{AsksFor}
 use Rattle.wave_tree.proofs.tokens.Tokens.parse_flags.Given as goal
 

@@ -1,14 +1,14 @@
 use Rattle.std.proofs.Common.{inl, arith}
 use Rattle.wave_grammar.specs.PrefixAutomaton as due
 use Rattle.wave_lex.specs.declared.error.ParserErrorKind.TheVariants as because
-use Rattle.wave_grammar.proofs.Parameters.{error_handed}
+use Rattle.wave_grammar.proofs.Elaboration.ParamsInTurn.{error_handed}
 use Rattle.wave_tree.specs.ParsedNodes.{IsParsed}
 use Rattle.wave_tree.specs.Private.ParsedNodes.{IsParsedBehind}
 use Rattle.wave_tree.specs.Private.ParserState.{OnlyOutOfMemory}
-use Rattle.wave_tree.proofs.Built.{built, source_item}
-use Rattle.wave_tree.proofs.LexerCallCount.{asks_token}
-use Rattle.wave_tree.proofs.ParserSteps.{refuses_there, kind_is, here, handed, fails, any_token, shallow, no_level}
-use Rattle.wave_tree.proofs.Wanting.{wants_refused, wants_other, wants_fails}
+use Rattle.wave_tree.proofs.ParserCorrectness.BuiltNodes.{built, source_item}
+use Rattle.wave_tree.proofs.ParserCorrectness.LexerCalls.{asks_token}
+use Rattle.wave_tree.proofs.ParserCorrectness.Steps.{refuses_there, kind_is, here, handed, fails, any_token, shallow, no_level}
+use Rattle.wave_tree.proofs.ParserCorrectness.OutOfMemory.{wants_refused, wants_other, wants_fails}
 use Rattle.wave_tree.proofs.tokens.Tokens.parse_node.Goals as goal
 
 pub returns-in_err-token-clause-led : goal.returns-in_err-token-clause-led

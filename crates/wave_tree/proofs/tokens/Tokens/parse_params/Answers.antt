@@ -7,11 +7,11 @@ use Rattle.wave_tree.specs.Private.ParsedNodes.{IsOfItems}
 use Rattle.wave_tree.specs.ParsedNodes.{TakesClass}
 use Rattle.wave_tree.specs.ParserState.{Fails}
 use Rattle.wave_tree.specs.UntypedCall.{RefusesTuple}
-use Rattle.wave_tree.proofs.Built.{as_node}
-use Rattle.wave_tree.proofs.ParserSteps.{expected}
+use Rattle.wave_tree.proofs.ParserCorrectness.BuiltNodes.{as_node}
+use Rattle.wave_tree.proofs.ParserCorrectness.Steps.{expected}
 use Rattle.wave_lex.specs.Errors.{Diagnostic, LiesInText}
 use Rattle.wave_tree.proofs.ErrorSpans.Syntax.{back_lies, back_same, tuple_lies}
-use Rattle.wave_tree.proofs.CallReading.{tuple_taken}
+use Rattle.wave_tree.proofs.TextReading.Calls.{tuple_taken}
 use Rattle.wave_tree.proofs.tokens.Tokens.parse_params.Goals as goal
 
 pub returns-in-Err-clause-refused : goal.returns-in-Err-clause-refused

@@ -9,7 +9,7 @@ use Rattle.wave_read.specs.PlainReading.{TakesMemory}
 use Rattle.wave_tree.specs.Private.ParserState.{Stream}
 use Rattle.wave_tree.specs.FromStr.{IsTypeRefused, IsCausedBetween}
 use Rattle.wave_tree.proofs.ErrorSpans.Syntax.{back_lies, back_same, refused_lies, refused_kind}
-use Rattle.wave_tree.proofs.ReadTokens.{IsAnswered, typed_answered, answered_value, answered_refused, answered_within, answered_caused}
+use Rattle.wave_tree.proofs.TextReading.ValuesFromTokens.{IsAnswered, typed_answered, answered_value, answered_refused, answered_within, answered_caused}
 use Rattle.wave_tree.proofs.tokens.Tokens.parse_typed.Goals as goal
 
 pub returns-in-Ok-Ok-clause-value : goal.returns-in-Ok-Ok-clause-value

@@ -2,9 +2,9 @@ use Rattle.std.proofs.Common.{[], arith, sym, subst}
 use Rattle.wave_lex.specs.Errors.{Diagnostic}
 use Rattle.wave_grammar.specs.PrefixAutomaton.{value}
 use Rattle.wave_grammar.specs.SyntaxErrors.{FailsBySyntax}
-use Rattle.wave_tree.proofs.TextReading.{node_parsed}
+use Rattle.wave_tree.proofs.TextReading.Meaning.{node_parsed}
 use Rattle.wave_tree.specs.ParsedNodes.{IsParsed}
-use Rattle.wave_tree.proofs.Built.{as_node}
+use Rattle.wave_tree.proofs.ParserCorrectness.BuiltNodes.{as_node}
 use Rattle.wave_tree.proofs.ErrorSpans.Syntax.{back_lies, refused_lies}
 use Rattle.wave_tree.proofs.tokens.Tokens.parse_whole.Goals as goal
 

@@ -1,7 +1,7 @@
 use Rattle.std.proofs.Common.{◌≡◌, ap, sym, subst, ◌∙◌, arith}
 use Rattle.wave_lex.specs.Tokenization.{Lexed, NextIs, item_of}
 use Rattle.wave_tree.specs.Private.ParserState.{Stream, ahead_count, lexer_of}
-use Rattle.wave_tree.proofs.Lookahead.{next_there}
+use Rattle.wave_tree.proofs.ParserCorrectness.Lookahead.{next_there}
 use Rattle.wave_tree.proofs.tokens.Tokens.take.Goals as goal
 
 pub returns-in-Some-clause-takes : goal.returns-in-Some-clause-takes

@@ -5,9 +5,9 @@ use Rattle.wave_tree.specs.ParserState.{Parsing}
 use Rattle.wave_grammar.specs.SpannedTree.{tree_of}
 use Rattle.wave_tree.specs.ParsedNodes.{IsTaken}
 use Rattle.wave_tree.specs.Untyped.{IsUntypedTaken}
-use Rattle.wave_tree.proofs.UntypedReading.{untyped_of, refused_spells_none, trailing_spells_none, tree_refusal_handed}
+use Rattle.wave_tree.proofs.TextReading.UntypedValues.{untyped_of, refused_spells_none, trailing_spells_none, tree_refusal_handed}
 use Rattle.wave_lex.specs.Errors.{Diagnostic, LiesInText}
-use Rattle.wave_grammar.proofs.Parameters.{error_handed}
+use Rattle.wave_grammar.proofs.Elaboration.ParamsInTurn.{error_handed}
 use Rattle.wave_tree.proofs.ErrorSpans.Trailing.{trailing_lies}
 use Rattle.wave_tree.proofs.untyped.UntypedValue.parse.Goals as goal
 

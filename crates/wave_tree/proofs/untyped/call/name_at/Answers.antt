@@ -1,7 +1,7 @@
 use Rattle.std.proofs.Common.{ap, ◌∙◌, subst, Some}
 use Rattle.wave_lex.specs.Tokenization.{Lexed}
 use Rattle.wave_lex.specs.FunctionName.{NameIs}
-use Rattle.wave_tree.proofs.CallReading.{named_at, unnamed_at}
+use Rattle.wave_tree.proofs.TextReading.Calls.{named_at, unnamed_at}
 use Rattle.wave_tree.proofs.untyped.call.name_at.Goals as goal
 
 pub returns-in-Some-Ok-clause-named : goal.returns-in-Some-Ok-clause-named

@@ -4,8 +4,8 @@ use Rattle.wave_lex.specs.Tokenization.{Lexed, span}
 use Rattle.wave_grammar.specs.ParserPosition.{Place, span_at}
 use Rattle.wave_tree.specs.Private.ParserState.{Stream, stream_of}
 use Rattle.wave_tree.specs.UntypedCall.{AreParamsTaken, RefusesTuple, IsCalledOf, RefusesCall, MemoryAtName, behind_name}
-use Rattle.wave_grammar.proofs.Parameters.{error_handed}
-use Rattle.wave_tree.proofs.CallReading.{name_refused, params_refused, rest_refused, called_of}
+use Rattle.wave_grammar.proofs.Elaboration.ParamsInTurn.{error_handed}
+use Rattle.wave_tree.proofs.TextReading.Calls.{name_refused, params_refused, rest_refused, called_of}
 use Rattle.wave_lex.specs.Errors.{Diagnostic, LiesInText, Says}
 use Rattle.wave_tree.proofs.ErrorSpans.Syntax.{name_lies, behind_params_lies}
 use Rattle.wave_tree.proofs.untyped.call.parse_raw_func_call.Goals as goal

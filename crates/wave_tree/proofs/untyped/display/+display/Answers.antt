@@ -3,8 +3,7 @@ use Rattle.std.specs.Prelude.{All}
 use Rattle.std.specs.Fmt.{HasWritten}
 use Rattle.std.proofs.lemmas.Grind.{put_three, put_four}
 use Rattle.std.proofs.Output.{has_written_of_eq}
-use Rattle.wave_wasm.specs.Shared.Commas.{enclosed}
-use Rattle.wave_wasm.specs.Commas.{joined, behind_name, in_parens, in_braces}
+use Rattle.wave_wasm.specs.Commas.{enclosed, joined, behind_name, in_parens, in_braces}
 use Rattle.wave_wasm.specs.Keywords.{case_label}
 use Rattle.wave_grammar.specs.LeafTokens.{name_of}
 use Rattle.wave_grammar.specs.NodeAccessors.{node_text}
@@ -15,7 +14,7 @@ use Rattle.wave_tree.specs.NodeDisplay.{shown_at}
 use Rattle.wave_tree.specs.Private.NodeDisplay.{name_at, entries_at, braces_at, payload_at, AreEntriesOf}
 use Rattle.wave_grammar.specs.declared.form.NodeType.TheVariants as kind
 use Rattle.wave_grammar.proofs.ChildNodes.Trees.{node_below}
-use Rattle.wave_wasm.proofs.JoinedTexts.{separator_more, joined_turn, all_joined, left, left_turn}
+use Rattle.wave_wasm.proofs.Displays.JoinedTexts.{separator_more, joined_turn, all_joined, left, left_turn}
 use Rattle.wave_tree.proofs.Displays.Nodes.{plain_shown, word_shown, tuple_shown, list_shown, fields_shown, some_shown, ok_shown, err_shown, flags_shown, case_shown, children_deep, entries_two, entry_at}
 use Rattle.wave_tree.proofs.untyped.display.+display.Goals as goal
 

@@ -3,11 +3,10 @@ use denote.Text.{Utf8}
 use denote.Shadow.{shadow}
 use Rattle.std.specs.Fmt.{HasWritten, IsPlainFormatter}
 use Rattle.wave_wasm.specs.Commas.{joined}
-use Rattle.wave_grammar.specs.Shared.NodeTree.{depth, nodes_depth}
-use Rattle.wave_grammar.specs.NodeTree.{node_trees}
+use Rattle.wave_grammar.specs.NodeTree.{depth, nodes_depth, node_trees}
 use Rattle.wave_tree.specs.NodeDisplay.{shown_at}
 use Rattle.wave_tree.specs.Private.NodeDisplay.{entries_at, AreEntriesOf}
-use Rattle.wave_wasm.proofs.JoinedTexts.{separator, left}
+use Rattle.wave_wasm.proofs.Displays.JoinedTexts.{separator, left}
 use Rattle.wave_tree.proofs.untyped.display.+display.Given as goal
 
 abbrev pub decreases-write_node : goal.decreases-write_node

@@ -5,7 +5,7 @@ use Rattle.std.proofs.Output.{has_written_of_eq}
 use Rattle.wave_grammar.specs.LeafTokens.{name_of}
 use Rattle.wave_grammar.specs.Nodes.{IsParsedFrom}
 use Rattle.wave_tree.specs.Private.NodeDisplay.{name_at}
-use Rattle.wave_wasm.proofs.JoinedTexts.{separator_more, joined_turn, all_joined}
+use Rattle.wave_wasm.proofs.Displays.JoinedTexts.{separator_more, joined_turn, all_joined}
 use Rattle.wave_tree.proofs.untyped.display.write_names.Goals as goal
 
 pub slice-requires : goal.slice-requires

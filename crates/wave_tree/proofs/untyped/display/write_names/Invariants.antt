@@ -2,7 +2,7 @@ use Rattle.std.proofs.Common.{◌≡◌, map, take}
 use Rattle.std.specs.Fmt.{HasWritten, IsPlainFormatter}
 use Rattle.wave_wasm.specs.Commas.{joined}
 use Rattle.wave_tree.specs.Private.NodeDisplay.{name_at}
-use Rattle.wave_wasm.proofs.JoinedTexts.{separator}
+use Rattle.wave_wasm.proofs.Displays.JoinedTexts.{separator}
 use Rattle.wave_tree.proofs.untyped.display.write_names.Given as goal
 
 abbrev pub invariant-loop-node : goal.invariant-loop-node

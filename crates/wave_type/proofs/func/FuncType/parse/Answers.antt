@@ -2,7 +2,7 @@ use Rattle.std.proofs.Common.{◌∙◌, ap}
 use Rattle.wave_type.specs.Private.TypeTokens.{texts_of}
 use Rattle.wave_type.specs.FunctionSpelling.{SpellsFunction}
 use Rattle.wave_type.specs.TypeFaults.{due_of_function}
-use Rattle.wave_type.proofs.WholeFaults.{text_spells, text_fault, no_function_of}
+use Rattle.wave_type.proofs.TypeFaults.WholeTexts.{text_spells, text_fault, no_function_of}
 use Rattle.wave_type.proofs.func.FuncType.parse.Goals as goal
 
 pub returns-in-Ok-whole_function-clause-spelled : goal.returns-in-Ok-whole_function-clause-spelled

@@ -2,9 +2,9 @@ use Rattle.std.proofs.Common.{rules}
 use Rattle.std.specs.Fmt.{HasWritten}
 use Rattle.std.proofs.lemmas.Grind.{put_three}
 use Rattle.std.proofs.Output.{has_written_of_eq}
-use Rattle.wave_wasm.proofs.JoinedTexts.{separator_more, joined_turn}
-use Rattle.wave_type.proofs.Texts.{field_line}
-use Rattle.wave_type.proofs.Parts.{all_parts}
+use Rattle.wave_wasm.proofs.Displays.JoinedTexts.{separator_more, joined_turn}
+use Rattle.wave_type.proofs.TypeTexts.JoinedTexts.{field_line}
+use Rattle.wave_type.proofs.TypeTexts.FunctionParts.{all_parts}
 use Rattle.wave_type.proofs.func.display.write_parts.Goals as goal
 
 pub loop-part-preserved : goal.loop-part-preserved

@@ -1,8 +1,8 @@
 use Rattle.std.proofs.Common.{◌≡◌, map, take}
 use Rattle.std.specs.Fmt.{HasWritten, IsPlainFormatter}
 use Rattle.wave_wasm.specs.Commas.{joined}
-use Rattle.wave_wasm.proofs.JoinedTexts.{separator}
-use Rattle.wave_type.proofs.Texts.{field_line}
+use Rattle.wave_wasm.proofs.Displays.JoinedTexts.{separator}
+use Rattle.wave_type.proofs.TypeTexts.JoinedTexts.{field_line}
 use Rattle.wave_type.proofs.func.display.write_parts.Given as goal
 
 abbrev pub invariant-loop-part : goal.invariant-loop-part

@@ -2,9 +2,9 @@ use Rattle.std.proofs.Common.{◌≡◌, Err, List, [], ◌∷◌, ◌++◌, ◌
 use Rattle.wave_wasm.specs.Borrowed.{named}
 use Rattle.wave_type.specs.Private.TypeTokens.{Fails}
 use Rattle.wave_type.specs.TypeFaults.{Expectation, mark_due, last_due, results_due, more_fields, due_of_function}
-use Rattle.wave_type.proofs.FaultSteps.{fails_onward, mark_runs}
-use Rattle.wave_type.proofs.ReaderSteps.{answers_err}
-use Rattle.wave_type.proofs.SpelledRuns.{params_read_runs}
+use Rattle.wave_type.proofs.TypeFaults.TokenSteps.{fails_onward, mark_runs}
+use Rattle.wave_type.proofs.TypeReading.ReaderSteps.{answers_err}
+use Rattle.wave_type.proofs.TypeFaults.SpelledIsTaken.{params_read_runs}
 use Rattle.wave_type.proofs.func.parse.function.Goals as goal
 
 pub returns-in_err-results : goal.returns-in_err-results

@@ -3,8 +3,8 @@ use Rattle.wave_wasm.specs.Borrowed.{named}
 use Rattle.wave_type.specs.Private.FunctionReading.{params_read}
 use Rattle.wave_type.specs.Private.TypeReading.{after, fields_read, type_read}
 use Rattle.wave_type.specs.TypeFaults.{last_due, part_due, more_fields, refused}
-use Rattle.wave_type.proofs.FaultSteps.{last_goes_on}
-use Rattle.wave_type.proofs.ReaderSteps.{answers_onward}
+use Rattle.wave_type.proofs.TypeFaults.TokenSteps.{last_goes_on}
+use Rattle.wave_type.proofs.TypeReading.ReaderSteps.{answers_onward}
 use Rattle.wave_type.proofs.func.parse.params.Goals as goal
 
 pub returns : goal.returns

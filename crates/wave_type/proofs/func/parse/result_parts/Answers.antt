@@ -2,8 +2,8 @@ use Rattle.std.proofs.Common.{◌≡◌, Err, None, ◌∷◌, ◌∙◌, rules,
 use Rattle.wave_type.specs.Private.TypeReading.{after}
 use Rattle.wave_type.specs.Private.TypeTokens.{Fails}
 use Rattle.wave_type.specs.TypeFaults.{type_due, result_due, refused}
-use Rattle.wave_type.proofs.FaultSteps.{fails_onward, result_is_type}
-use Rattle.wave_type.proofs.ReaderSteps.{answers_err}
+use Rattle.wave_type.proofs.TypeFaults.TokenSteps.{fails_onward, result_is_type}
+use Rattle.wave_type.proofs.TypeReading.ReaderSteps.{answers_err}
 use Rattle.wave_type.proofs.func.parse.result_parts.Goals as goal
 
 pub returns-in_err-ty : goal.returns-in_err-ty

@@ -1,13 +1,13 @@
 use Rattle.std.proofs.Common.{◌≤◌, ◌≡◌, List, ◌++◌, Err, rules, arith}
-use Rattle.wave_type.specs.FunctionType.{named_function}
+use Rattle.wave_type.specs.Private.FunctionType.{named_function}
 use Rattle.wave_type.specs.FunctionSpelling.{SpellsFunction, levels_of_function}
 use Rattle.wave_type.specs.Private.TypeTokens.{IsRefusal}
 use Rattle.wave_type.specs.TypeFaults.{Expectation, due_of_function}
-use Rattle.wave_type.proofs.FunctionsRead.{function_sound, ok_more}
+use Rattle.wave_type.proofs.TypeReading.Functions.{function_sound, ok_more}
 use Rattle.wave_type.specs.GoodNames.{IsGoodFunction}
-use Rattle.wave_type.proofs.SpelledNames.{function_good}
-use Rattle.wave_type.proofs.TypeLevels.{function_low}
-use Rattle.wave_type.proofs.WholeFaults.{err_if, fails_alone, function_is_left}
+use Rattle.wave_type.proofs.TypeReading.SpelledNames.{function_good}
+use Rattle.wave_type.proofs.TypeReading.Levels.{function_low}
+use Rattle.wave_type.proofs.TypeFaults.WholeTexts.{err_if, fails_alone, function_is_left}
 use Rattle.wave_type.proofs.func.parse.whole_function.Goals as goal
 
 pub returns-then-count-gt0-clause-refused : goal.returns-then-count-gt0-clause-refused

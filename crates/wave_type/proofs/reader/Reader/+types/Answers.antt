@@ -4,11 +4,11 @@ use Rattle.wave_type.specs.Private.TypeTokens.{GoesOn}
 use Rattle.wave_type.specs.Private.TypeReading.{after, part_names, list_read, fixed_behind, payloads_read, err_behind, kind_read, type_read}
 use Rattle.wave_type.specs.TypeFaults.{no_more, a_length, err_type, Expectation, mark_due, type_due, ok_due, part_due, close_due, due_behind, refused}
 use Rattle.wave_type.specs.TypeSpelling.{Tokens}
-use Rattle.wave_type.proofs.FaultSteps.{fails_onward, fails_before, mark_runs, kind_runs, key_runs, err_is_type, ok_is_type, field_fails, case_fails, comma_runs, payload_runs}
-use Rattle.wave_type.proofs.PartSteps.{named_more, has_part_names, level_less}
-use Rattle.wave_type.proofs.PartLoops.{part_fails, end_fails, all_read, more_left, type_fails, type_next, colon_fails, field_type_fails, field_next, payload_fails, case_next}
-use Rattle.wave_type.proofs.ReaderSteps.{goes_so, answers_err, answers_onward, mark_refused, list_goes_on, ok_goes_on, types_are_some, fields_are_some, cases_are_some}
-use Rattle.wave_type.proofs.SpelledRuns.{read_runs}
+use Rattle.wave_type.proofs.TypeFaults.TokenSteps.{fails_onward, fails_before, mark_runs, kind_runs, key_runs, err_is_type, ok_is_type, field_fails, case_fails, comma_runs, payload_runs}
+use Rattle.wave_type.proofs.TypeReading.PartSteps.{named_more, has_part_names, level_less}
+use Rattle.wave_type.proofs.TypeReading.PartLoops.{part_fails, end_fails, all_read, more_left, type_fails, type_next, colon_fails, field_type_fails, field_next, payload_fails, case_next}
+use Rattle.wave_type.proofs.TypeReading.ReaderSteps.{goes_so, answers_err, answers_onward, mark_refused, list_goes_on, ok_goes_on, types_are_some, fields_are_some, cases_are_some}
+use Rattle.wave_type.proofs.TypeFaults.SpelledIsTaken.{read_runs}
 use Rattle.wave_type.proofs.reader.Reader.+types.Goals as goal
 
 pub ty-returns : goal.ty-returns

@@ -2,7 +2,7 @@ use Rattle.std.proofs.Common.{◌+◌, ◌*◌, codes}
 use Rattle.wave_wasm.specs.Borrowed.{named}
 use Rattle.wave_type.specs.Private.TypeReading.{HasNames, part_names, field_part, case_part, type_read}
 use Rattle.wave_type.specs.TypeFaults.{more_types, more_fields, more_cases}
-use Rattle.wave_type.proofs.PartLoops.{PartsLeft}
+use Rattle.wave_type.proofs.TypeReading.PartLoops.{PartsLeft}
 use Rattle.wave_type.proofs.reader.Reader.+types.Given as goal
 
 abbrev pub decreases-ty : goal.decreases-ty

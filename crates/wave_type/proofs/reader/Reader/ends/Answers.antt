@@ -5,7 +5,7 @@ use Rattle.wave_type.specs.Private.TypeReading.{after, closed}
 use Rattle.wave_type.specs.Private.TypeTokens.{GoesOn, IsRefused, misplaced}
 use Rattle.wave_type.specs.TypeFaults.{Part, close_due}
 use Rattle.wave_type.specs.TypeSpelling.{Tokens}
-use Rattle.wave_type.proofs.FaultSteps.{ends_behind, ends_here, goes_on, close_fails}
+use Rattle.wave_type.proofs.TypeFaults.TokenSteps.{ends_behind, ends_here, goes_on, close_fails}
 use Rattle.wave_type.proofs.reader.Reader.ends.Goals as goal
 
 pub returns-then-takes-clause-taken : goal.returns-then-takes-clause-taken

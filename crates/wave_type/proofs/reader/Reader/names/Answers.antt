@@ -1,9 +1,9 @@
 use Rattle.std.proofs.Common.{rules}
 use Rattle.wave_wasm.specs.Borrowed.{texts}
-use Rattle.wave_type.proofs.FaultSteps.{names_fail}
-use Rattle.wave_type.proofs.PartLoops.{part_fails, end_fails, all_read, more_left, name_next}
-use Rattle.wave_type.proofs.PartSteps.{texts_more, has_texts}
-use Rattle.wave_type.proofs.ReaderSteps.{answers_err}
+use Rattle.wave_type.proofs.TypeFaults.TokenSteps.{names_fail}
+use Rattle.wave_type.proofs.TypeReading.PartLoops.{part_fails, end_fails, all_read, more_left, name_next}
+use Rattle.wave_type.proofs.TypeReading.PartSteps.{texts_more, has_texts}
+use Rattle.wave_type.proofs.TypeReading.ReaderSteps.{answers_err}
 use Rattle.wave_type.proofs.reader.Reader.names.Goals as goal
 
 pub returns-in_err-name : goal.returns-in_err-name

@@ -1,6 +1,6 @@
 use Rattle.std.proofs.Common.{Some, sym, ap, ◌∙◌}
-use Rattle.wave_type.proofs.PartSteps.{has_one, has_more, name_new}
-use Rattle.wave_type.proofs.ReaderSteps.{repeated}
+use Rattle.wave_type.proofs.TypeReading.PartSteps.{has_one, has_more, name_new}
+use Rattle.wave_type.proofs.TypeReading.ReaderSteps.{repeated}
 use Rattle.wave_type.proofs.reader.Reader.new_name.Goals as goal
 
 pub returns-then-not-branch-clause-refused : goal.returns-then-not-branch-clause-refused

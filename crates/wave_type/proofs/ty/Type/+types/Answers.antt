@@ -2,8 +2,7 @@
 use Rattle.std.proofs.Common.{arith, rules, ap, ℕ, ◌≤◌, ◌<◌, ◌*◌, suc, max, List, [], ◌∷◌, map}
 use Rattle.std.specs.Prelude.{Option, Some, None, String}
 use Rattle.std.specs.declared.alloc.Global.{Global}
-use Rattle.wave_wasm.specs.Types.{TypeTree, types_of, fields_of, cases_of}
-use Rattle.wave_wasm.specs.Shared.Types.{depth, depth_of_types, depth_of_fields, depth_of_cases}
+use Rattle.wave_wasm.specs.Types.{TypeTree, types_of, fields_of, cases_of, depth, depth_of_types, depth_of_fields, depth_of_cases}
 use Rattle.wave_type.specs.TypeModel.{by_bytes}
 use Rattle.wave_type.specs.Private.TypeModel.{shape_tree}
 use Rattle.wave_type.specs.declared.ty.Type.TheDeep.{size-Type}

@@ -1,4 +1,4 @@
-use Rattle.wave_type.proofs.LabelTest.{pass_is_good}
+use Rattle.wave_type.proofs.DistinctNames.LabelTest.{pass_is_good}
 use Rattle.wave_type.proofs.ty.Type.names_are_labels.Goals as goal
 
 pub returns-clause-labels : goal.returns-clause-labels

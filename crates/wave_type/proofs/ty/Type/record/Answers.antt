@@ -1,7 +1,7 @@
 use Rattle.std.proofs.Common.{◌∙◌, sym}
 use Rattle.std.proofs.lemmas.Iterator.Adapters.{YieldsList-from_vec}
 use Rattle.std.proofs.lemmas.Iterator.Consumers.{YieldsList-end}
-use Rattle.wave_type.proofs.TypeOwn.{record_own, not_empty}
+use Rattle.wave_type.proofs.TypeTrees.RepresentableParts.{record_own, not_empty}
 use Rattle.wave_type.proofs.ty.Type.record.Goals as goal
 
 pub invariant_of-result : goal.invariant_of-result

@@ -1,4 +1,4 @@
-use Rattle.wave_type.proofs.TypeOwn.{tuple_own, not_empty}
+use Rattle.wave_type.proofs.TypeTrees.RepresentableParts.{tuple_own, not_empty}
 use Rattle.wave_type.proofs.ty.Type.tuple.Goals as goal
 
 pub invariant_of-result : goal.invariant_of-result

@@ -2,7 +2,7 @@ use Rattle.std.proofs.Common.{◌≡◌, map}
 use Rattle.wave_wasm.specs.Lists.{AllOf}
 use Rattle.wave_wasm.specs.Borrowed.{named}
 use Rattle.wave_type.specs.TypeModel.{by_bytes}
-use Rattle.wave_type.proofs.TypeOwn.{IsOwnPayload}
+use Rattle.wave_type.proofs.TypeTrees.RepresentableParts.{IsOwnPayload}
 use Rattle.wave_type.proofs.ty.Type.variant.Given as goal
 
 abbrev pub invariant-loop-name : goal.invariant-loop-name

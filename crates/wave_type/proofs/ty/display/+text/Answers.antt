@@ -7,9 +7,9 @@ use Rattle.wave_wasm.specs.Types.{fixed, types_of, fields_of, cases_of, maybe_ty
 use Rattle.wave_wasm.specs.Commas.{joined}
 use Rattle.wave_wasm.specs.TypeText.{type_text, type_texts, field_texts, case_texts, result_text, maybe_text}
 use Rattle.wave_type.specs.TypeModel.{by_bytes}
-use Rattle.wave_wasm.proofs.JoinedTexts.{separator_more, joined_turn}
-use Rattle.wave_type.proofs.Texts.{field_line, case_line, all_types, all_fields, all_cases, pair_text, fixed_text}
-use Rattle.wave_type.proofs.TypeEqual.{type_at, field_at, case_at}
+use Rattle.wave_wasm.proofs.Displays.JoinedTexts.{separator_more, joined_turn}
+use Rattle.wave_type.proofs.TypeTexts.JoinedTexts.{field_line, case_line, all_types, all_fields, all_cases, pair_text, fixed_text}
+use Rattle.wave_type.proofs.TypeTrees.Equality.{type_at, field_at, case_at}
 use Rattle.wave_type.proofs.ty.display.+text.Goals as goal
 
 pub write_types-write_type-requires : goal.write_types-write_type-requires

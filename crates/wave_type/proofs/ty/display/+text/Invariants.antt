@@ -1,12 +1,11 @@
 use Rattle.std.proofs.Common.{◌≡◌, ◌+◌, ◌*◌, max, map, take}
 use Rattle.std.specs.Fmt.{HasWritten, IsPlainFormatter}
-use Rattle.wave_wasm.specs.Shared.Types.{depth, depth_of_types, depth_of_fields, depth_of_cases, depth_of_maybe}
-use Rattle.wave_wasm.specs.Types.{types_of, fields_of, cases_of, maybe_type}
+use Rattle.wave_wasm.specs.Types.{depth, depth_of_types, depth_of_fields, depth_of_cases, depth_of_maybe, types_of, fields_of, cases_of, maybe_type}
 use Rattle.wave_wasm.specs.Commas.{joined}
 use Rattle.wave_wasm.specs.TypeText.{type_text}
 use Rattle.wave_type.specs.TypeModel.{by_bytes}
-use Rattle.wave_wasm.proofs.JoinedTexts.{separator}
-use Rattle.wave_type.proofs.Texts.{field_line, case_line}
+use Rattle.wave_wasm.proofs.Displays.JoinedTexts.{separator}
+use Rattle.wave_type.proofs.TypeTexts.JoinedTexts.{field_line, case_line}
 use Rattle.wave_type.proofs.ty.display.+text.Given as goal
 
 abbrev pub decreases-write_type : goal.decreases-write_type

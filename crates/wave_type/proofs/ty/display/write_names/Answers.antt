@@ -1,7 +1,7 @@
 use Rattle.std.proofs.Common.{rules, string_bytes}
 use Rattle.std.specs.Fmt.{HasWritten}
 use Rattle.std.proofs.lemmas.Grind.{put_three}
-use Rattle.wave_wasm.proofs.JoinedTexts.{separator_more, joined_turn}
+use Rattle.wave_wasm.proofs.Displays.JoinedTexts.{separator_more, joined_turn}
 use Rattle.wave_type.proofs.ty.display.write_names.Goals as goal
 
 pub loop-name-preserved : goal.loop-name-preserved

@@ -1,7 +1,7 @@
 use Rattle.std.proofs.Common.{◌≡◌, map, take, string_bytes}
 use Rattle.std.specs.Fmt.{HasWritten, IsPlainFormatter}
 use Rattle.wave_wasm.specs.Commas.{joined}
-use Rattle.wave_wasm.proofs.JoinedTexts.{separator}
+use Rattle.wave_wasm.proofs.Displays.JoinedTexts.{separator}
 use Rattle.wave_type.proofs.ty.display.write_names.Given as goal
 
 abbrev pub invariant-loop-name : goal.invariant-loop-name

@@ -1,8 +1,7 @@
 use Rattle.std.proofs.Common.{arith, ap}
-use Rattle.wave_wasm.specs.Shared.Types.{depth_of_types}
-use Rattle.wave_wasm.specs.Types.{types_of, HasDistinctNames}
-use Rattle.wave_type.proofs.TypeEqual.{type_at}
-use Rattle.wave_type.proofs.DistinctTypes.{part_passes, part_fails, parts_pass, tuple_parts}
+use Rattle.wave_wasm.specs.Types.{depth_of_types, types_of, HasDistinctNames}
+use Rattle.wave_type.proofs.TypeTrees.Equality.{type_at}
+use Rattle.wave_type.proofs.DistinctNames.WithinTypes.{part_passes, part_fails, parts_pass, tuple_parts}
 use Rattle.wave_type.proofs.ty.distinct.+distinct.Goals as goal
 
 pub types_are_distinct-names_are_distinct-requires : goal.types_are_distinct-names_are_distinct-requires

@@ -1,7 +1,6 @@
 use Rattle.std.proofs.Common.{◌+◌, ◌*◌, take}
 use Rattle.wave_wasm.specs.Lists.{AllOf}
-use Rattle.wave_wasm.specs.Shared.Types.{depth, depth_of_types, depth_of_maybe}
-use Rattle.wave_wasm.specs.Types.{types_of, maybe_type, HasDistinctNames}
+use Rattle.wave_wasm.specs.Types.{depth, depth_of_types, depth_of_maybe, types_of, maybe_type, HasDistinctNames}
 use Rattle.wave_type.proofs.ty.distinct.+distinct.Given as goal
 
 abbrev pub decreases-names_are_distinct : goal.decreases-names_are_distinct

@@ -1,4 +1,4 @@
-use Rattle.wave_type.proofs.DistinctTypes.{CasePasses, part_passes, part_fails, parts_pass, variant_parts, variant_repeats}
+use Rattle.wave_type.proofs.DistinctNames.WithinTypes.{CasePasses, part_passes, part_fails, parts_pass, variant_parts, variant_repeats}
 use Rattle.wave_type.proofs.ty.distinct.cases_are_distinct.Goals as goal
 
 pub returns-then-not-are_distinct : goal.returns-then-not-are_distinct

@@ -1,4 +1,4 @@
-use Rattle.wave_type.proofs.DistinctTypes.{FieldPasses, part_passes, part_fails, parts_pass, record_parts, record_repeats}
+use Rattle.wave_type.proofs.DistinctNames.WithinTypes.{FieldPasses, part_passes, part_fails, parts_pass, record_parts, record_repeats}
 use Rattle.wave_type.proofs.ty.distinct.fields_are_distinct.Goals as goal
 
 pub returns-then-not-are_distinct : goal.returns-then-not-are_distinct

@@ -2,7 +2,7 @@ use Rattle.std.proofs.Common.{rules, arith, ◌∙◌, map}
 use Rattle.wave_type.specs.TypeEquality.{same_fields, same_cases}
 use Rattle.wave_wasm.specs.Types.{fields_of, cases_of}
 use Rattle.wave_type.specs.TypeModel.{by_bytes}
-use Rattle.wave_type.proofs.TypeEqual.{types_lens, fields_lens, cases_lens, unequal, type_at, field_at, case_at}
+use Rattle.wave_type.proofs.TypeTrees.Equality.{types_lens, fields_lens, cases_lens, unequal, type_at, field_at, case_at}
 use Rattle.wave_type.proofs.ty.equality.+same.Goals as goal
 
 pub same_types-returns-then-len : goal.same_types-returns-then-len

@@ -1,6 +1,5 @@
 use Rattle.std.proofs.Common.{◌≡◌, ◌+◌, ◌*◌, map, drop}
-use Rattle.wave_wasm.specs.Shared.Types.{depth, depth_of_types, depth_of_fields, depth_of_cases, depth_of_maybe}
-use Rattle.wave_wasm.specs.Types.{types_of, fields_of, cases_of, maybe_type}
+use Rattle.wave_wasm.specs.Types.{depth, depth_of_types, depth_of_fields, depth_of_cases, depth_of_maybe, types_of, fields_of, cases_of, maybe_type}
 use Rattle.wave_type.specs.TypeModel.{by_bytes}
 use Rattle.wave_type.specs.TypeEquality.{same_types, same_fields, same_cases}
 use Rattle.wave_type.proofs.ty.equality.+same.Given as goal

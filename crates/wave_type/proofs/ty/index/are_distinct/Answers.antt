@@ -1,7 +1,7 @@
 use Rattle.std.proofs.Common.{arith, length, map, sym, ◌≡◌, ◌∙◌}
 use Rattle.std.specs.Vec.{vec_len}
 use Rattle.std.proofs.lemmas.List.{length-map}
-use Rattle.wave_type.proofs.DistinctPlaces.{tells_distinct}
+use Rattle.wave_type.proofs.DistinctNames.CountedPlaces.{tells_distinct}
 use Rattle.wave_type.proofs.ty.index.are_distinct.Goals as goal
 
 pub returns : goal.returns

@@ -1,7 +1,7 @@
 use Rattle.std.proofs.Common.{arith, string_bytes, Some}
 use Rattle.std.proofs.lemmas.Map.Text.{btree_map_updates_text}
 use Rattle.std.specs.BTreeMap.{get_by_text}
-use Rattle.wave_type.proofs.NameIndex.{index_stays, index_more}
+use Rattle.wave_type.proofs.DistinctNames.FirstPlaces.{index_stays, index_more}
 use Rattle.wave_type.proofs.ty.index.first_places.Goals as goal
 use Rattle.wave_type.proofs.ty.index.first_places.Goals.{then-is_none+in_ok-from_str+in_ok-insert, else-is_none}
 

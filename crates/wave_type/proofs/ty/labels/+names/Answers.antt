@@ -1,9 +1,8 @@
 use Rattle.std.proofs.Common.{arith, ap, map}
-use Rattle.wave_wasm.specs.Shared.Types.{depth_of_types, depth_of_fields, depth_of_cases}
-use Rattle.wave_wasm.specs.Types.{types_of, fields_of, cases_of}
+use Rattle.wave_wasm.specs.Types.{depth_of_types, depth_of_fields, depth_of_cases, types_of, fields_of, cases_of}
 use Rattle.wave_type.specs.TypeModel.{by_bytes}
-use Rattle.wave_type.proofs.TypeEqual.{type_at, field_at, case_at}
-use Rattle.wave_type.proofs.LabelTest.{record_passes, record_fails, variant_passes, variant_fails}
+use Rattle.wave_type.proofs.TypeTrees.Equality.{type_at, field_at, case_at}
+use Rattle.wave_type.proofs.DistinctNames.LabelTest.{record_passes, record_fails, variant_passes, variant_fails}
 use Rattle.wave_type.proofs.ty.labels.+names.Goals as goal
 
 pub types_pass-names_pass-requires : goal.types_pass-names_pass-requires

@@ -1,6 +1,5 @@
 use Rattle.std.proofs.Common.{◌≡◌, ◌+◌, ◌*◌, map, drop}
-use Rattle.wave_wasm.specs.Shared.Types.{depth, depth_of_types, depth_of_fields, depth_of_cases, depth_of_maybe}
-use Rattle.wave_wasm.specs.Types.{types_of, fields_of, cases_of, maybe_type}
+use Rattle.wave_wasm.specs.Types.{depth, depth_of_types, depth_of_fields, depth_of_cases, depth_of_maybe, types_of, fields_of, cases_of, maybe_type}
 use Rattle.wave_type.specs.TypeModel.{by_bytes}
 use Rattle.wave_type.specs.Private.LabelTest.{types_pass, fields_pass, cases_pass}
 use Rattle.wave_type.proofs.ty.labels.+names.Given as goal

@@ -1,6 +1,6 @@
 use Rattle.std.proofs.Common.{◌≡◌, sym, subst, ◌∙◌, arith, map, length}
 use Rattle.std.proofs.lemmas.List.{length-map, take_all}
-use Rattle.wave_type.proofs.LabelTest.{AreTested, tested_pass, tests_more, fails_label, fails_place, same_place, other_place}
+use Rattle.wave_type.proofs.DistinctNames.LabelTest.{AreTested, tested_pass, tests_more, fails_label, fails_place, same_place, other_place}
 use Rattle.wave_type.proofs.ty.labels.are_label_names.Goals as goal
 use Rattle.wave_type.proofs.ty.labels.are_label_names.Goals.{then-not-is_label-via-then-not-is_label, then-not-is_label-via-else-not-is_label+then-ne}
 

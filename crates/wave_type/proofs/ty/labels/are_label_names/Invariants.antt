@@ -1,5 +1,5 @@
 use Rattle.std.proofs.Common.{map, take}
-use Rattle.wave_type.proofs.LabelTest.{AreTested}
+use Rattle.wave_type.proofs.DistinctNames.LabelTest.{AreTested}
 use Rattle.wave_type.proofs.ty.labels.are_label_names.Given as goal
 
 abbrev pub invariant-loop-i : goal.invariant-loop-i

@@ -1,5 +1,5 @@
 use Rattle.std.proofs.Common.{◌∙◌}
-use Rattle.wave_type.proofs.LabelTest.{front_tells}
+use Rattle.wave_type.proofs.DistinctNames.LabelTest.{front_tells}
 use Rattle.wave_type.proofs.ty.labels.is_label.Goals as goal
 
 pub returns : goal.returns

@@ -2,7 +2,7 @@ use Rattle.std.proofs.Common.{rules, arith, ◌≡◌, ◌≤◌, ◌<◌, ◌+�
 use Rattle.std.proofs.lemmas.Grind.{common_steps}
 use Rattle.wave_type.specs.Private.TypeTokens.{item_of, items_of}
 use Rattle.wave_type.specs.TypeItems.{AreItems, StandsAtFirst}
-use Rattle.wave_type.proofs.TypeTokens.{items_within, drop_kept}
+use Rattle.wave_type.proofs.TypeReading.TextTokens.{items_within, drop_kept}
 use Rattle.wave_type.proofs.ty.parse.refusal.Goals as goal
 
 pub overflow_add-token : goal.overflow_add-token

@@ -1,10 +1,10 @@
 use Rattle.std.proofs.Common.{[], ◌∷◌, rules, arith, ◌≡◌, Err}
 use Rattle.wave_type.specs.Private.TypeTokens.{IsRefusal}
 use Rattle.wave_type.specs.TypeFaults.{type_due, due_of_type}
-use Rattle.wave_type.proofs.SpelledNames.{spelled_good}
-use Rattle.wave_type.proofs.WholeTypes.{whole_sound}
-use Rattle.wave_type.proofs.WholeFaults.{err_if, fails_alone, type_left}
-use Rattle.wave_type.proofs.TypeLevels.{read_low}
+use Rattle.wave_type.proofs.TypeReading.SpelledNames.{spelled_good}
+use Rattle.wave_type.proofs.TypeReading.WholeTexts.{whole_sound}
+use Rattle.wave_type.proofs.TypeFaults.WholeTexts.{err_if, fails_alone, type_left}
+use Rattle.wave_type.proofs.TypeReading.Levels.{read_low}
 use Rattle.wave_type.proofs.ty.parse.whole_type.Goals as goal
 
 pub returns-in_err-ty-clause-refused : goal.returns-in_err-ty-clause-refused

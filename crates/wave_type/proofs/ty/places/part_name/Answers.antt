@@ -1,5 +1,5 @@
 use Rattle.std.proofs.Common.{arith, ◌∙◌}
-use Rattle.wave_type.proofs.TypeLists.{name_at_place}
+use Rattle.wave_type.proofs.TypeTrees.Lists.{name_at_place}
 use Rattle.wave_type.proofs.ty.places.part_name.Goals as goal
 
 pub returns : goal.returns

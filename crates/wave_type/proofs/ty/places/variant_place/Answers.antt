@@ -2,8 +2,8 @@ use Rattle.std.proofs.Common.{◌∙◌, ap, sym, string_bytes}
 use Rattle.std.specs.BTreeMap.{get_by_text}
 use Rattle.std.specs.Str.{bytes_eq}
 use Rattle.wave_type.specs.TypeModel.{by_bytes}
-use Rattle.wave_wasm.proofs.MappedSearch.{position-map}
-use Rattle.wave_type.proofs.TypeLists.{case_list-cases_of}
+use Rattle.wave_wasm.proofs.Names.MappedSearch.{position-map}
+use Rattle.wave_type.proofs.TypeTrees.Lists.{case_list-cases_of}
 use Rattle.wave_type.proofs.ty.places.variant_place.Goals as goal
 
 pub returns-in-Variant : goal.returns-in-Variant

@@ -1,4 +1,4 @@
-use Rattle.wave_value.proofs.Items.{one_more}
+use Rattle.wave_value.proofs.IntoValue.Items.{one_more}
 use Rattle.wave_value.proofs.convert.made.values_of.Goals as goal
 
 pub loop-item-preserved : goal.loop-item-preserved

@@ -1,5 +1,5 @@
 use Rattle.std.proofs.Common.{map}
-use Rattle.wave_value.proofs.Items.{AreMade}
+use Rattle.wave_value.proofs.IntoValue.Items.{AreMade}
 use Rattle.wave_value.proofs.convert.made.values_of.Given as goal
 
 abbrev pub invariant-loop-item : goal.invariant-loop-item

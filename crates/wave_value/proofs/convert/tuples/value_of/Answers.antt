@@ -1,5 +1,5 @@
 use Rattle.std.proofs.Common.{◌∷◌, refl}
-use Rattle.wave_value.proofs.TupleParts.{parts_taken}
+use Rattle.wave_value.proofs.IntoValue.TupleParts.{parts_taken}
 use Rattle.wave_value.proofs.convert.tuples.value_of.Goals as goal
 
 pub tuple_of-requires : goal.tuple_of-requires

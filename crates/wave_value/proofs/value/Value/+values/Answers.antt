@@ -1,9 +1,9 @@
 -- Each part of a value nests less deep.
 use Rattle.std.proofs.Common.{arith, rules, ap, ℕ, ◌≤◌, ◌<◌, ◌*◌, suc, max, List, [], ◌∷◌}
-use Rattle.wave_wasm.specs.Shared.Values.{depth}
+use Rattle.wave_wasm.specs.Values.{depth}
 use Rattle.wave_value.specs.TypedValue.{TypedValue}
 use Rattle.wave_value.specs.declared.value.Value.TheDeep.{size-Value}
-use Rattle.wave_value.proofs.ValueDepths.{values_depth, pairs_depth, content_depth, content_deep}
+use Rattle.wave_value.proofs.ValueModel.Depths.{values_depth, pairs_depth, content_depth, content_deep}
 use Rattle.wave_value.proofs.value.Value.+values.Goals as goal
 use denote.Param.Weighed.{most}
 

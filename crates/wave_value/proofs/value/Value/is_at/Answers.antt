@@ -1,6 +1,6 @@
 use Rattle.std.proofs.Common.{subst}
 use Rattle.wave_value.specs.Private.ConstructorRules.{Tells}
-use Rattle.wave_value.proofs.Made.{tells}
+use Rattle.wave_value.proofs.ConstructorAnswers.ListsAndEnums.{tells}
 use Rattle.wave_value.proofs.value.Value.is_at.Goals as goal
 
 pub returns : goal.returns

@@ -1,7 +1,7 @@
 use Rattle.std.proofs.Common.{ap, ◌∙◌}
 use Rattle.wave_wasm.specs.Values.{kind_of}
 use Rattle.wave_value.specs.TypedValue.{TypedValue}
-use Rattle.wave_value.proofs.ValueMeans.{means, same_kind}
+use Rattle.wave_value.proofs.ValueModel.ContentMeaning.{means, same_kind}
 use Rattle.wave_value.proofs.value.Value.kind.Goals as goal
 
 pub returns : goal.returns

@@ -2,8 +2,8 @@ use Rattle.std.proofs.Common.{subst, sym}
 use Rattle.std.proofs.lemmas.Result.{err_from_is_err_and}
 use Rattle.wave_value.specs.TypedValue.{IsAt}
 use Rattle.wave_value.specs.Private.ValueModel.{ListFits}
-use Rattle.wave_value.proofs.ValueLists.{all_more, all_items}
-use Rattle.wave_value.proofs.Made.{is_at, not_at, length_refused, list_fits, list_taken, list_made, list_refused}
+use Rattle.wave_value.proofs.ValueModel.Lists.{all_more, all_items}
+use Rattle.wave_value.proofs.ConstructorAnswers.ListsAndEnums.{is_at, not_at, length_refused, list_fits, list_taken, list_made, list_refused}
 use Rattle.wave_value.proofs.value.Value.list_of.Goals as goal
 
 pub returns-in_err-check_length-clause-refused : goal.returns-in_err-check_length-clause-refused

@@ -1,7 +1,7 @@
 use Rattle.std.proofs.Common.{sym, subst}
 use Rattle.wave_value.specs.Private.ValueModel.{ListFits}
-use Rattle.wave_value.proofs.Made.{list_made, list_taken}
-use Rattle.wave_value.proofs.TypedParts.{list_fits}
+use Rattle.wave_value.proofs.ConstructorAnswers.ListsAndEnums.{list_made, list_taken}
+use Rattle.wave_value.proofs.TypedParts.ValuesFit.{list_fits}
 use Rattle.wave_value.proofs.value.Value.list_unchecked.Goals as goal
 
 pub invariant_of-result : goal.invariant_of-result

@@ -1,4 +1,4 @@
-use Rattle.wave_value.proofs.Made.{enum_made, enum_taken, enum_refused}
+use Rattle.wave_value.proofs.ConstructorAnswers.ListsAndEnums.{enum_made, enum_taken, enum_refused}
 use Rattle.wave_value.proofs.value.Value.make_enum.Goals as goal
 
 pub returns-in_ok-clone-in-Some-clause-made : goal.returns-in_ok-clone-in-Some-clause-made

@@ -1,5 +1,5 @@
 use Rattle.wave_wasm.specs.Borrowed.{texts}
-use Rattle.wave_value.proofs.MadeFlags.{flags_made}
+use Rattle.wave_value.proofs.ConstructorAnswers.Flags.{flags_made}
 use Rattle.wave_value.proofs.value.Value.make_flags.Goals as goal
 
 pub returns-in_ok-clone-in-Flags-clause-made : goal.returns-in_ok-clone-in-Flags-clause-made

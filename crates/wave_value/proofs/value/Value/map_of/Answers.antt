@@ -1,7 +1,7 @@
 use Rattle.wave_value.specs.Private.ValueModel.{EntryAt}
-use Rattle.wave_value.proofs.ValueLists.{all_more, all_items}
-use Rattle.wave_value.proofs.Made.{is_at, not_at}
-use Rattle.wave_value.proofs.MadeMap.{map_taken, map_made, key_refused, value_refused}
+use Rattle.wave_value.proofs.ValueModel.Lists.{all_more, all_items}
+use Rattle.wave_value.proofs.ConstructorAnswers.ListsAndEnums.{is_at, not_at}
+use Rattle.wave_value.proofs.ConstructorAnswers.Maps.{map_taken, map_made, key_refused, value_refused}
 use Rattle.wave_value.proofs.value.Value.map_of.Goals as goal
 
 pub returns-then-not-is_at-clause-refused : goal.returns-then-not-is_at-clause-refused

@@ -1,6 +1,6 @@
 use Rattle.std.proofs.Common.{sym, subst}
 use Rattle.wave_value.specs.Private.ValueModel.{MapFits}
-use Rattle.wave_value.proofs.TypedParts.{map_fits, map_made, map_taken}
+use Rattle.wave_value.proofs.TypedParts.ValuesFit.{map_fits, map_made, map_taken}
 use Rattle.wave_value.proofs.value.Value.map_unchecked.Goals as goal
 
 pub invariant_of-result : goal.invariant_of-result

@@ -3,7 +3,7 @@ use Rattle.std.proofs.lemmas.Result.{err_from_is_err_and}
 use Rattle.wave_wasm.specs.Borrowed.{named}
 use Rattle.wave_type.specs.TypeModel.{by_bytes, record_part}
 use Rattle.wave_value.specs.RecordConstructor.{last_under}
-use Rattle.wave_value.proofs.MadeRecord.{record_fits, record_made, record_taken, record_refused}
+use Rattle.wave_value.proofs.ConstructorAnswers.Records.{record_fits, record_made, record_taken, record_refused}
 use Rattle.wave_value.proofs.value.Value.record_of.Goals as goal
 
 pub returns-in_err-vals-clause-refused : goal.returns-in_err-vals-clause-refused

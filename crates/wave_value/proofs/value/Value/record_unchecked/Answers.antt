@@ -2,8 +2,8 @@ use Rattle.std.proofs.Common.{map, sym, ap, ◌∙◌}
 use Rattle.wave_wasm.specs.Borrowed.{named}
 use Rattle.wave_type.specs.TypeModel.{by_bytes, record_part}
 use Rattle.wave_value.specs.RecordConstructor.{last_under}
-use Rattle.wave_value.proofs.MadeRecord.{record_fits, record_made, record_taken}
-use Rattle.wave_value.proofs.TypedRecords.{typed_in_order}
+use Rattle.wave_value.proofs.ConstructorAnswers.Records.{record_fits, record_made, record_taken}
+use Rattle.wave_value.proofs.TypedParts.RecordsFit.{typed_in_order}
 use Rattle.wave_value.proofs.value.Value.record_unchecked.Goals as goal
 
 pub invariant_of-result : goal.invariant_of-result

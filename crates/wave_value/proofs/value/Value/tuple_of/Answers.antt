@@ -1,7 +1,7 @@
 use Rattle.std.proofs.Common.{arith, sym, ap, ◌∙◌, ◌≡◌, length}
 use Rattle.wave_type.specs.TypeModel.{tuple_part}
-use Rattle.wave_value.proofs.Made.{is_at, not_at}
-use Rattle.wave_value.proofs.MadeTuple.{each_fits, tuple_taken, each_more, each_at, tuple_made, count_refused, tuple_refused}
+use Rattle.wave_value.proofs.ConstructorAnswers.ListsAndEnums.{is_at, not_at}
+use Rattle.wave_value.proofs.ConstructorAnswers.Tuples.{each_fits, tuple_taken, each_more, each_at, tuple_made, count_refused, tuple_refused}
 use Rattle.wave_value.proofs.value.Value.tuple_of.Goals as goal
 
 pub returns-then-want-got-clause-refused : goal.returns-then-want-got-clause-refused

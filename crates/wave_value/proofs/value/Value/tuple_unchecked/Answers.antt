@@ -1,7 +1,7 @@
 use Rattle.std.proofs.Common.{sym, subst}
 use Rattle.wave_value.specs.Private.ValueModel.{TupleFits}
-use Rattle.wave_value.proofs.MadeTuple.{tuple_made}
-use Rattle.wave_value.proofs.TypedParts.{tuple_fits, tuple_taken}
+use Rattle.wave_value.proofs.ConstructorAnswers.Tuples.{tuple_made}
+use Rattle.wave_value.proofs.TypedParts.ValuesFit.{tuple_fits, tuple_taken}
 use Rattle.wave_value.proofs.value.Value.tuple_unchecked.Goals as goal
 
 pub invariant_of-result : goal.invariant_of-result

@@ -1,6 +1,6 @@
 use Rattle.std.proofs.Common.{subst}
 use Rattle.wave_value.specs.TypedValue.{IsTyped}
-use Rattle.wave_value.proofs.ValueMeans.{means}
+use Rattle.wave_value.proofs.ValueModel.ContentMeaning.{means}
 use Rattle.wave_value.proofs.value.Value.ty.Goals as goal
 
 pub returns-clause-typed : goal.returns-clause-typed

@@ -3,7 +3,7 @@ use Rattle.std.proofs.lemmas.Result.{IfOk-weaker}
 use Rattle.wave_wasm.specs.Borrowed.{shown_all}
 use Rattle.wave_value.specs.ConstructorRules.{TakesList}
 use Rattle.wave_value.specs.Private.ValueModel.{Fits}
-use Rattle.wave_value.proofs.Views.{items_taken}
+use Rattle.wave_value.proofs.ViewAnswers.Parts.{items_taken}
 use Rattle.wave_value.proofs.value.Value.unwrap_list.Goals as goal
 
 pub returns-in-List-clause-own : goal.returns-in-List-clause-own

@@ -1,7 +1,7 @@
 use Rattle.std.proofs.Common.{subst, ◌∙◌}
 use Rattle.wave_value.specs.Private.ValueModel.{Fits}
-use Rattle.wave_value.proofs.ValueLists.{map_back}
-use Rattle.wave_value.proofs.Views.{entries_taken}
+use Rattle.wave_value.proofs.ValueModel.Lists.{map_back}
+use Rattle.wave_value.proofs.ViewAnswers.Parts.{entries_taken}
 use Rattle.wave_value.proofs.value.Value.unwrap_map.Goals as goal
 
 pub returns-in_ok-shown-in-Map-clause-trees : goal.returns-in_ok-shown-in-Map-clause-trees

@@ -5,7 +5,7 @@ use Rattle.wave_value.specs.TypedValue.{TypedValue}
 use Rattle.wave_value.specs.ValueModel.{first_names, trees, beside}
 use Rattle.wave_value.specs.RecordConstructor.{TakesRecord}
 use Rattle.wave_value.specs.Private.ValueModel.{Fits}
-use Rattle.wave_value.proofs.RecordViews.{both_ok, fields_taken}
+use Rattle.wave_value.proofs.ViewAnswers.Records.{both_ok, fields_taken}
 use Rattle.wave_value.proofs.value.Value.unwrap_record.Goals as goal
 
 pub returns-in-Record-clause-own : goal.returns-in-Record-clause-own

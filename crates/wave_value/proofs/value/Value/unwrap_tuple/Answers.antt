@@ -3,7 +3,7 @@ use Rattle.std.proofs.lemmas.Result.{IfOk-weaker}
 use Rattle.wave_wasm.specs.Borrowed.{shown_all}
 use Rattle.wave_value.specs.ConstructorRules.{TakesTuple}
 use Rattle.wave_value.specs.Private.ValueModel.{Fits}
-use Rattle.wave_value.proofs.Views.{places_taken}
+use Rattle.wave_value.proofs.ViewAnswers.Parts.{places_taken}
 use Rattle.wave_value.proofs.value.Value.unwrap_tuple.Goals as goal
 
 pub returns-in-Tuple-clause-own : goal.returns-in-Tuple-clause-own

@@ -1,6 +1,6 @@
 use Rattle.std.proofs.Common.{rules, Some, None}
 use Rattle.wave_value.specs.Private.ValueModel.{VariantFits}
-use Rattle.wave_value.proofs.Views.{variant_shown}
+use Rattle.wave_value.proofs.ViewAnswers.Parts.{variant_shown}
 use Rattle.wave_value.proofs.value.Value.unwrap_variant.Goals as goal
 
 pub returns-in-Variant-default-Some-clause-own : goal.returns-in-Variant-default-Some-clause-own

@@ -1,5 +1,5 @@
 use Rattle.std.proofs.lemmas.Result.{err_from_is_err_and}
-use Rattle.wave_value.proofs.MadeCases.{variant_fits, variant_made, variant_taken, payload_refused, unknown}
+use Rattle.wave_value.proofs.ConstructorAnswers.VariantsAndFlags.{variant_fits, variant_made, variant_taken, payload_refused, unknown}
 use Rattle.wave_value.proofs.value.Value.variant_of.Goals as goal
 
 pub returns-in_err-val-in-Some-clause-refused : goal.returns-in_err-val-in-Some-clause-refused

@@ -1,6 +1,6 @@
 use Rattle.wave_wasm.specs.Types.{variant_parts}
-use Rattle.wave_value.proofs.MadeCases.{case_at, variant_fits, variant_made, variant_taken}
-use Rattle.wave_value.proofs.TypedParts.{case_fits}
+use Rattle.wave_value.proofs.ConstructorAnswers.VariantsAndFlags.{case_at, variant_fits, variant_made, variant_taken}
+use Rattle.wave_value.proofs.TypedParts.ValuesFit.{case_fits}
 use Rattle.wave_value.proofs.value.Value.variant_unchecked.Goals as goal
 use Rattle.std.proofs.Common.{refl}
 

@@ -1,4 +1,4 @@
-use Rattle.wave_value.proofs.MadeResult.{unexpected_refused}
+use Rattle.wave_value.proofs.ConstructorAnswers.Results.{unexpected_refused}
 use Rattle.wave_value.proofs.value.checked.boxed_payload.Goals as goal
 
 pub returns-in-None-stated-2-clause-refused : goal.returns-in-None-stated-2-clause-refused

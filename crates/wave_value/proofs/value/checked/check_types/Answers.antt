@@ -1,6 +1,6 @@
 use Rattle.std.proofs.Common.{arith}
-use Rattle.wave_value.proofs.Made.{is_at, not_at}
-use Rattle.wave_value.proofs.RecordInTurn.{same_count, at_more, other_in_turn}
+use Rattle.wave_value.proofs.ConstructorAnswers.ListsAndEnums.{is_at, not_at}
+use Rattle.wave_value.proofs.TypedParts.RecordsInTurn.{same_count, at_more, other_in_turn}
 use Rattle.wave_value.proofs.value.checked.check_types.Goals as goal
 
 pub returns-then-not-is_at-clause-refused : goal.returns-then-not-is_at-clause-refused

@@ -1,8 +1,8 @@
 use Rattle.std.proofs.Common.{sym}
 use Rattle.std.proofs.lemmas.Bool.{false≢true}
 use Rattle.wave_value.specs.Private.RecordConstructor.{held}
-use Rattle.wave_value.proofs.Made.{is_at, not_at}
-use Rattle.wave_value.proofs.MadeRecord.{missing_refused, other_refused, taking_more, unknown_refused, all_in_order}
+use Rattle.wave_value.proofs.ConstructorAnswers.ListsAndEnums.{is_at, not_at}
+use Rattle.wave_value.proofs.ConstructorAnswers.Records.{missing_refused, other_refused, taking_more, unknown_refused, all_in_order}
 use Rattle.wave_value.proofs.value.checked.in_order.Goals as goal
 
 pub returns-in_default-clause-refused : goal.returns-in_default-clause-refused

@@ -1,5 +1,5 @@
 use Rattle.std.proofs.lemmas.Result.{err_from_is_err_and}
-use Rattle.wave_value.proofs.RecordInTurn.{are_in_order}
+use Rattle.wave_value.proofs.TypedParts.RecordsInTurn.{are_in_order}
 use Rattle.wave_value.proofs.value.checked.in_turn.Goals as goal
 
 pub returns-in_err-check_types-clause-refused : goal.returns-in_err-check_types-clause-refused

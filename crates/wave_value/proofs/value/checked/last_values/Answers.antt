@@ -1,4 +1,4 @@
-use Rattle.wave_value.proofs.MadeRecord.{held_more}
+use Rattle.wave_value.proofs.ConstructorAnswers.Records.{held_more}
 use Rattle.wave_value.proofs.value.checked.last_values.Goals as goal
 
 pub loop-name-preserved-in_ok-insert : goal.loop-name-preserved-in_ok-insert

@@ -1,4 +1,4 @@
-use Rattle.wave_value.proofs.TypedRecords.{fields_in_turn, known_distinct}
+use Rattle.wave_value.proofs.TypedParts.RecordsFit.{fields_in_turn, known_distinct}
 use Rattle.wave_value.proofs.value.checked.stand_in_order.Goals as goal
 
 pub returns-clause-turn : goal.returns-clause-turn

@@ -1,10 +1,10 @@
 use Rattle.std.proofs.Common.{arith, ap, sym, ◌∙◌}
-use Rattle.wave_wasm.specs.Shared.Values.{depth}
+use Rattle.wave_wasm.specs.Values.{depth}
 use Rattle.wave_type.specs.TypeEqualityLaws.{one_tree}
-use Rattle.wave_type.proofs.TypeEqual.{unequal}
+use Rattle.wave_type.proofs.TypeTrees.Equality.{unequal}
 use Rattle.wave_value.specs.TypedValue.{TypedValue}
-use Rattle.wave_value.proofs.ValueDepths.{content_deep, value_below, pair_below}
-use Rattle.wave_value.proofs.ContentEquality.{typed_same, all_lens, pairs_lens}
+use Rattle.wave_value.proofs.ValueModel.Depths.{content_deep, value_below, pair_below}
+use Rattle.wave_value.proofs.ValueModel.ContentEquality.{typed_same, all_lens, pairs_lens}
 use Rattle.wave_value.proofs.value.equality.+same_values.Goals as goal
 
 pub ValuePartialEq::eq-same_content-requires : goal.ValuePartialEq::eq-same_content-requires

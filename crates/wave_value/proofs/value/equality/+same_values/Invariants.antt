@@ -1,8 +1,8 @@
 use Rattle.std.proofs.Common.{◌≡◌, ◌+◌, ◌*◌, drop}
-use Rattle.wave_wasm.specs.Shared.Values.{depth}
+use Rattle.wave_wasm.specs.Values.{depth}
 use Rattle.wave_value.specs.ValueModel.{boxed}
 use Rattle.wave_value.specs.Private.ContentEquality.{same_all, same_pairs}
-use Rattle.wave_value.proofs.ValueDepths.{values_depth, pairs_depth, payload_depth, content_depth}
+use Rattle.wave_value.proofs.ValueModel.Depths.{values_depth, pairs_depth, payload_depth, content_depth}
 use Rattle.wave_value.proofs.value.equality.+same_values.Given as goal
 
 abbrev pub decreases-ValuePartialEq::eq : goal.decreases-ValuePartialEq::eq

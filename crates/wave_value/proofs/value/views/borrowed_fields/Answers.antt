@@ -4,7 +4,7 @@ use Rattle.wave_wasm.specs.Types.{record_parts}
 use Rattle.wave_wasm.specs.Values.{Value}
 use Rattle.wave_value.specs.TypedValue.{TypedValue}
 use Rattle.wave_value.specs.ValueModel.{first_names}
-use Rattle.wave_value.proofs.ValueLists.{fields_turn}
+use Rattle.wave_value.proofs.ValueModel.Lists.{fields_turn}
 use Rattle.wave_value.proofs.value.views.borrowed_fields.Goals as goal
 
 pub loop-i-preserved : goal.loop-i-preserved

@@ -4,7 +4,7 @@ use Rattle.std.specs.Str.{bytes_eq}
 use Rattle.std.proofs.lemmas.Iterator.{YieldsList-from_slice}
 use Rattle.std.proofs.lemmas.Iterator.Search.{position_from_yields_List}
 use Rattle.wave_wasm.specs.Borrowed.{texts}
-use Rattle.wave_wasm.proofs.MappedSearch.{position-map}
+use Rattle.wave_wasm.proofs.Names.MappedSearch.{position-map}
 use Rattle.wave_wasm.proofs.wasm.WasmType.flag_place.Goals as goal
 
 pub returns : goal.returns

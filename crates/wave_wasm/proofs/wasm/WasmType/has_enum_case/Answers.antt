@@ -4,7 +4,7 @@ use Rattle.std.specs.Str.{bytes_eq}
 use Rattle.std.proofs.lemmas.Iterator.{YieldsList-from_slice}
 use Rattle.std.proofs.lemmas.Iterator.Search.{any_from_yields_List}
 use Rattle.wave_wasm.specs.Borrowed.{texts}
-use Rattle.wave_wasm.proofs.MappedSearch.{list_any-map}
+use Rattle.wave_wasm.proofs.Names.MappedSearch.{list_any-map}
 use Rattle.wave_wasm.proofs.wasm.WasmType.has_enum_case.Goals as goal
 
 pub returns : goal.returns

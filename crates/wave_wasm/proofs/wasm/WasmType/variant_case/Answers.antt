@@ -5,7 +5,7 @@ use Rattle.std.specs.Str.{bytes_eq}
 use Rattle.std.proofs.lemmas.Iterator.{YieldsList-from_slice}
 use Rattle.std.proofs.lemmas.Iterator.Search.{find_from_yields_List}
 use Rattle.wave_wasm.specs.Borrowed.{shown_case, shown_cases}
-use Rattle.wave_wasm.proofs.MappedSearch.{find-map}
+use Rattle.wave_wasm.proofs.Names.MappedSearch.{find-map}
 use Rattle.wave_wasm.proofs.wasm.WasmType.variant_case.Goals as goal
 
 -- the case has the name

@@ -1,14 +1,13 @@
 use Rattle.std.proofs.Common.{arith, ℕ, List, ◌++◌, ap, ◌∙◌, Bor, codes, map, Option, append_assoc}
 use Rattle.wave_wasm.specs.Borrowed.{shown}
-use Rattle.wave_wasm.specs.Types.{TypeTree, maybe_type}
-use Rattle.wave_wasm.specs.Shared.Types.{depth}
+use Rattle.wave_wasm.specs.Types.{TypeTree, maybe_type, depth}
 use Rattle.wave_wasm.specs.TypeText.{type_text, payload_text}
 use Rattle.wave_wasm.specs.Commas.{joined}
-use Rattle.wave_wasm.specs.Shared.Commas.{comma_if}
-use Rattle.wave_wasm.proofs.TextAppend.{adding_none, adding_as, adding_more, adding_two, adding_start, adding_item}
-use Rattle.wave_wasm.proofs.Sequence.{part_depth}
-use Rattle.wave_wasm.proofs.Trees.{map_map}
-use Rattle.wave_wasm.proofs.TypeTrees.{record_is, tuple_is, variant_is, field_text, field_depth, case_text, case_depth}
+use Rattle.wave_wasm.specs.Private.Commas.{comma_if}
+use Rattle.wave_wasm.proofs.Displays.TextAppend.{adding_none, adding_as, adding_more, adding_two, adding_start, adding_item}
+use Rattle.wave_wasm.proofs.CanonicalText.Sequences.{part_depth}
+use Rattle.wave_wasm.proofs.CanonicalText.ValueParts.{map_map}
+use Rattle.wave_wasm.proofs.Displays.TypeParts.{record_is, tuple_is, variant_is, field_text, field_depth, case_text, case_depth}
 use Rattle.wave_wasm.proofs.wasm.display.+types.Goals as goal
 
 pub push_record-loop-field-init : goal.push_record-loop-field-init

@@ -1,12 +1,11 @@
 use Rattle.std.proofs.Common.{◌++◌, ◌+◌, ◌*◌, map, drop, codes}
 use Rattle.std.specs.String.{string_bytes}
 use Rattle.wave_wasm.specs.Borrowed.{shown}
-use Rattle.wave_wasm.specs.Shared.Types.{depth, depth_of_maybe}
-use Rattle.wave_wasm.specs.Types.{maybe_type}
+use Rattle.wave_wasm.specs.Types.{depth, depth_of_maybe, maybe_type}
 use Rattle.wave_wasm.specs.TypeText.{type_text}
-use Rattle.wave_wasm.proofs.TextAppend.{Adding}
-use Rattle.wave_wasm.proofs.Sequence.{parted}
-use Rattle.wave_wasm.proofs.TypeTrees.{field_text, case_text}
+use Rattle.wave_wasm.proofs.Displays.TextAppend.{Adding}
+use Rattle.wave_wasm.proofs.CanonicalText.Sequences.{parted}
+use Rattle.wave_wasm.proofs.Displays.TypeParts.{field_text, case_text}
 use Rattle.wave_wasm.proofs.wasm.display.+types.Given as goal
 
 abbrev pub decreases-push_type : goal.decreases-push_type

@@ -2,7 +2,7 @@ use Rattle.std.proofs.Common.{◌≡◌, ap, sym, ◌∙◌, ◌++◌, codes, ap
 use Rattle.std.specs.String.{string_bytes}
 use Rattle.std.proofs.lemmas.List.{append-nil}
 use Rattle.std.proofs.lemmas.Result.{IfOk-weaker}
-use Rattle.wave_wasm.proofs.Functions.{name_here, no_name_here}
+use Rattle.wave_wasm.proofs.Displays.Functions.{name_here, no_name_here}
 use Rattle.wave_wasm.proofs.wasm.display.push_name.Goals as goal
 
 -- what a call gives where it succeeds

@@ -2,8 +2,8 @@ use Rattle.std.proofs.Common.{◌++◌, map, drop, codes}
 use Rattle.std.specs.String.{string_bytes}
 use Rattle.wave_wasm.specs.Borrowed.{texts}
 use Rattle.wave_wasm.specs.TypeText.{braced}
-use Rattle.wave_wasm.proofs.TextAppend.{Adding}
-use Rattle.wave_wasm.proofs.Sequence.{parted}
+use Rattle.wave_wasm.proofs.Displays.TextAppend.{Adding}
+use Rattle.wave_wasm.proofs.CanonicalText.Sequences.{parted}
 use Rattle.wave_wasm.proofs.wasm.display.push_names.Given as goal
 
 abbrev pub invariant-loop-name : goal.invariant-loop-name

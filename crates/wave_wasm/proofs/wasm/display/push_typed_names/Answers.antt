@@ -1,12 +1,12 @@
 use Rattle.std.proofs.Common.{ap, sym, codes, ◌++◌, Bor, arith}
 use Rattle.wave_wasm.specs.Borrowed.{texts, shown_all}
 use Rattle.wave_wasm.specs.Types.{TypeTree}
-use Rattle.wave_wasm.specs.Shared.Commas.{comma_if}
+use Rattle.wave_wasm.specs.Private.Commas.{comma_if}
 use Rattle.wave_wasm.specs.TypeText.{type_text, typed_names}
 use Rattle.wave_wasm.specs.Private.TypeText.{name_part}
-use Rattle.wave_wasm.proofs.TextAppend.{adding_none, adding_as, adding_more, adding_two}
-use Rattle.wave_wasm.proofs.Functions.{adding_typed}
-use Rattle.wave_wasm.proofs.Sequence.{parted_joined}
+use Rattle.wave_wasm.proofs.Displays.TextAppend.{adding_none, adding_as, adding_more, adding_two}
+use Rattle.wave_wasm.proofs.Displays.Functions.{adding_typed}
+use Rattle.wave_wasm.proofs.CanonicalText.Sequences.{parted_joined}
 use Rattle.wave_wasm.proofs.wasm.display.push_typed_names.Goals as goal
 
 pub loop-i-init : goal.loop-i-init

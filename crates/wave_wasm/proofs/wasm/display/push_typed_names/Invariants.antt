@@ -3,8 +3,8 @@ use Rattle.std.specs.String.{string_bytes}
 use Rattle.wave_wasm.specs.Borrowed.{texts, shown_all}
 use Rattle.wave_wasm.specs.Commas.{joined, in_parens}
 use Rattle.wave_wasm.specs.TypeText.{typed_names}
-use Rattle.wave_wasm.proofs.TextAppend.{Adding}
-use Rattle.wave_wasm.proofs.Sequence.{parted}
+use Rattle.wave_wasm.proofs.Displays.TextAppend.{Adding}
+use Rattle.wave_wasm.proofs.CanonicalText.Sequences.{parted}
 use Rattle.wave_wasm.proofs.wasm.display.push_typed_names.Given as goal
 
 abbrev pub invariant-loop-i : goal.invariant-loop-i

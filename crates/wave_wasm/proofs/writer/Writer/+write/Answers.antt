@@ -2,20 +2,19 @@ use Rattle.std.proofs.Common.{arith, ℕ, List, ap, sym, ◌∙◌, refl, Bor, B
 use Rattle.std.proofs.lemmas.Result.{err_from_is_err_and}
 use Rattle.std.specs.List.{list_all}
 use Rattle.std.specs.Str.{bytes_eq}
-use Rattle.wave_wasm.specs.Shared.Commas.{enclosed}
-use Rattle.wave_wasm.specs.Commas.{behind_name}
+use Rattle.wave_wasm.specs.Commas.{enclosed, behind_name}
 use Rattle.wave_wasm.specs.Borrowed.{shown}
 use Rattle.wave_wasm.specs.Text.{text, has_text}
 use Rattle.wave_wasm.specs.Private.Text.{payload_text, has_payload_text}
-use Rattle.wave_wasm.specs.Values.{Value, maybe_value}
-use Rattle.wave_wasm.specs.Shared.Values.{depth, depth_of_maybe, IsLeaf}
-use Rattle.wave_wasm.proofs.Writing.{writing_more, writing_refused, writing_refused_text, start_refused, start_written, writing_as, writing_none, refused_before, refused_grounded, refused_unsupported, writing_last, nothing_written}
-use Rattle.wave_wasm.proofs.Sequence.{writing_start, writing_close, item_blocks, item_passes, items_pass, part_depth, all_at, writing_front_start, writing_front, writing_front_close, front_split, front_writable, front_blocks, front_passes, last_decides, front_depth, last_depth, none_taken}
-use Rattle.wave_wasm.proofs.Trees.{map_map, all_map, list_sequence, tuple_sequence, record_is, variant_text, variant_writable, ok_text, ok_writable, err_text, err_writable, no_text_of_kind, of_list_kind}
-use Rattle.wave_wasm.proofs.NamedKinds.{leaf_of}
-use Rattle.wave_wasm.proofs.Records.{writing_field, writing_skipped, none_writable, writing_record_close}
-use Rattle.wave_wasm.proofs.Maps.{map_is, keys_are_leaves, writing_entry}
-use Rattle.wave_wasm.proofs.MergeCongruence.{keys_keep}
+use Rattle.wave_wasm.specs.Values.{Value, maybe_value, depth, depth_of_maybe}
+use Rattle.wave_wasm.specs.Private.Values.{IsLeaf}
+use Rattle.wave_wasm.proofs.CanonicalText.WrittenParts.{writing_more, writing_refused, writing_refused_text, start_refused, start_written, writing_as, writing_none, refused_before, refused_grounded, refused_unsupported, writing_last, nothing_written}
+use Rattle.wave_wasm.proofs.CanonicalText.Sequences.{writing_start, writing_close, item_blocks, item_passes, items_pass, part_depth, all_at, writing_front_start, writing_front, writing_front_close, front_split, front_writable, front_blocks, front_passes, last_decides, front_depth, last_depth, none_taken}
+use Rattle.wave_wasm.proofs.CanonicalText.ValueParts.{map_map, all_map, list_sequence, tuple_sequence, record_is, variant_text, variant_writable, ok_text, ok_writable, err_text, err_writable, no_text_of_kind, of_list_kind}
+use Rattle.wave_wasm.proofs.TypesOfValues.MatchedKinds.{leaf_of}
+use Rattle.wave_wasm.proofs.CanonicalText.Records.{writing_field, writing_skipped, none_writable, writing_record_close}
+use Rattle.wave_wasm.proofs.CanonicalText.Maps.{map_is, keys_are_leaves, writing_entry}
+use Rattle.wave_wasm.proofs.Merging.Congruence.{keys_keep}
 use Rattle.wave_wasm.proofs.writer.Writer.+write.Goals as goal
 
 -- items between a start and an end

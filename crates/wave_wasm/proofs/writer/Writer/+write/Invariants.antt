@@ -1,14 +1,12 @@
 use Rattle.std.proofs.Common.{◌≡◌, ◌++◌, ◌+◌, ◌*◌, ◌&&◌, ℕ, List, map, drop, codes}
 use Rattle.std.specs.List.{list_all}
-use Rattle.wave_wasm.specs.Shared.Commas.{enclosed}
-use Rattle.wave_wasm.specs.Commas.{behind_name}
+use Rattle.wave_wasm.specs.Commas.{enclosed, behind_name}
 use Rattle.wave_wasm.specs.Text.{text, has_text}
 use Rattle.wave_wasm.specs.Borrowed.{shown, shown_all}
-use Rattle.wave_wasm.specs.Values.{Value, maybe_value}
-use Rattle.wave_wasm.specs.Shared.Values.{depth, depth_of_maybe}
-use Rattle.wave_wasm.proofs.Writing.{Writing}
-use Rattle.wave_wasm.proofs.Sequence.{parted, fronted, depths}
-use Rattle.wave_wasm.proofs.Trees.{fields_left}
+use Rattle.wave_wasm.specs.Values.{Value, maybe_value, depth, depth_of_maybe}
+use Rattle.wave_wasm.proofs.CanonicalText.WrittenParts.{Writing}
+use Rattle.wave_wasm.proofs.CanonicalText.Sequences.{parted, fronted, depths}
+use Rattle.wave_wasm.proofs.CanonicalText.ValueParts.{fields_left}
 use Rattle.wave_wasm.proofs.writer.Writer.+write.Given as goal
 
 abbrev pub decreases-write_value : goal.decreases-write_value

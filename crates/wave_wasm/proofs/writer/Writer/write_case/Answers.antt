@@ -1,7 +1,7 @@
 use Rattle.std.proofs.Common.{refl}
 use Rattle.std.proofs.lemmas.Result.{err_from_is_err_and}
-use Rattle.wave_wasm.proofs.Labels.{keyword_labelled, name_labelled}
-use Rattle.wave_wasm.proofs.Writing.{start_refused, start_written, writing_last}
+use Rattle.wave_wasm.proofs.CanonicalText.Labels.{keyword_labelled, name_labelled}
+use Rattle.wave_wasm.proofs.CanonicalText.WrittenParts.{start_refused, start_written, writing_last}
 use Rattle.wave_wasm.proofs.writer.Writer.write_case.Goals as goal
 
 pub returns-in_err-write_text-in-Some : goal.returns-in_err-write_text-in-Some

@@ -1,8 +1,8 @@
 use Rattle.std.proofs.Common.{ap, ◌∙◌, List, ℕ, Bor, [], ◌∷◌, map, get_or}
 use Rattle.std.proofs.lemmas.Result.{err_from_is_err_and}
-use Rattle.wave_wasm.proofs.Writing.{writing_more, writing_refused_text, writing_last, start_refused, refused_before}
-use Rattle.wave_wasm.proofs.Sequence.{item_again, writing_start, writing_item, writing_close}
-use Rattle.wave_wasm.proofs.Flags.{flags_text, flags_writable}
+use Rattle.wave_wasm.proofs.CanonicalText.WrittenParts.{writing_more, writing_refused_text, writing_last, start_refused, refused_before}
+use Rattle.wave_wasm.proofs.CanonicalText.Sequences.{item_again, writing_start, writing_item, writing_close}
+use Rattle.wave_wasm.proofs.CanonicalText.Flags.{flags_text, flags_writable}
 use Rattle.wave_wasm.proofs.writer.Writer.write_flags.Goals as goal
 
 pub returns-in_err-write_text : goal.returns-in_err-write_text

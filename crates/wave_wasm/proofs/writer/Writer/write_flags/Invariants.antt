@@ -1,7 +1,7 @@
 use Rattle.std.proofs.Common.{◌++◌, map, drop, codes}
 use Rattle.wave_wasm.specs.Text.{text}
-use Rattle.wave_wasm.proofs.Writing.{Writing}
-use Rattle.wave_wasm.proofs.Sequence.{parted}
+use Rattle.wave_wasm.proofs.CanonicalText.WrittenParts.{Writing}
+use Rattle.wave_wasm.proofs.CanonicalText.Sequences.{parted}
 use Rattle.wave_wasm.proofs.writer.Writer.write_flags.Given as goal
 
 abbrev pub invariant-loop-name : goal.invariant-loop-name

@@ -1,8 +1,8 @@
 use Rattle.std.proofs.Common.{◌<◌, ◌^◌, ap, arith, refl, take, drop}
 use Rattle.std.proofs.Math.Utf8.{encodes}
 use Rattle.std.proofs.lemmas.Result.{err_from_is_err_and}
-use Rattle.wave_wasm.proofs.NumberEscapes.{escape_start, escape_next}
-use Rattle.wave_wasm.proofs.Writing.{writing_as, writing_more, writing_refused_text, all_written}
+use Rattle.wave_wasm.proofs.Escapes.NumberEscapes.{escape_start, escape_next}
+use Rattle.wave_wasm.proofs.CanonicalText.WrittenParts.{writing_as, writing_more, writing_refused_text, all_written}
 use Rattle.wave_wasm.proofs.writer.Writer.write_number_escape.Goals as goal
 
 pub loop-part-init : goal.loop-part-init

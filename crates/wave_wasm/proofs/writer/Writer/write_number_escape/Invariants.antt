@@ -2,7 +2,7 @@ use Rattle.std.proofs.Common.{◌≤◌}
 use Rattle.std.proofs.Math.Utf8.{encodes}
 use Rattle.std.specs.Char.Iter.{escape_rest, escape_end}
 use Rattle.wave_wasm.specs.Private.Text.{number_escape}
-use Rattle.wave_wasm.proofs.Writing.{Writing}
+use Rattle.wave_wasm.proofs.CanonicalText.WrittenParts.{Writing}
 use Rattle.wave_wasm.proofs.writer.Writer.write_number_escape.Given as goal
 
 abbrev pub invariant-loop-part : goal.invariant-loop-part

@@ -1,6 +1,6 @@
 use Rattle.std.proofs.Common.{◌++◌, List, ℕ, refl, ap, codes}
 use Rattle.std.proofs.lemmas.Result.{err_from_is_err_and}
-use Rattle.wave_wasm.proofs.Writing.{writing_more, writing_refused_text, writing_last, start_refused, start_written}
+use Rattle.wave_wasm.proofs.CanonicalText.WrittenParts.{writing_more, writing_refused_text, writing_last, start_refused, start_written}
 use Rattle.wave_wasm.proofs.writer.Writer.write_plain_string.Goals as goal
 
 pub returns-in_err-write_text : goal.returns-in_err-write_text

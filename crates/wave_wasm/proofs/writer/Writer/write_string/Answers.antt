@@ -1,7 +1,7 @@
 use Rattle.std.proofs.Common.{refl}
 use Rattle.std.proofs.lemmas.Result.{err_from_is_err_and}
-use Rattle.wave_wasm.proofs.Runs.{running_start, running_plain, running_written, running_again, running_end}
-use Rattle.wave_wasm.proofs.Writing.{writing_more, writing_refused_text, writing_last, start_refused, start_written}
+use Rattle.wave_wasm.proofs.Escapes.StringRuns.{running_start, running_plain, running_written, running_again, running_end}
+use Rattle.wave_wasm.proofs.CanonicalText.WrittenParts.{writing_more, writing_refused_text, writing_last, start_refused, start_written}
 use Rattle.wave_wasm.proofs.writer.Writer.write_string.Goals as goal
 
 pub returns-in_err-write_text : goal.returns-in_err-write_text

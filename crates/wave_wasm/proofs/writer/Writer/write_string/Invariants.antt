@@ -1,5 +1,5 @@
 use Rattle.std.specs.Str.Iter.{char_indices_rest, char_indices_offset}
-use Rattle.wave_wasm.proofs.Runs.{Running}
+use Rattle.wave_wasm.proofs.Escapes.StringRuns.{Running}
 use Rattle.wave_wasm.proofs.writer.Writer.write_string.Given as goal
 
 abbrev pub invariant-loop-at : goal.invariant-loop-at

@@ -1,9 +1,9 @@
 use Rattle.std.proofs.Common.{ℕ, List, drop, refl, sym, subst, ◌∙◌, Some, None}
 use Rattle.wave_lex.specs.LongestMatch.{Greatest, IsPrefixOf}
 use Rattle.wave_lex.specs.Tokens.{function_name, any}
-use Rattle.wave_lex.proofs.LongestMatch.{front_positive}
-use Rattle.wave_lex.proofs.Scanning.{front_boundary}
-use Rattle.wave_lex.proofs.Tokenization.{stands_behind, first_scalar, less_behind}
+use Rattle.wave_lex.proofs.LongestPrefix.ByComputing.{front_positive}
+use Rattle.wave_lex.proofs.LongestPrefix.MachineWalks.{front_boundary}
+use Rattle.wave_lex.proofs.Tokenization.LexerSteps.{stands_behind, first_scalar, less_behind}
 use Rattle.wave_lex.proofs.lex.func_name.FuncNameLexerIterator.next.Goals as goal
 
 pub invariant_of-self : goal.invariant_of-self

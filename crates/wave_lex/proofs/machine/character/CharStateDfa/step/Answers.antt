@@ -1,4 +1,4 @@
-use Rattle.wave_lex.proofs.Machines.{character_steps}
+use Rattle.wave_lex.proofs.Machines.Steps.{character_steps}
 use Rattle.wave_lex.proofs.machine.character.CharStateDfa.step.Goals as goal
 
 pub returns : goal.returns

@@ -1,4 +1,4 @@
-use Rattle.wave_lex.proofs.Machines.{gap_steps}
+use Rattle.wave_lex.proofs.Machines.Steps.{gap_steps}
 use Rattle.wave_lex.proofs.machine.gap.GapStateDfa.step.Goals as goal
 
 pub returns : goal.returns

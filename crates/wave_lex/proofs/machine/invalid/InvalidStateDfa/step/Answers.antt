@@ -1,4 +1,4 @@
-use Rattle.wave_lex.proofs.Machines.{invalid_steps}
+use Rattle.wave_lex.proofs.Machines.Steps.{invalid_steps}
 use Rattle.wave_lex.proofs.machine.invalid.InvalidStateDfa.step.Goals as goal
 
 pub returns : goal.returns

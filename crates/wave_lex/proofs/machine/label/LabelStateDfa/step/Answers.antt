@@ -1,4 +1,4 @@
-use Rattle.wave_lex.proofs.Machines.{label_steps}
+use Rattle.wave_lex.proofs.Machines.Steps.{label_steps}
 use Rattle.wave_lex.proofs.machine.label.LabelStateDfa.step.Goals as goal
 
 pub returns : goal.returns

@@ -1,4 +1,4 @@
-use Rattle.wave_lex.proofs.Machines.{label_token_steps}
+use Rattle.wave_lex.proofs.Machines.Steps.{label_token_steps}
 use Rattle.wave_lex.proofs.machine.label.LabelTokenStateDfa.step.Goals as goal
 
 pub returns : goal.returns

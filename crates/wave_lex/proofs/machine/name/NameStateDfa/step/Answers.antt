@@ -1,4 +1,4 @@
-use Rattle.wave_lex.proofs.NameMachine.{name_steps}
+use Rattle.wave_lex.proofs.Machines.FunctionNames.{name_steps}
 use Rattle.wave_lex.proofs.machine.name.NameStateDfa.step.Goals as goal
 
 pub returns : goal.returns

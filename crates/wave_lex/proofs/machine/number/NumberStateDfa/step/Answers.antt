@@ -1,4 +1,4 @@
-use Rattle.wave_lex.proofs.Machines.{number_steps}
+use Rattle.wave_lex.proofs.Machines.Steps.{number_steps}
 use Rattle.wave_lex.proofs.machine.number.NumberStateDfa.step.Goals as goal
 
 pub returns : goal.returns

@@ -1,4 +1,4 @@
-use Rattle.wave_lex.proofs.Machines.{string_steps}
+use Rattle.wave_lex.proofs.Machines.Steps.{string_steps}
 use Rattle.wave_lex.proofs.machine.string.StringStateDfa.step.Goals as goal
 
 pub returns : goal.returns

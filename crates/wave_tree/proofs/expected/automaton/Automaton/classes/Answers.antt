@@ -1,6 +1,6 @@
 use Rattle.std.proofs.Common.{arith}
 use Rattle.wave_lex.specs.declared.lex.Token.TheVariants.{BraceOpen}
-use Rattle.wave_tree.proofs.ClassList.{none_pass, next_passes, passing, each}
+use Rattle.wave_tree.proofs.ExpectedTokens.ClassList.{none_pass, next_passes, passing, each}
 use Rattle.wave_tree.proofs.expected.automaton.Automaton.classes.Goals as goal
 
 pub loop-class-init : goal.loop-class-init

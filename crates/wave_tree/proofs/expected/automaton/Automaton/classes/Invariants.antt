@@ -1,6 +1,6 @@
 use Rattle.std.proofs.Common.{◌-◌, length, take}
 use Rattle.wave_tree.specs.Private.Moves.{innermost, stack_of, may_stand}
-use Rattle.wave_tree.proofs.ClassList.{ArePassing, each}
+use Rattle.wave_tree.proofs.ExpectedTokens.ClassList.{ArePassing, each}
 use Rattle.wave_tree.proofs.expected.automaton.Automaton.classes.Given as goal
 
 abbrev pub invariant-loop-class : goal.invariant-loop-class

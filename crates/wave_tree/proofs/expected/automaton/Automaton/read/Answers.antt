@@ -1,6 +1,6 @@
 use Rattle.std.proofs.Common.{subst, None, Some}
 use Rattle.wave_tree.specs.Private.Prefixes.{IsNoted}
-use Rattle.wave_tree.proofs.Following.{same_move, after_none, after_repeated, after_move}
+use Rattle.wave_tree.proofs.ExpectedTokens.AutomatonSteps.{same_move, after_none, after_repeated, after_move}
 use Rattle.wave_tree.proofs.expected.automaton.Automaton.read.Goals as goal
 
 pub returns-in_default-clause-after : goal.returns-in_default-clause-after

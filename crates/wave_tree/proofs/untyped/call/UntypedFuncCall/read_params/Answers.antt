@@ -6,7 +6,7 @@ use Rattle.wave_tree.specs.UntypedCall.{Called}
 use Rattle.wave_lex.specs.Errors.{LiesInText}
 use Rattle.wave_grammar.specs.ErrorSpans.{IsCausedInParams}
 use Rattle.wave_grammar.proofs.ErrorSpans.Nodes.{all_at_text, all_at_cause}
-use Rattle.wave_tree.proofs.CallReading.{all_kind}
+use Rattle.wave_tree.proofs.TextReading.Calls.{all_kind}
 use Rattle.wave_tree.proofs.untyped.call.UntypedFuncCall.read_params.Goals as goal
 
 pub returns-in-None-clause-within : goal.returns-in-None-clause-within

@@ -3,7 +3,7 @@ use Rattle.wave_wasm.specs.Types.{TypeTree}
 use Rattle.wave_wasm.specs.Borrowed.{shown_all}
 use Rattle.wave_tree.specs.UntypedCall.{GivesParamsAt}
 use Rattle.wave_grammar.specs.ErrorSpans.{IsTypeKind}
-use Rattle.wave_tree.proofs.CallReading.{memory_refuses, params_in_text}
+use Rattle.wave_tree.proofs.TextReading.Calls.{memory_refuses, params_in_text}
 use Rattle.wave_tree.proofs.untyped.call.UntypedFuncCall.to_func_params.Goals as goal
 
 pub returns-in-Err-clause-refused : goal.returns-in-Err-clause-refused

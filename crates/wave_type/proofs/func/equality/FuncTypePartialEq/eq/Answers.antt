@@ -1,4 +1,4 @@
-use Rattle.wave_type.proofs.Parts.{first_tell, second_tell}
+use Rattle.wave_type.proofs.TypeTexts.FunctionParts.{first_tell, second_tell}
 use Rattle.wave_type.proofs.func.equality.FuncTypePartialEq.eq.Goals as goal
 
 pub returns-then-eq : goal.returns-then-eq

@@ -2,7 +2,7 @@ use Rattle.std.proofs.Common.{ap, ◌∙◌}
 use Rattle.std.specs.Option.{is_some}
 use Rattle.std.specs.Str.{bytes_eq}
 use Rattle.wave_wasm.specs.Types.{enum_names}
-use Rattle.wave_type.proofs.FoundPlaces.{is_some-position}
+use Rattle.wave_type.proofs.DistinctNames.FoundPlaces.{is_some-position}
 use Rattle.wave_type.proofs.ty.parts.TypeWasmType.has_enum_case.Goals as goal
 
 pub returns : goal.returns

@@ -3,7 +3,7 @@ use Rattle.std.specs.List.{find, position}
 use Rattle.std.specs.Option.{option_map}
 use Rattle.std.specs.Str.{bytes_eq}
 use Rattle.wave_wasm.specs.Types.{TypeTree, variant_parts}
-use Rattle.wave_type.proofs.FoundPlaces.{find-position}
+use Rattle.wave_type.proofs.DistinctNames.FoundPlaces.{find-position}
 use Rattle.wave_type.proofs.ty.parts.TypeWasmType.variant_case.Goals as goal
 
 -- the case at the place of the name, where it has one

@@ -1,6 +1,6 @@
 use Rattle.std.proofs.Common.{Bool, false, Option, ap, ◌∙◌}
 use Rattle.std.specs.Prelude.{unwrap_or}
-use Rattle.wave_value.proofs.MadeFlags.{marked_more, marked_all, name_refused}
+use Rattle.wave_value.proofs.ConstructorAnswers.Flags.{marked_more, marked_all, name_refused}
 use Rattle.wave_value.proofs.value.checked.cases.check_marked.Goals as goal
 
 pub loop-name-preserved : goal.loop-name-preserved

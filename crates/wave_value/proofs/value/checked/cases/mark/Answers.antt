@@ -1,5 +1,5 @@
 use Rattle.std.proofs.Common.{rules, true}
-use Rattle.wave_value.proofs.MadeFlags.{marks_there, marks_absent}
+use Rattle.wave_value.proofs.ConstructorAnswers.Flags.{marks_there, marks_absent}
 use Rattle.wave_value.proofs.value.checked.cases.mark.Goals as goal
 
 pub returns-in-Some : goal.returns-in-Some

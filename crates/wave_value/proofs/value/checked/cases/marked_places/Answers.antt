@@ -4,7 +4,7 @@ use Rattle.std.proofs.lemmas.Result.{err_from_is_err_and}
 use Rattle.wave_wasm.specs.Names.{AreAllOf}
 use Rattle.wave_wasm.specs.Borrowed.{texts}
 use Rattle.wave_value.specs.CaseRules.{RefusesNames}
-use Rattle.wave_value.proofs.MadeFlags.{PlacesSoFar, marks_more, place_found, place_passed, places_end}
+use Rattle.wave_value.proofs.ConstructorAnswers.Flags.{PlacesSoFar, marks_more, place_found, place_passed, places_end}
 use Rattle.wave_value.proofs.value.checked.cases.marked_places.Goals as goal
 
 pub loop-i-preserved : goal.loop-i-preserved

@@ -1,7 +1,7 @@
 use Rattle.std.proofs.Common.{take}
 use Rattle.wave_wasm.specs.Borrowed.{texts}
 use Rattle.wave_value.specs.Private.CaseRules.{MarksNames}
-use Rattle.wave_value.proofs.MadeFlags.{PlacesSoFar}
+use Rattle.wave_value.proofs.ConstructorAnswers.Flags.{PlacesSoFar}
 use Rattle.wave_value.proofs.value.checked.cases.marked_places.Given as goal
 
 abbrev pub invariant-loop-i : goal.invariant-loop-i

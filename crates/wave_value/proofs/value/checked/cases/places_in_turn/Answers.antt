@@ -1,8 +1,8 @@
 use Rattle.std.proofs.Common.{◌≤◌, ◌+◌, Some, sym, subst, ◌∙◌}
 use Rattle.wave_wasm.specs.Types.{flags_names}
 use Rattle.wave_value.specs.Private.CaseRules.{behind}
-use Rattle.wave_value.proofs.LawfulCases.{names_distinct}
-use Rattle.wave_value.proofs.FlagsInTurn.{PlacesInTurn, next_place, all_in_turn}
+use Rattle.wave_value.proofs.Lawful.VariantsFlagsMaps.{names_distinct}
+use Rattle.wave_value.proofs.TypedParts.FlagsInTurn.{PlacesInTurn, next_place, all_in_turn}
 use Rattle.wave_value.proofs.value.checked.cases.places_in_turn.Goals as goal
 
 pub loop-name-preserved : goal.loop-name-preserved

@@ -1,5 +1,5 @@
 use Rattle.wave_wasm.specs.Types.{flags_names}
-use Rattle.wave_value.proofs.FlagsInTurn.{PlacesInTurn}
+use Rattle.wave_value.proofs.TypedParts.FlagsInTurn.{PlacesInTurn}
 use Rattle.wave_value.proofs.value.checked.cases.places_in_turn.Given as goal
 
 abbrev pub invariant-loop-name : goal.invariant-loop-name

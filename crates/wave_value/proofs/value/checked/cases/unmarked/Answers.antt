@@ -1,4 +1,4 @@
-use Rattle.wave_value.proofs.MadeFlags.{key_more}
+use Rattle.wave_value.proofs.ConstructorAnswers.Flags.{key_more}
 use Rattle.wave_value.proofs.value.checked.cases.unmarked.Goals as goal
 
 pub loop-name-preserved : goal.loop-name-preserved

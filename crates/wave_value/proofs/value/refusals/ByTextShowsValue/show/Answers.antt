@@ -1,7 +1,7 @@
 use Rattle.std.proofs.Common.{rules, subst}
-use Rattle.wave_wasm.proofs.Writable.{only_memory, writes}
+use Rattle.wave_wasm.proofs.CanonicalText.Writable.{only_memory, writes}
 use Rattle.wave_value.specs.TypedValue.{IsTyped}
-use Rattle.wave_value.proofs.ValueMeans.{means}
+use Rattle.wave_value.proofs.ValueModel.ContentMeaning.{means}
 use Rattle.wave_value.proofs.value.refusals.ByTextShowsValue.show.Goals as goal
 
 pub unreachable-requires : goal.unreachable-requires

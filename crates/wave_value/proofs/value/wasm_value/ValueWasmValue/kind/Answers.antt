@@ -1,7 +1,7 @@
 use Rattle.std.proofs.Common.{subst}
 use Rattle.wave_value.specs.TypedValue.{IsTyped}
-use Rattle.wave_value.proofs.Lawful.{well_formed}
-use Rattle.wave_value.proofs.ValueMeans.{means}
+use Rattle.wave_value.proofs.Lawful.Values.{well_formed}
+use Rattle.wave_value.proofs.ValueModel.ContentMeaning.{means}
 use Rattle.wave_value.proofs.value.wasm_value.ValueWasmValue.kind.Goals as goal
 
 pub returns-clause-formed : goal.returns-clause-formed

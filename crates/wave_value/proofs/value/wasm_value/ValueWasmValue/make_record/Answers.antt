@@ -5,7 +5,7 @@ use Rattle.wave_value.specs.FullTypes.{IsFull}
 use Rattle.wave_value.specs.RecordConstructor.{RefusesRecord}
 use Rattle.wave_value.specs.ConstructorRules.{own_text}
 use Rattle.wave_value.specs.TypedValue.{IsAt}
-use Rattle.wave_value.proofs.LawfulRecord.{full_record}
+use Rattle.wave_value.proofs.Lawful.Records.{full_record}
 use Rattle.wave_value.proofs.value.wasm_value.ValueWasmValue.make_record.Goals as goal
 
 pub returns-clause-full : goal.returns-clause-full

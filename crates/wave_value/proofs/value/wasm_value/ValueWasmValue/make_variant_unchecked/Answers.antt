@@ -1,6 +1,6 @@
 use Rattle.std.proofs.Common.{sym}
 use Rattle.wave_value.specs.ConstructorRules.{own_text}
-use Rattle.wave_value.proofs.LawfulCases.{full_variant}
+use Rattle.wave_value.proofs.Lawful.VariantsFlagsMaps.{full_variant}
 use Rattle.wave_value.proofs.value.wasm_value.ValueWasmValue.make_variant_unchecked.Goals as goal
 
 pub returns-clause-full : goal.returns-clause-full

@@ -1,0 +1,3 @@
+pub mod MachineWalks
+pub mod LongestSoFar
+pub mod ByComputing

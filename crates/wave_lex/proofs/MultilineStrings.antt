@@ -1,0 +1,4 @@
+pub mod FirstThreeQuotes
+pub mod QuotesFound
+pub mod Lines
+pub mod JoinedLines

@@ -1,0 +1,4 @@
+pub mod Prefixes
+pub mod ByteRuns
+pub mod EscapeRuns
+pub mod WordRuns

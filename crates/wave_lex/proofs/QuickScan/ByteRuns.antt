@@ -1,0 +1,351 @@
+-- The bytes that leave a machine in its state, and marks.
+use Rattle.std.proofs.Common.{◌≡◌, ℕ, ◌≤◌, ◌<◌, ◌+◌, ◌-◌, Bool, true, false, nat_eq, zero, suc, List, [], ◌∷◌, ◌++◌, ◌⊎◌, inl, inr, refl, sym, ap, subst, ◌∙◌, length, take, drop, arith, get_or, Option, Some, None, unwrap_or, length-take-le, get_or-take, get_or-drop}
+use Rattle.std.specs.Prelude.{◌≢◌, not, if◌then◌else◌, encode_utf8, encode_utf8_all}
+use Rattle.std.specs.Str.{IsUtf8}
+use Rattle.std.proofs.lemmas.Bool.{cases_lt}
+use Rattle.std.proofs.lemmas.Bool.Decides.{nat_tests}
+use Rattle.std.proofs.Math.Seq.{get_or-append_right}
+use Rattle.std.proofs.lemmas.Str.{encode_ascii}
+use Rattle.std.specs.Str.{IsCharBoundary}
+use Rattle.std.proofs.Common.{length-append, length-drop}
+use Rattle.memchr.specs.Find.{IsFirstByte, is_byte3}
+use Rattle.wave_lex.specs.Regex.{Regex, nothing, empty, is_within}
+use Rattle.wave_lex.specs.Derive.{nullable, derivative, derivative_by, after_next}
+use Rattle.wave_lex.specs.LongestMatch.{Greatest, IsPrefixOf}
+use Rattle.wave_lex.specs.Tokens.{one, string, gap, number, label_or_keyword}
+use Rattle.wave_lex.specs.Private.Reading.{LeadsTo, IsPlainRun}
+use Rattle.wave_lex.specs.Private.Machines.{is_blank, is_plain, ends_whole, gap_step, gap_rest}
+use Rattle.wave_lex.specs.Machines.{is_digit, is_lower, number_step, number_rest, label_step, label_token_step, label_token_rest, in_token, string_step, string_rest}
+use Rattle.wave_lex.specs.declared.machine.number.NumberState.{NumberState}
+use Rattle.wave_lex.specs.declared.machine.number.NumberState.TheVariants as n
+use Rattle.wave_lex.specs.declared.machine.label.LabelState.{LabelState}
+use Rattle.wave_lex.specs.declared.machine.label.LabelState.TheVariants as l
+use Rattle.wave_lex.specs.declared.machine.label.LabelTokenState.{LabelTokenState}
+use Rattle.wave_lex.specs.declared.machine.label.LabelTokenState.TheVariants as token
+use Rattle.wave_lex.specs.declared.machine.gap.GapState.{GapState}
+use Rattle.wave_lex.specs.declared.machine.gap.GapState.TheVariants as gap
+use Rattle.wave_lex.specs.declared.machine.escape.EscapeState.TheVariants as escape
+use Rattle.wave_lex.specs.declared.machine.string.StringState.{StringState}
+use Rattle.wave_lex.specs.declared.machine.string.StringState.TheVariants as string
+use Rattle.wave_lex.proofs.LongestPrefix.MachineWalks.{after_all_append, after_all_nothing}
+use Rattle.wave_lex.proofs.Machines.Steps.{gap_steps, number_steps, label_token_steps, string_steps}
+use Rattle.wave_lex.proofs.QuickScan.Prefixes.{front_behind, PassesNone, behind_run, ascii_leads, run_stays, run_leads, run_ends}
+
+-- ---- blanks
+
+pub blank_ascii : (b : ℕ) → is_blank b ≡ true → b < 128
+blank_ascii b e = grind (arith, nat_tests)
+
+pub blank_stays : (b : ℕ) → is_blank b ≡ true → derivative b (gap_rest gap.Start) ≡ gap_rest gap.Start
+blank_stays b e =
+    gap_steps gap.Start b ∙ ap (λ (z : Bool). after_next GapState gap_rest (if z then Some gap.Start else (if nat_eq b 47 then Some gap.Slash else None))) e
+
+-- ---- digits
+
+pub digit_ascii : (b : ℕ) → is_digit b ≡ true → b < 128
+digit_ascii b e = grind (arith, nat_tests)
+
+digit_steps : (b : ℕ) → is_digit b ≡ true → number_step n.Whole b ≡ Some n.Whole
+digit_steps b e = grind (arith, nat_tests)
+
+pub digit_stays : (b : ℕ) → is_digit b ≡ true → derivative b (number_rest n.Whole) ≡ number_rest n.Whole
+digit_stays b e = number_steps n.Whole b ∙ ap (after_next NumberState number_rest) (digit_steps b e)
+
+digit_begins : (b : ℕ) → is_digit b ≡ true → b ≢ 48 → number_step n.Start b ≡ Some n.Whole
+digit_begins b e f = grind (arith, nat_tests)
+
+pub digit_first : (b : ℕ) → is_digit b ≡ true → b ≢ 48 → derivative b (number_rest n.Start) ≡ number_rest n.Whole
+digit_first b e f = number_steps n.Start b ∙ ap (after_next NumberState number_rest) (digit_begins b e f)
+
+-- ---- lower-case letters and digits
+
+pub lower_ascii : (b : ℕ) → is_lower b ≡ true → b < 128
+lower_ascii b e = grind (arith, nat_tests)
+
+pub lower_stays : (b : ℕ) → is_lower b ≡ true → derivative b (label_token_rest (token.Label l.Lower)) ≡ label_token_rest (token.Label l.Lower)
+lower_stays b e =
+    label_token_steps (token.Label l.Lower) b
+    ∙ ap (λ (z : Bool). after_next LabelTokenState label_token_rest (in_token (if z then Some l.Lower else (if nat_eq b 45 then Some l.Hyphen else None)))) e
+
+pub lower_begins : (b : ℕ) → is_lower b ≡ true → is_digit b ≡ false → (nat_eq b 37 ≡ false) × (is_within 97 122 b ≡ true)
+lower_begins b e f = (grind (arith, nat_tests), grind (arith, nat_tests))
+
+lower_begins_label : (b : ℕ) (x y : Bool) → nat_eq b 37 ≡ x → x ≡ false → is_within 97 122 b ≡ y → y ≡ true → label_token_step token.Start b ≡ Some (token.Label l.Lower)
+lower_begins_label b x y ex fx ey fy = rw (ex ∙ fx, ey ∙ fy) refl
+
+pub lower_first : (b : ℕ) → is_lower b ≡ true → is_digit b ≡ false → derivative b (label_token_rest token.Start) ≡ label_token_rest (token.Label l.Lower)
+lower_first b e f =
+    let w = lower_begins b e f in
+    label_token_steps token.Start b ∙ ap (after_next LabelTokenState label_token_rest) (lower_begins_label b _ _ refl w.0 refl w.1)
+
+-- ---- plain bytes
+
+plain_steps : (c : ℕ) → is_plain c ≡ true → string_step string.Inside c ≡ Some string.Inside
+plain_steps c e = grind (arith, nat_tests)
+
+plain_past : (c : ℕ) → 128 ≤ c → is_plain c ≡ true
+plain_past c h = grind (arith, nat_tests)
+
+plain_one : (c : ℕ) → is_plain c ≡ true → derivative c (string_rest string.Inside) ≡ string_rest string.Inside
+plain_one c e = string_steps string.Inside c ∙ ap (after_next StringState string_rest) (plain_steps c e)
+
+-- each byte is plain
+abbrev pub ArePlain : List ℕ → Type 0
+ArePlain s = (i : ℕ) → i < length s → is_plain (get_or s i 0) ≡ true
+
+-- a scalar of plain bytes leaves a string as it is
+plain_scalar : (c : ℕ) (t : List ℕ) → ArePlain (encode_utf8 c ++ t) → derivative c (string_rest string.Inside) ≡ string_rest string.Inside
+plain_scalar c t h = plain_one c (elim (cases_lt c 128) as (λ _. is_plain c ≡ true) [
+  | inr l ↦ plain_past c (omega arith)
+  | inl l ↦ let one_byte : encode_utf8 c ++ t ≡ c ∷ t = ap (λ (z : List ℕ). z ++ t) (encode_ascii c l) in
+      let there : ArePlain (c ∷ t) = subst ArePlain one_byte h in
+      there 0 (omega arith)
+])
+
+-- what is after some plain bytes is plain
+plain_behind : (x t : List ℕ) → ArePlain (x ++ t) → ArePlain t
+plain_behind x t h = λ i l.
+    let long : length (x ++ t) ≡ length x + length t = length-append x t in
+    let less : length x + i < length (x ++ t) = omega arith in
+    let past : length x ≤ length x + i = omega arith in
+    let back : length x + i - length x ≡ i = omega arith in
+    sym (ap is_plain (get_or-append_right x t (length x + i) 0 past ∙ ap (λ (z : ℕ). get_or t z 0) back)) ∙ h (length x + i) less
+
+-- plain bytes leave a string as it is
+pub plains_stay : (ds : List ℕ) → ArePlain (encode_utf8_all ds) → derivative_by ds (string_rest string.Inside) ≡ string_rest string.Inside
+plains_stay [] h = refl
+plains_stay (d ∷ ds) h =
+    ap (λ (z : Regex). derivative_by ds z) (plain_scalar d (encode_utf8_all ds) h) ∙ plains_stay ds (plain_behind (encode_utf8 d) (encode_utf8_all ds) h)
+
+-- a list is its first number and the others
+first_and_others : (s : List ℕ) (n b : ℕ) → 0 < length s → get_or s 0 0 ≡ b → take (suc n) s ≡ b ∷ take n (drop 1 s)
+first_and_others [] n b l e = let w : ⊥ = omega arith in absurd w
+first_and_others (a ∷ s) n b l e = ap (λ (z : ℕ). z ∷ take n s) e
+
+-- the first of a list and the next ones are plain
+plain_cons : (b : ℕ) (s : List ℕ) → is_plain b ≡ true → ArePlain s → ArePlain (b ∷ s)
+plain_cons b s e h zero l = e
+plain_cons b s e h (suc i) l = h i (omega arith)
+
+-- the first n of a list are plain
+pub plain_taken : (s : List ℕ) (n : ℕ) → n ≤ length s → ((i : ℕ) → i < n → is_plain (get_or s i 0) ≡ true) → ArePlain (take n s)
+plain_taken s zero l h = λ i k. let w : ⊥ = omega arith in absurd w
+plain_taken [] (suc n) l h = λ i k. let w : ⊥ = omega arith in absurd w
+plain_taken (b ∷ s) (suc n) l h = plain_cons b (take n s) (h 0 (omega arith)) (plain_taken s n (omega arith) (λ j m. h (suc j) (omega arith)))
+
+-- what is not plain is ASCII
+pub not_plain_ascii : (c : ℕ) → is_plain c ≡ false → c < 128
+not_plain_ascii c e = grind (arith, nat_tests)
+
+-- what a search for the three others passes is plain
+passed_plain : (c : ℕ) → ¬ (is_byte3 34 92 10 c ≡ true) → is_plain c ≡ true
+passed_plain c h = by_test (is_byte3 34 92 10 c) refl
+  where
+    by_test : (t : Bool) → is_byte3 34 92 10 c ≡ t → is_plain c ≡ true
+    by_test true e = absurd (h e)
+    by_test false e = ap not e
+
+-- the run that a search for the three others ends
+pub plain_found : (s : List ℕ) (o : Option ℕ) → IsFirstByte (is_byte3 34 92 10) s o → IsPlainRun s (unwrap_or o (length s))
+plain_found s None h = record { within = omega arith; all = λ i l. passed_plain (get_or s i 0) (h i (omega arith) l); stops = λ l. let w : ⊥ = omega arith in absurd w }
+plain_found s (Some k) (first, there) = record {
+  within = omega (arith, first.high);
+  all = λ i l. passed_plain (get_or s i 0) (first.before i (omega arith) l);
+  stops = λ l. ap not there;
+}
+
+-- the run that ends within the first k bytes
+pub plain_first : (s t : List ℕ) (k n : ℕ) → k ≤ length s → t ≡ take k s → n < k → IsPlainRun t n → IsPlainRun s n
+plain_first s t k n fits e less run =
+    let long : length t ≡ k = ap length e ∙ length-take-le k s fits in
+    let same : (i : ℕ) → i < k → get_or t i 0 ≡ get_or s i 0 = λ i l. ap (λ (z : List ℕ). get_or z i 0) e ∙ get_or-take k s i 0 l in
+    record {
+      within = omega arith;
+      all = λ i l. sym (ap is_plain (same i (omega arith))) ∙ run.all i l;
+      stops = λ l. sym (ap is_plain (same n less)) ∙ run.stops (omega arith);
+    }
+
+-- the run that goes on after the first k bytes
+pub plain_joined : (s t u : List ℕ) (k n m : ℕ) → k ≤ length s → t ≡ take k s → u ≡ drop k s → k ≤ n → IsPlainRun t n → IsPlainRun u m → IsPlainRun s (k + m)
+plain_joined s t u k n m fits e f all run rest =
+    let long : length u ≡ length s - k = ap length f ∙ length-drop k s in
+    let inside : m ≤ length u = rest.within in
+    let front : (i : ℕ) → i < k → get_or t i 0 ≡ get_or s i 0 = λ i l. ap (λ (z : List ℕ). get_or z i 0) e ∙ get_or-take k s i 0 l in
+    let behind : (i : ℕ) → get_or u i 0 ≡ get_or s (k + i) 0 = λ i. ap (λ (z : List ℕ). get_or z i 0) f ∙ get_or-drop k s i 0 in
+    record {
+      within = omega arith;
+      all = λ i l. elim (cases_lt i k) as (λ _. is_plain (get_or s i 0) ≡ true) [
+        | inl less ↦ sym (ap is_plain (front i less)) ∙ run.all i (omega arith)
+        | inr more ↦ let same : k + (i - k) ≡ i = omega arith in
+            sym (ap is_plain (behind (i - k) ∙ ap (λ (z : ℕ). get_or s z 0) same)) ∙ rest.all (i - k) (omega arith)
+      ];
+      stops = λ l. sym (ap is_plain (behind m)) ∙ rest.stops (omega arith);
+    }
+
+-- ---- after a string
+
+-- after some scalars a string has ended badly, or stands in a state
+abbrev Goes : List ℕ → Regex → Type 0
+Goes x r = (derivative_by x r ≡ nothing) ⊎ ((p : StringState) × (derivative_by x r ≡ string_rest p))
+
+-- where a string goes after one scalar more
+goes_on : (c : ℕ) (x : List ℕ) (r : Regex) (o : Option StringState) → derivative c r ≡ after_next StringState string_rest o → ((p : StringState) → Goes x (string_rest p)) → Goes (c ∷ x) r
+goes_on c x r None e h = inl (ap (λ (z : Regex). derivative_by x z) e ∙ after_all_nothing x)
+goes_on c x r (Some p) e h = elim (h p) as (λ _. Goes (c ∷ x) r) [
+  | inl k ↦ inl (ap (λ (z : Regex). derivative_by x z) e ∙ k)
+  | inr k ↦ inr (k.0, ap (λ (z : Regex). derivative_by x z) e ∙ k.1)
+]
+
+-- the state of a string after some scalars
+string_goes : (x : List ℕ) (q : StringState) → Goes x (string_rest q)
+string_goes [] q = inr (q, refl)
+string_goes (c ∷ x) q = goes_on c x (string_rest q) (string_step q c) (string_steps q c) (string_goes x)
+
+-- only after its last quote a string may end
+string_ends : (q : StringState) → nullable (string_rest q) ≡ true → string_rest q ≡ empty
+string_ends string.Start e = cc
+string_ends string.Inside e = cc
+string_ends string.Close e = refl
+string_ends (string.Escape escape.Backslash) e = cc
+string_ends (string.Escape escape.U) e = cc
+string_ends (string.Escape escape.Hex0) e = cc
+string_ends (string.Escape escape.Hex1) e = cc
+string_ends (string.Escape escape.Hex2) e = cc
+string_ends (string.Escape escape.Hex3) e = cc
+string_ends (string.Escape escape.Hex4) e = cc
+string_ends (string.Escape escape.Hex5) e = cc
+string_ends (string.Escape escape.Hex6) e = cc
+
+-- nothing may follow
+abbrev is_over : Regex → Bool
+is_over nothing = true
+is_over empty = true
+is_over r = false
+
+-- after the end of a string nothing leads anywhere
+over : (y : List ℕ) → is_over (derivative_by y empty) ≡ true
+over [] = refl
+over (c ∷ y) = ap is_over (after_all_nothing y)
+
+-- what leads into a string passes none
+pub inside_none : PassesNone string (string_rest string.Inside)
+inside_none x y t e = elim (string_goes x string.Start) as (λ _. ⊥) [
+  | inl h ↦ let wrong : false ≡ true = sym (ap nullable h) ∙ t in cc
+  | inr h ↦ let ended : string_rest h.0 ≡ empty = string_ends h.0 (sym (ap nullable h.1) ∙ t) in
+      let there : derivative_by y empty ≡ string_rest string.Inside = sym (after_all_append x y string ∙ ap (λ (z : Regex). derivative_by y z) (h.1 ∙ ended)) ∙ e in
+      let wrong : true ≡ false = sym (over y) ∙ ap is_over there in cc
+]
+
+-- ---- marks
+
+-- the shape of no scalar has the prefix of no byte alone
+empty_front : (t : List ℕ) → Greatest (IsPrefixOf empty t) (Some 0)
+empty_front t = (
+  record { scalars = []; fits = omega arith; spelled = refl; has = refl },
+  λ j f.
+      let fits : j ≤ length t = f.fits in
+      let none : encode_utf8_all f.scalars ≡ [] = ap encode_utf8_all f.has in
+      let long : length (take j t) ≡ 0 = ap length (sym f.spelled ∙ none) in
+      omega (arith, length-take-le j t fits),
+)
+
+mark_taken : (m : ℕ) → is_within m m m ≡ true
+mark_taken m = grind (arith, nat_tests)
+
+-- a mark at the start
+mark_first : (s : List ℕ) (m : ℕ) → m < 128 → 0 < length s → get_or s 0 0 ≡ m → Greatest (IsPrefixOf (one m) s) (Some 1)
+mark_first s m a l e =
+    let leads : derivative m (one m) ≡ empty = rw (mark_taken m) refl in
+    front_behind (one m) empty s (drop 1 s) 1 0 refl
+    (record { scalars = m ∷ []; fits = omega arith; spelled = ap (λ (z : List ℕ). z ++ []) (encode_ascii m a) ∙ sym (first_and_others s 0 m l e); has = leads })
+    (empty_front (drop 1 s))
+
+-- a mark at the start of the bytes
+pub mark_here : (s b : List ℕ) (m : ℕ) → b ≡ s → m < 128 → 0 < length b → get_or b 0 0 ≡ m → Greatest (IsPrefixOf (one m) s) (Some 1)
+mark_here s b m e a l f = subst (λ (z : List ℕ). Greatest (IsPrefixOf (one m) z) (Some 1)) e (mark_first b m a l f)
+
+-- ---- what the code counts
+
+-- after a run of ASCII
+run_cut : (P : ℕ → Bool) (s b : List ℕ) (n : ℕ) → ((c : ℕ) → P c ≡ true → c < 128) → b ≡ s → IsUtf8 s → n ≤ length b → ((i : ℕ) → i < n → P (get_or b i 0) ≡ true) → IsCharBoundary s n
+run_cut P s b n a e u l h = subst (λ (z : List ℕ). IsCharBoundary z n) e (behind_run b n (subst IsUtf8 (sym e) u) l (λ i k. a (get_or b i 0) (h i k)))
+
+pub blanks_cut : (s b : List ℕ) (n : ℕ) → b ≡ s → IsUtf8 s → n ≤ length b → ((i : ℕ) → i < n → is_blank (get_or b i 0) ≡ true) → IsCharBoundary s n
+blanks_cut s b n e u l h = run_cut is_blank s b n blank_ascii e u l h
+
+pub digits_cut : (s b : List ℕ) (n : ℕ) → b ≡ s → IsUtf8 s → n ≤ length b → ((i : ℕ) → i < n → is_digit (get_or b i 0) ≡ true) → IsCharBoundary s n
+digits_cut s b n e u l h = run_cut is_digit s b n digit_ascii e u l h
+
+pub lowers_cut : (s b : List ℕ) (n : ℕ) → b ≡ s → IsUtf8 s → n ≤ length b → ((i : ℕ) → i < n → is_lower (get_or b i 0) ≡ true) → IsCharBoundary s n
+lowers_cut s b n e u l h = run_cut is_lower s b n lower_ascii e u l h
+
+-- blanks lead to what may follow in whitespace
+pub blanks_lead : (s b : List ℕ) (n : ℕ) → b ≡ s → n ≤ length b → ((i : ℕ) → i < n → is_blank (get_or b i 0) ≡ true) → LeadsTo gap gap s n
+blanks_lead s b n e l h = subst (λ (z : List ℕ). LeadsTo gap gap z n) e
+    (ascii_leads gap gap b n l (λ i k. blank_ascii (get_or b i 0) (h i k)) (run_stays gap b n l (λ i k. blank_stays (get_or b i 0) (h i k))))
+
+-- digits lead to what may follow in the whole part of a number
+pub digits_lead : (s b : List ℕ) (k : ℕ) → b ≡ s → 0 < k → k ≤ length b → ((i : ℕ) → i < k → is_digit (get_or b i 0) ≡ true) → get_or b 0 0 ≢ 48 → LeadsTo number (number_rest n.Whole) s k
+digits_lead s b k e p fits h f = subst (λ (z : List ℕ). LeadsTo number (number_rest n.Whole) z k) e
+    (run_leads number (number_rest n.Whole) b k p fits (λ i m. digit_ascii (get_or b i 0) (h i m)) (digit_first (get_or b 0 0) (h 0 p) f) (λ i m. digit_stays (get_or b i 0) (h i m)))
+
+-- a lower-case letter, and such letters and digits, lead to what may follow in a lower-case word
+pub lowers_lead : (s b : List ℕ) (n : ℕ) → b ≡ s → 0 < n → n ≤ length b → ((i : ℕ) → i < n → is_lower (get_or b i 0) ≡ true) → is_digit (get_or b 0 0) ≡ false
+    → LeadsTo label_or_keyword (label_token_rest (token.Label l.Lower)) s n
+lowers_lead s b n e p fits h f = subst (λ (z : List ℕ). LeadsTo label_or_keyword (label_token_rest (token.Label l.Lower)) z n) e
+    (run_leads label_or_keyword (label_token_rest (token.Label l.Lower)) b n p fits (λ i k. lower_ascii (get_or b i 0) (h i k)) (lower_first (get_or b 0 0) (h 0 p) f) (λ i k. lower_stays (get_or b i 0) (h i k)))
+
+-- ---- where a run ends
+
+gap_none : (c : ℕ) → is_blank c ≡ false → c ≢ 47 → gap_step gap.Start c ≡ None
+gap_none c e f = grind (arith, nat_tests)
+
+gap_dead : (c : ℕ) → is_blank c ≡ false → c ≢ 47 → derivative c gap ≡ nothing
+gap_dead c e f = gap_steps gap.Start c ∙ ap (after_next GapState gap_rest) (gap_none c e f)
+
+blank_past : (c : ℕ) → 128 ≤ c → is_blank c ≡ false
+blank_past c l = grind (arith, nat_tests)
+
+-- blanks are the whitespace, where no slash follows
+pub blanks_end : (s b : List ℕ) (n : ℕ) → b ≡ s → n ≤ length b → ((i : ℕ) → i < n → is_blank (get_or b i 0) ≡ true) → (n < length b → is_blank (get_or b n 0) ≡ false)
+    → (n < length b → get_or b n 0 ≢ 47) → Greatest (IsPrefixOf gap s) (Some n)
+blanks_end s b n e l h stops other = subst (λ (z : List ℕ). Greatest (IsPrefixOf gap z) (Some n)) e
+    (run_ends gap gap b n (blanks_lead b b n refl l h) refl (λ c k. gap_dead c (blank_past c k) (λ w. let x : c ≡ 47 = w in omega arith)) (λ k. gap_dead (get_or b n 0) (stops k) (other k)))
+
+behind_blanks : (c : ℕ) → 32 < c → is_blank c ≡ false
+behind_blanks c l = grind (arith, nat_tests)
+
+-- no whitespace begins with a byte after the blanks that is no slash
+pub no_gap : (s b : List ℕ) → b ≡ s → 32 < get_or b 0 0 → get_or b 0 0 ≢ 47 → Greatest (IsPrefixOf gap s) (Some 0)
+no_gap s b e l f = blanks_end s b 0 e (omega arith) (λ i k. let w : ⊥ = omega arith in absurd w) (λ _. behind_blanks (get_or b 0 0) l) (λ _. f)
+
+-- one space before such a byte is the whitespace
+pub one_blank : (s b : List ℕ) → b ≡ s → 1 < length b → get_or b 0 0 ≡ 32 → 32 < get_or b 1 0 → get_or b 1 0 ≢ 47 → Greatest (IsPrefixOf gap s) (Some 1)
+one_blank s b e long space l f = blanks_end s b 1 e (omega arith) (λ i k. let first : i ≡ 0 = omega arith in ap (λ (z : ℕ). is_blank (get_or b z 0)) first ∙ ap is_blank space) (λ _. behind_blanks (get_or b 1 0) l) (λ _. f)
+
+number_none : (c : ℕ) → is_digit c ≡ false → ends_whole c ≡ true → number_step n.Whole c ≡ None
+number_none c e f = grind (arith, nat_tests)
+
+number_dead : (c : ℕ) → is_digit c ≡ false → ends_whole c ≡ true → derivative c (number_rest n.Whole) ≡ nothing
+number_dead c e f = number_steps n.Whole c ∙ ap (after_next NumberState number_rest) (number_none c e f)
+
+digit_past : (c : ℕ) → 128 ≤ c → is_digit c ≡ false
+digit_past c l = grind (arith, nat_tests)
+
+whole_past : (c : ℕ) → 128 ≤ c → ends_whole c ≡ true
+whole_past c l = grind (arith, nat_tests)
+
+-- digits are the number, where no fraction or exponent follows
+pub digits_end : (s b : List ℕ) (k : ℕ) → b ≡ s → 0 < k → k ≤ length b → ((i : ℕ) → i < k → is_digit (get_or b i 0) ≡ true) → get_or b 0 0 ≢ 48 → (k < length b → is_digit (get_or b k 0) ≡ false)
+    → (k < length b → ends_whole (get_or b k 0) ≡ true) → Greatest (IsPrefixOf number s) (Some k)
+digits_end s b k e p fits h f stops other = subst (λ (z : List ℕ). Greatest (IsPrefixOf number z) (Some k)) e
+    (run_ends number (number_rest n.Whole) b k (digits_lead b b k refl p fits h f) refl (λ c m. number_dead c (digit_past c m) (whole_past c m)) (λ m. number_dead (get_or b k 0) (stops m) (other m)))
+
+label_none : (c : ℕ) → is_lower c ≡ false → c ≢ 45 → label_step l.Lower c ≡ None
+label_none c e f = grind (arith, nat_tests)
+
+pub label_dead : (c : ℕ) → is_lower c ≡ false → c ≢ 45 → derivative c (label_token_rest (token.Label l.Lower)) ≡ nothing
+label_dead c e f = label_token_steps (token.Label l.Lower) c ∙ ap (λ (z : Option LabelState). after_next LabelTokenState label_token_rest (in_token z)) (label_none c e f)
+
+pub lower_past : (c : ℕ) → 128 ≤ c → is_lower c ≡ false
+lower_past c l = grind (arith, nat_tests)

@@ -1,0 +1,3 @@
+pub mod Derivatives
+pub mod Comparisons
+pub mod LabelWords

@@ -1,0 +1,4 @@
+pub mod OneMeaning
+pub mod Faults
+pub mod Parts
+pub mod EscapesFound

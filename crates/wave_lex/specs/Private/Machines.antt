@@ -1,0 +1,57 @@
+-- What the machines of whitespace and of invalid tokens read next, and what may still follow; tests of single bytes.
+use Rattle.std.specs.Prelude.{ℕ, ◌||◌, Bool, not, if◌then◌else◌, nat_eq, [], ◌∷◌, Option, Some, None}
+use Rattle.wave_lex.specs.Regex.{Regex}
+use Rattle.wave_lex.specs.Derive.{derivative_by}
+use Rattle.wave_lex.specs.Tokens.{gap, invalid}
+use Rattle.wave_lex.specs.declared.machine.gap.GapState.TheVariants as gap
+use Rattle.wave_lex.specs.declared.machine.gap.GapState.{GapState}
+use Rattle.wave_lex.specs.declared.machine.invalid.InvalidState.TheVariants as invalid
+use Rattle.wave_lex.specs.declared.machine.invalid.InvalidState.{InvalidState}
+
+-- not `.`, `e` or `E`
+abbrev pub ends_whole : ℕ → Bool
+ends_whole b = not (nat_eq b 46 || nat_eq b 101 || nat_eq b 69)
+
+-- what may still follow in whitespace
+abbrev pub gap_rest : GapState → Regex
+gap_rest gap.Start = derivative_by ([]) gap
+gap_rest gap.Slash = derivative_by (47 ∷ []) gap
+gap_rest gap.Comment = derivative_by (47 ∷ 47 ∷ []) gap
+
+-- a space, a tab, a line feed or a carriage return
+abbrev pub is_blank : ℕ → Bool
+is_blank c = nat_eq c 32 || nat_eq c 9 || nat_eq c 10 || nat_eq c 13
+
+-- what whitespace reads next
+abbrev pub gap_step : GapState → ℕ → Option GapState
+gap_step gap.Start c = (if is_blank c then Some gap.Start else (if nat_eq c 47 then Some gap.Slash else None))
+gap_step gap.Slash c = (if nat_eq c 47 then Some gap.Comment else None)
+gap_step gap.Comment c = (if nat_eq c 10 then Some gap.Start else Some gap.Comment)
+
+-- not `"`, a backslash or a line feed
+abbrev pub is_plain : ℕ → Bool
+is_plain c = not (nat_eq c 34 || nat_eq c 92 || nat_eq c 10)
+
+-- what may still follow in an invalid token
+abbrev pub invalid_rest : InvalidState → Regex
+invalid_rest invalid.Start = derivative_by ([]) invalid
+invalid_rest invalid.Quote0 = derivative_by (39 ∷ []) invalid
+invalid_rest invalid.Quote1 = derivative_by (39 ∷ 97 ∷ []) invalid
+invalid_rest invalid.Quote2 = derivative_by (39 ∷ 97 ∷ 97 ∷ []) invalid
+invalid_rest invalid.Quote3 = derivative_by (39 ∷ 97 ∷ 97 ∷ 97 ∷ []) invalid
+invalid_rest invalid.Quote4 = derivative_by (39 ∷ 97 ∷ 97 ∷ 97 ∷ 97 ∷ []) invalid
+invalid_rest invalid.Double1 = derivative_by (34 ∷ []) invalid
+invalid_rest invalid.Double2 = derivative_by (34 ∷ 34 ∷ []) invalid
+invalid_rest invalid.Close = derivative_by (97 ∷ []) invalid
+
+-- what an invalid token reads next
+abbrev pub invalid_step : InvalidState → ℕ → Option InvalidState
+invalid_step invalid.Start c = (if nat_eq c 39 then Some invalid.Quote0 else (if nat_eq c 34 then Some invalid.Double1 else Some invalid.Close))
+invalid_step invalid.Quote0 c = (if nat_eq c 10 || nat_eq c 92 || nat_eq c 39 then None else Some invalid.Quote1)
+invalid_step invalid.Quote1 c = (if nat_eq c 10 || nat_eq c 92 || nat_eq c 39 then None else Some invalid.Quote2)
+invalid_step invalid.Quote2 c = (if nat_eq c 39 then Some invalid.Close else (if nat_eq c 10 || nat_eq c 92 then None else Some invalid.Quote3))
+invalid_step invalid.Quote3 c = (if nat_eq c 39 then Some invalid.Close else (if nat_eq c 10 || nat_eq c 92 then None else Some invalid.Quote4))
+invalid_step invalid.Quote4 c = (if nat_eq c 39 then Some invalid.Close else None)
+invalid_step invalid.Double1 c = (if nat_eq c 34 then Some invalid.Double2 else None)
+invalid_step invalid.Double2 c = (if nat_eq c 34 then Some invalid.Close else None)
+invalid_step invalid.Close c = None

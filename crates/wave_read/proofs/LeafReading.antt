@@ -1,0 +1,9 @@
+pub mod LabelKeys
+pub mod BetweenQuotes
+pub mod RefusedForms
+pub mod MatchedKinds
+pub mod SimpleTypes
+pub mod ReadAtOnce
+pub mod Strings
+pub mod Enums
+pub mod PlainTypes

@@ -1,0 +1,55 @@
+-- Enums of one token.
+use Rattle.std.proofs.Common.{ℕ, ◌≡◌, ◌≢◌, inl, inr, Bool, true, false, List, Result, Err, IfOk, IfErr, refl, sym, ◌∙◌, subst}
+use Rattle.wave_grammar.specs.FaultOrder.{Order, FirstFault}
+use Rattle.wave_wasm.specs.Names.{is_one_of}
+use Rattle.wave_wasm.specs.Types.{TypeTree, enum_names, kind_of}
+use Rattle.wave_wasm.specs.Values.{Value}
+use Rattle.wave_wasm.specs.ValueErrors.{unknown_case}
+use Rattle.wave_wasm.specs.ConstructorContracts.{MakesEnum, FullEnum}
+use Rattle.wave_wasm.specs.declared.wasm.WasmTypeKind.TheVariants as kinds
+use Rattle.wave_wasm.specs.declared.wasm.WasmValueError.{WasmValueError}
+use Rattle.wave_wasm.proofs.Names.NameTests.{is_one, none_of}
+use Rattle.wave_wasm.proofs.TypesOfValues.TypeOfKind.{formed_as}
+use Rattle.wave_lex.specs.Errors.{Diagnostic, refusal_of}
+use Rattle.wave_lex.specs.declared.error.ParserErrorKind.TheVariants.{InvalidType}
+use Rattle.wave_grammar.specs.LeafTokens.{name_of}
+use Rattle.wave_grammar.specs.NodeTree.{NodeTree, type_of, place_of}
+use Rattle.wave_grammar.specs.NodeAccessors.{RefusedAs, node_text}
+use Rattle.wave_grammar.specs.PartReading.{IsCaused}
+use Rattle.wave_grammar.specs.declared.form.NodeType.TheVariants as kind
+use Rattle.wave_grammar.proofs.ByKind.Leaves.{said}
+use Rattle.wave_grammar.proofs.ByKind.Enums.{enum_is, enum_fault, unknown_blame, enum_made}
+use Rattle.wave_grammar.proofs.ErrorSpans.Nodes.{at_in, form_at, caused_at, made_in}
+use Rattle.wave_read.specs.Reading.{IsReadAs}
+use Rattle.wave_read.specs.Errors.{IsMadeOrMemory}
+use Rattle.wave_read.proofs.ReadErrors.HandedOn.{made_anew, made_of}
+
+module _ {V : Type 0} (tree : V → Value) (of : V → TypeTree → Type 0) (Full : TypeTree → Type 0) (o w : Order) where
+  -- a node of another form than an enum's
+  pub enum_other_form : (T : TypeTree) (source : List ℕ) (n : NodeTree) (e : Diagnostic) → kind_of T ≡ kinds.Enum → type_of n ≢ kind.Label → RefusedAs InvalidType n e → IsReadAs tree of Full o w T source n (Err e)
+  enum_other_form T source n e is apart refused =
+      let names = formed_as kinds.Enum T (sym is) in
+      record {
+        answer = λ t node distinct. inr (inl (subst (λ (U : TypeTree). FirstFault o w U t (refusal_of e) e.span) (sym names.1) (enum_fault o w names.0 source n t (refusal_of e) e.span node.0 apart (said refused))));
+        within = λ v. at_in source n e (inl v) (form_at n e refused);
+        typed = tt;
+      }
+
+  -- a label that is no case
+  pub unknown_read : (T : TypeTree) (source : List ℕ) (n : NodeTree) (name : List ℕ) (is_case : Bool) (e : Diagnostic) → kind_of T ≡ kinds.Enum → type_of n ≡ kind.Label → name ≡ name_of (node_text source n) → is_case ≡ is_one_of (enum_names T) name → is_case ≡ false → IsCaused (unknown_case name) n e → e.span ≡ place_of n → IsReadAs tree of Full o w T source n (Err e)
+  unknown_read T source n name is_case e is ty named tested absent caused place =
+      record {
+        answer = λ t node distinct. unknown_blame tree of Full o w T (enum_names T) source n t name e (enum_is T (sym is) (enum_names T) refl) node.0 ty named (none_of (enum_names T) name (sym tested ∙ absent)) caused;
+        within = λ v. at_in source n e (inl v) (caused_at (unknown_case name) n e caused place);
+        typed = tt;
+      }
+
+  -- the case was made, or its constructor refused
+  pub enum_read : (T : TypeTree) (source : List ℕ) (n : NodeTree) (name : List ℕ) (is_case : Bool) (m : Result V WasmValueError) (r : Result V Diagnostic) → kind_of T ≡ kinds.Enum → type_of n ≡ kind.Label → name ≡ name_of (node_text source n) → is_case ≡ is_one_of (enum_names T) name → is_case ≡ true → IfOk m (MakesEnum tree of T name) → IfErr m (FullEnum of Full T name) → IsMadeOrMemory n m r → IsReadAs tree of Full o w T source n r
+  enum_read T source n name is_case m r is ty named tested there ok full done =
+      made_anew (MakesEnum tree of T name) (FullEnum of Full T name) (n) m r (λ a f names is one. tt) ok full done (λ m ok full done.
+      record {
+        answer = λ t node distinct. enum_made tree of Full o w T (enum_names T) source n t name m r (enum_is T (sym is) (enum_names T) refl) distinct node.0 ty named (is_one (enum_names T) name (sym tested ∙ there)) ok full done;
+        within = λ v. made_in source n m r (inl v) done;
+        typed = made_of of T (MakesEnum tree of T name) n m r (λ v makes distinct. (makes distinct).is_of) ok done;
+      })

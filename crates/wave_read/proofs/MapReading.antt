@@ -1,0 +1,3 @@
+pub mod Entries
+pub mod EntrySteps
+pub mod KeyedChildren

@@ -1,0 +1,5 @@
+pub mod NoneRead
+pub mod OneMore
+pub mod ReadByKind
+pub mod FrameSteps
+pub mod NodeTypes

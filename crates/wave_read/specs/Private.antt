@@ -1,0 +1,10 @@
+pub mod Errors
+pub mod Faults
+pub mod Flat
+pub mod Keys
+pub mod Leaves
+pub mod NamedFlags
+pub mod PartSteps
+pub mod PartsOfKinds
+pub mod Payloads
+pub mod RecordParts

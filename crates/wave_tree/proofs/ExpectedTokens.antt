@@ -1,0 +1,10 @@
+pub mod Moves
+pub mod Words
+pub mod ClassList
+pub mod AutomatonSteps
+pub mod MayStand
+pub mod ParamTokens
+pub mod PlacedTokens
+pub mod RefusalPlaces
+pub mod OpenBrackets
+pub mod ViablePrefixes

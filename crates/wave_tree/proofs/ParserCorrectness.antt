@@ -1,0 +1,11 @@
+pub mod Sound
+pub mod Steps
+pub mod Lookahead
+pub mod AloneTokens
+pub mod PartsDue
+pub mod BuiltNodes
+pub mod OutOfMemory
+pub mod LexerCalls
+pub mod ClassTests
+pub mod FlagLoop
+pub mod FlagsSorted

@@ -1,0 +1,73 @@
+-- What is made of nodes while their tokens are taken.
+use Rattle.std.proofs.Common.{◌≡◌, ℕ, List, [], ◌∷◌, ◌++◌, Some, Result, Ok, Err, sym, subst, ◌∙◌}
+use Rattle.std.specs.Prelude.{IfOk, IfErr}
+use Rattle.wave_lex.specs.declared.lex.Token as lex
+use Rattle.wave_lex.specs.Tokenization.{span}
+use Rattle.wave_grammar.specs.ParserPosition.{Place, TakesItem}
+use Rattle.wave_grammar.specs.PrefixAutomaton.{Expectation, StackSymbol}
+use Rattle.wave_grammar.proofs.NodeTexts.Slices.{tokens_source}
+use Rattle.wave_grammar.specs.NodeTree.{NodeTree, node, node_trees}
+use Rattle.wave_grammar.specs.declared.form.NodeType.{NodeType}
+use Rattle.wave_tree.specs.ParsedNodes.{IsParsed}
+use Rattle.wave_tree.specs.Private.ParsedNodes.{IsBuilt}
+use Rattle.wave_tree.proofs.ParserCorrectness.Steps.{Reached}
+
+-- the source stays after a token
+pub source_item : (p q : Place) (c : lex.Token) → TakesItem p (Some (Ok c)) q → q.lexer.source ≡ p.lexer.source
+source_item p q c ((g, k, h, t), e) = h.source
+
+-- so it does after a tree
+pub source_parsed : (n : ℕ) (p q : Place) (parsed : NodeTree) → IsParsed n p q parsed → q.lexer.source ≡ p.lexer.source
+source_parsed n p q parsed h = let (c, one, e) = h.begins in tokens_source h.first q h.others h.taken ∙ source_item p h.first c one
+
+-- so it does after tokens that lead there
+pub source_reached : {n : ℕ} {d e : Expectation} {s r : List StackSymbol} {p q : Place} → Reached n d s p e r q → q.lexer.source ≡ p.lexer.source
+source_reached {p = p} {q = q} h = tokens_source p q h.tokens h.taken
+
+-- what is made of a node is made of what the node is
+pub built : {M E : Type 0} (Of : List ℕ → NodeTree → M → Type 0) (p q : Place) (A B : NodeTree → Type 0) (r : Result M E) → q.lexer.source ≡ p.lexer.source → ((n : NodeTree) → A n → B n) → IfOk r (IsBuilt Of q A) → IfOk r (IsBuilt Of p B)
+built Of p q A B (Ok made) e f (n, a, of) = (n, f n a, subst (λ (s : List ℕ). Of s n made) e of)
+built Of p q A B (Err x) e f h = tt
+
+-- a node, as an answer
+abbrev pub as_ok : NodeTree → Result NodeTree (Unit {0})
+as_ok n = Ok n
+
+-- what holds of an answer after any first parts holds of it after these
+pub of_front : {M E A : Type 0} (Holds : A → Type 0) (r : Result M E) (Is : A → M → Type 0) → IfOk r (λ made. (front : A) → Holds front → Is front made) → (front : A) → Holds front → IfOk r (Is front)
+of_front Holds (Ok made) Is h front k = h front k
+of_front Holds (Err x) Is h front k = tt
+
+-- so where a part stands next after them
+pub of_part : {M E A : Type 0} (Next Holds : A → Type 0) (r : Result M E) (Is : A → M → Type 0) → IfOk r (λ made. (front : A) → Next front → Holds front → Is front made) → (front : A) → Next front → Holds front → IfOk r (Is front)
+of_part Next Holds (Ok made) Is h front next k = h front next k
+of_part Next Holds (Err x) Is h front next k = tt
+
+-- so of a refusal
+pub wants_part : {M E A : Type 0} (Next Holds : A → Type 0) (r : Result M E) (Is : E → Type 0) → IfErr r (λ e. (front : A) → Next front → Holds front → Is e) → (front : A) → Next front → Holds front → IfErr r Is
+wants_part Next Holds (Ok made) Is h front next k = tt
+wants_part Next Holds (Err x) Is h front next k = h front next k
+
+-- what is made of a node of these children
+pub whole_built : {M Q : Type 0} (Of : List ℕ → NodeTree → M → Type 0) (Are : List ℕ → List NodeTree → Q → Type 0) (p q : Place) (ty : NodeType) (start : ℕ) (made : M) (parts : Q) (children : List NodeTree) (B : NodeTree → Type 0) →
+    q.lexer.source ≡ p.lexer.source → Are p.lexer.source children parts → ((cs : List NodeTree) → Are q.lexer.source cs parts → Of q.lexer.source (node ty (span start q.lexer.end) (node_trees cs)) made) →
+    B (node ty (span start q.lexer.end) (node_trees children)) → IsBuilt Of p B made
+whole_built Of Are p q ty start made parts children B e are of b =
+    let n = node ty (span start q.lexer.end) (node_trees children) in
+    (n, b, subst (λ (s : List ℕ). Of s n made) e (of children (subst (λ (s : List ℕ). Are s children parts) (sym e) are)))
+
+-- a node that was made of itself
+pub as_node : (Is : NodeTree → Type 0) (made : NodeTree) → (n : NodeTree) × Is n × (made ≡ n) → Is made
+as_node Is made (n, is, e) = subst Is (sym e) is
+
+-- a part that was added to the parts of one source was added to those of the same source
+pub part_added : {Q : Type 0} (Are : List ℕ → List NodeTree → Q → Type 0) (old new : Q) (children : List NodeTree) (Is : NodeTree → Type 0) {from source : List ℕ} → from ≡ source →
+    (Are from children old → (n : NodeTree) × Is n × Are from (children ++ n ∷ []) new) → Are source children old → (n : NodeTree) × Is n × Are source (children ++ n ∷ []) new
+part_added Are old new children Is e add are =
+    let (n, is, grown) = add (subst (λ (s : List ℕ). Are s children old) (sym e) are) in
+    (n, is, subst (λ (s : List ℕ). Are s (children ++ n ∷ []) new) e grown)
+
+-- what follows from an answer that says nothing of its value
+pub as_added : {M E A B : Type 0} (r : Result M E) → IfOk r (λ _. A) → (A → B) → IfOk r (λ _. B)
+as_added (Ok made) a f = f a
+as_added (Err e) a f = tt

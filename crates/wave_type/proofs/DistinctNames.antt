@@ -1,0 +1,5 @@
+pub mod LabelTest
+pub mod WithinTypes
+pub mod FirstPlaces
+pub mod CountedPlaces
+pub mod FoundPlaces

@@ -1,0 +1,5 @@
+pub mod TokenSteps
+pub mod RefusedTokens
+pub mod Completions
+pub mod SpelledIsTaken
+pub mod WholeTexts

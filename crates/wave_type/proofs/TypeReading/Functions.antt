@@ -1,0 +1,146 @@
+-- The type of a function is read exactly where tokens spell it.
+use Rattle.std.proofs.Common.{◌≡◌, ℕ, ◌≤◌, true, false, List, [], ◌∷◌, Option, Some, None, Result, Ok, Err, IfOk, refl, sym, ap, subst, ◌∙◌, arith, length, codes}
+use Rattle.std.specs.Str.{bytes_eq}
+use Rattle.wave_wasm.specs.declared.wasm.WasmTypeKind.{WasmTypeKind}
+use Rattle.wave_wasm.specs.declared.wasm.WasmTypeKind.TheVariants as kinds
+use Rattle.wave_wasm.specs.Names.{AreDistinct}
+use Rattle.wave_wasm.specs.Types.{TypeTree, Fields, no_fields, field, fields_of, field_names}
+use Rattle.wave_wasm.specs.TypeText.{kind_word}
+use Rattle.wave_lex.specs.Labels.{IsLabel}
+use Rattle.wave_lex.specs.Tokens.{label}
+use Rattle.wave_lex.proofs.RegularShapes.Derivatives.{matches_into}
+use Rattle.wave_type.specs.FunctionType.{FunctionType}
+use Rattle.wave_type.specs.FunctionSpelling.{SpellsParts, SpellsResults, SpellsFunction, levels_of_function}
+use Rattle.wave_type.specs.TypeSpelling.{Tokens, Spells, SpellsFields, levels_of_fields}
+use Rattle.wave_type.specs.Private.TypeReading.{after, Reads, fields_read, type_read}
+use Rattle.wave_type.specs.Private.FunctionReading.{params_read, result_parts_read, results_read, signature_read, function_read}
+use Rattle.wave_type.proofs.TypeReading.Complete.{IsComplete, paren, name_stands, fields_all, after_other, onward_there, head_word}
+use Rattle.wave_type.proofs.TypeTrees.Lists.{field_list-fields_of}
+use Rattle.wave_type.proofs.TypeReading.Sound.{IsSound, onward_back, after_back, fields_back, read_sound}
+
+abbrev pub Parts : Type 0
+Parts = List (List ℕ × TypeTree)
+
+-- the empty name is no label
+pub no_empty_label : IsLabel [] → ⊥
+no_empty_label h = let wrong : false ≡ true = matches_into [] label h in cc
+
+-- ---- what is read is spelled
+
+parts_there : (ps : Parts) (ts r : Tokens) → SpellsFields (codes ")") (fields_of ps) ts r → AreDistinct (field_names (fields_of ps)) → SpellsParts ps ts r
+parts_there [] ts r h d = absurd h
+parts_there (p ∷ ps) ts r h d = (h, d)
+
+named_there : (rs : Parts) (ts m r : Tokens) → ts ≡ codes "-" ∷ codes ">" ∷ codes "(" ∷ m → SpellsFields (codes ")") (fields_of rs) m r → AreDistinct (field_names (fields_of rs)) → r ≡ [] → SpellsResults rs ts
+named_there [] ts m r e h d end = absurd h
+named_there (([], T) ∷ []) ts m r e (t, k, l, q, n, s, c) d end = absurd (no_empty_label n.0)
+named_there (([], T) ∷ p ∷ ps) ts m r e h d end = (m, e, (subst (SpellsFields (codes ")") (fields_of (([], T) ∷ p ∷ ps)) m) end h, d))
+named_there ((c ∷ cs, T) ∷ ps) ts m r e h d end = (m, e, (subst (SpellsFields (codes ")") (fields_of ((c ∷ cs, T) ∷ ps)) m) end h, d))
+
+pub unwrapped : {A : Type 0} (p q : A) → Some p ≡ Some q → p ≡ q
+unwrapped p q e = cc
+
+module _ (read : Reads) (sound : IsSound read) where
+  params_back : (ts : Tokens) (o : Option Tokens) (b : Parts × Tokens) → after (codes ")") ts ≡ o → params_read read ts o ≡ Some b → SpellsParts b.0 ts b.1
+  params_back ts (Some m) b h e = subst (λ (z : Parts × Tokens). SpellsParts z.0 ts z.1) (unwrapped ([], m) b e) (after_back (codes ")") ts m h)
+  params_back ts None b h e = let q = fields_back read sound (codes ")") ts b e in parts_there b.0 ts b.1 q.0 q.1
+
+  result_parts_back : (ts l : Tokens) (o : Option Tokens) (b : Parts × Tokens) → ts ≡ codes "-" ∷ codes ">" ∷ l → after (codes "(") l ≡ o → result_parts_read read l o ≡ Some b → b.1 ≡ [] → SpellsResults b.0 ts
+  result_parts_back ts l (Some m) b is h e end =
+      let q = fields_back read sound (codes ")") m b e in
+      named_there b.0 ts m b.1 (is ∙ ap (λ k. codes "-" ∷ codes ">" ∷ k) (after_back (codes "(") l m h)) q.0 q.1 end
+  result_parts_back ts l None b is h e end =
+      let s = onward_back (read l) _ b e in
+      let same = unwrapped (([], s.0.0) ∷ [], s.0.1) b s.2 in
+      let inside : Spells s.0.0 l [] = subst (Spells s.0.0 l) ((λ i. (same i).1) ∙ end) (sound l s.0 s.1) in
+      subst (λ (z : Parts). SpellsResults z ts) (λ i. (same i).0) (l, is, inside)
+
+  results_back : (ts : Tokens) (o : Option Tokens) (b : Parts × Tokens) → after (codes "-") ts ≡ o → results_read read ts o ≡ Some b → b.1 ≡ [] → SpellsResults b.0 ts
+  results_back ts None b h e end =
+      let same = unwrapped ([], ts) b e in
+      subst (λ (z : Parts). SpellsResults z ts) (λ i. (same i).0) ((λ i. (same i).1) ∙ end)
+  results_back ts (Some m) b h e end =
+      let p = onward_back (after (codes ">") m) _ b e in
+      result_parts_back ts p.0 (after (codes "(") p.0) b (after_back (codes "-") ts m h ∙ ap (λ k. codes "-" ∷ k) (after_back (codes ">") m p.0 p.1)) refl p.2 end
+
+  pub function_back : (ts : Tokens) (b : FunctionType × Tokens) → function_read read ts ≡ Some b → b.1 ≡ [] → SpellsFunction b.0 ts
+  function_back ts b e end =
+      let p = onward_back (after (codes "func") ts) _ b e in
+      let q = onward_back (after (codes "(") p.0) (signature_read read) b p.2 in
+      let ps = onward_back (params_read read q.0 (after (codes ")") q.0)) _ b q.2 in
+      let rs = onward_back (results_read read ps.0.1 (after (codes "-") ps.0.1)) _ b ps.2 in
+      let same = unwrapped (record { params = ps.0.0; results = rs.0.0 }, rs.0.1) b rs.2 in
+      let there : ts ≡ codes "func" ∷ codes "(" ∷ q.0 = after_back (codes "func") ts p.0 p.1 ∙ ap (λ k. codes "func" ∷ k) (after_back (codes "(") p.0 q.0 q.1) in
+      subst (λ (z : FunctionType). SpellsFunction z ts) (λ i. (same i).0) (q.0, ps.0.1, there, params_back q.0 (after (codes ")") q.0) ps.0 refl ps.1, results_back ps.0.1 (after (codes "-") ps.0.1) rs.0 refl rs.1 ((λ i. (same i).1) ∙ end))
+
+-- ---- what is spelled is read
+
+pub paren_not : (fs : Fields) (ts r : Tokens) → SpellsFields (codes ")") fs ts r → after (codes ")") ts ≡ None
+paren_not no_fields ts r h = absurd h
+paren_not (field name T no_fields) ts r (t, m, l, e, n, s, c) = name_stands (codes ")") t name ts (codes ":" ∷ m) paren e n
+paren_not (field name T (field x U more)) ts r (t, m, l, e, n, s, h) = name_stands (codes ")") t name ts (codes ":" ∷ m) paren e n
+
+no_paren : (k : WasmTypeKind) → bytes_eq (kind_word k) (codes "(") ≡ false
+no_paren kinds.Bool = refl
+no_paren kinds.S8 = refl
+no_paren kinds.S16 = refl
+no_paren kinds.S32 = refl
+no_paren kinds.S64 = refl
+no_paren kinds.U8 = refl
+no_paren kinds.U16 = refl
+no_paren kinds.U32 = refl
+no_paren kinds.U64 = refl
+no_paren kinds.F32 = refl
+no_paren kinds.F64 = refl
+no_paren kinds.Char = refl
+no_paren kinds.String = refl
+no_paren kinds.List = refl
+no_paren kinds.FixedLengthList = refl
+no_paren kinds.Record = refl
+no_paren kinds.Tuple = refl
+no_paren kinds.Variant = refl
+no_paren kinds.Enum = refl
+no_paren kinds.Option = refl
+no_paren kinds.Result = refl
+no_paren kinds.Flags = refl
+no_paren kinds.Map = refl
+no_paren kinds.Unsupported = refl
+
+pub type_is_no_paren : (T : TypeTree) (ts r : Tokens) → Spells T ts r → after (codes "(") ts ≡ None
+type_is_no_paren T ts r h = let w = head_word T ts r h in ap (after (codes "(")) w.2 ∙ after_other (codes "(") (kind_word w.0) w.1 (no_paren w.0)
+
+module _ (n : ℕ) (read : Reads) (complete : IsComplete n read) where
+  fields_there : (ps : Parts) (ts r : Tokens) → levels_of_fields (fields_of ps) ≤ n → SpellsFields (codes ")") (fields_of ps) ts r → AreDistinct (field_names (fields_of ps)) → fields_read read (codes ")") ts ≡ Some (ps, r)
+  fields_there ps ts r le h d = fields_all n read complete (codes ")") paren (fields_of ps) ts r le h d ∙ ap (λ (qs : Parts). Some (qs, r)) (field_list-fields_of ps)
+
+  params_there : (ps : Parts) (ts r : Tokens) → levels_of_fields (fields_of ps) ≤ n → SpellsParts ps ts r → params_read read ts (after (codes ")") ts) ≡ Some (ps, r)
+  params_there [] ts r le e = ap (λ us. params_read read us (after (codes ")") us)) e
+  params_there (p ∷ ps) ts r le (h, d) = ap (params_read read ts) (paren_not (fields_of (p ∷ ps)) ts r h) ∙ fields_there (p ∷ ps) ts r le h d
+
+  named_all : (rs : Parts) (ts m : Tokens) → levels_of_fields (fields_of rs) ≤ n → ts ≡ codes "-" ∷ codes ">" ∷ codes "(" ∷ m → SpellsFields (codes ")") (fields_of rs) m [] → AreDistinct (field_names (fields_of rs)) → results_read read ts (after (codes "-") ts) ≡ Some (rs, [])
+  named_all rs ts m le e h d = ap (λ us. results_read read us (after (codes "-") us)) e ∙ fields_there rs m [] le h d
+
+  results_there : (rs : Parts) (ts : Tokens) → levels_of_fields (fields_of rs) ≤ n → SpellsResults rs ts → results_read read ts (after (codes "-") ts) ≡ Some (rs, [])
+  results_there [] ts le e = ap (λ us. results_read read us (after (codes "-") us)) e
+  results_there (([], T) ∷ []) ts le (m, e, s) =
+      ap (λ us. results_read read us (after (codes "-") us)) e ∙ (ap (result_parts_read read m) (type_is_no_paren T m [] s) ∙ onward_there (read m) _ (T, []) _ (complete T m [] (omega arith) s) refl)
+  results_there (([], T) ∷ p ∷ ps) ts le (m, e, (h, d)) = named_all (([], T) ∷ p ∷ ps) ts m le e h d
+  results_there ((c ∷ cs, T) ∷ ps) ts le (m, e, (h, d)) = named_all ((c ∷ cs, T) ∷ ps) ts m le e h d
+
+  function_there : (f : FunctionType) (ts : Tokens) → levels_of_function f ≤ n → SpellsFunction f ts → function_read read ts ≡ Some (f, [])
+  function_there f ts le (m, l, e, ps, rs) =
+      ap (function_read read) e ∙ onward_there (params_read read m (after (codes ")") m)) _ (f.params, l) _ (params_there f.params m l (omega arith) ps) (onward_there (results_read read l (after (codes "-") l)) _ (f.results, []) _ (results_there f.results l (omega arith) rs) refl)
+
+-- ---- as a whole
+
+no_more : (r : Tokens) → length r ≡ 0 → r ≡ []
+no_more [] e = refl
+no_more (t ∷ r) e = absurd (omega (arith, e))
+
+pub function_sound : (n : ℕ) (ts r : Tokens) (f : FunctionType) → function_read (type_read n) ts ≡ Some (f, r) → length r ≡ 0 → SpellsFunction f ts
+function_sound n ts r f e none = function_back (type_read n) (read_sound n) ts (f, r) e (no_more r none)
+
+-- what holds of the one value holds of what was made, which is it
+pub ok_more : {A E : Type 0} (P : A → Type 0) (g : A) (r : Result A E) → IfOk r (λ f. f ≡ g) → P g → IfOk r P
+ok_more P g (Ok f) e h = subst P (sym e) h
+ok_more P g (Err x) e h = tt

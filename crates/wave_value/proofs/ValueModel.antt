@@ -1,0 +1,5 @@
+pub mod ContentMeaning
+pub mod Lists
+pub mod Depths
+pub mod ContentEquality
+pub mod LeafEquality

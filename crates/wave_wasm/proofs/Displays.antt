@@ -1,0 +1,4 @@
+pub mod TypeParts
+pub mod TextAppend
+pub mod Functions
+pub mod JoinedTexts

@@ -1,0 +1,4 @@
+pub mod NameTests
+pub mod NameSets
+pub mod Subsequences
+pub mod MappedSearch

@@ -1,0 +1,3 @@
+pub mod TypeOfKind
+pub mod MatchedKinds
+pub mod WellFormed
