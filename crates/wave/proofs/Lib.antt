@@ -11,4 +11,3 @@ pub mod LinesAnswered
 pub mod AskedFor
 pub mod OneLine
 pub mod Misused
-pub mod Samples

@@ -17,6 +17,7 @@ use Rattle.wave.specs.declared.request.Request.TheVariants as request
 use Rattle.wave.specs.declared.input.Input.{Input}
 use Rattle.wave.specs.declared.input.Fault.{Fault}
 use Rattle.wave.specs.declared.input.Fault.TheVariants.{NotUtf8, InputFailed, OutOfMemory}
+use Rattle.wave.specs.Lines.{line}
 use Rattle.wave.specs.TypedCalls.{IsCallAt, CallFaultAt}
 use Rattle.wave.specs.ReadFaults.{IsReadToEnd, IsUnread}
 
@@ -64,3 +65,7 @@ module _ {R : Type 0} where
   IsFaultOf left old new (NotUtf8 place) = IsNoText left place × IsReadToEnd old new
   IsFaultOf left old new InputFailed = IsUnread old new
   IsFaultOf left old new OutOfMemory = new.failures ≡ old.failures
+
+-- what is written for arguments that make no request
+abbrev pub usage : List ℕ
+usage = line (codes "usage: wave value [N] | wave call | wave read NAME [N]")

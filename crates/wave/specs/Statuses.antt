@@ -6,10 +6,9 @@ use Rattle.wave.specs.declared.request.Request.{Request}
 use Rattle.wave.specs.declared.input.Fault.{Fault}
 use Rattle.wave.specs.declared.input.Fault.TheVariants.{OutOfMemory}
 use Rattle.wave.specs.declared.input.Input.{Input}
-use Rattle.wave.specs.declared.program.TheConstants.{USAGE}
 use Rattle.wave.specs.Notices.{IsNotice, IsNoNotice}
 use Rattle.wave.specs.Requests.{AreWordsOf, AskForType, AreUnknown}
-use Rattle.wave.specs.Answers.{Answers, IsRefused, IsInput, IsFaultOf, words_of_fault}
+use Rattle.wave.specs.Answers.{Answers, IsRefused, IsInput, IsFaultOf, words_of_fault, usage}
 use Rattle.wave.specs.Lines.{line}
 use Rattle.wave.specs.ReadFaults.{IsReadToEnd}
 
@@ -25,7 +24,7 @@ IsRefusal request left said = (whole : List ℕ) × (refusal : Diagnostic)
 
 -- the arguments make no request and ask for no notice, and the usage is the line
 abbrev pub IsUsage : List (List ℕ) → List ℕ → Type 0
-IsUsage words said = AreUnknown words × IsNoNotice words × (said ≡ USAGE.now)
+IsUsage words said = AreUnknown words × IsNoNotice words × (said ≡ usage)
 
 module _ {R : Type 0} where
   -- the line that the request is due on what the reader had left: its answer or its refusal where the input was read to its end, or else a fault's words

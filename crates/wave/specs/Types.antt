@@ -1,5 +1,5 @@
 -- Which word stands for which type.
-use Rattle.std.specs.Prelude.{ℕ, ◌≤◌, List, [], ◌∷◌, map, if◌then◌else◌}
+use Rattle.std.specs.Prelude.{ℕ, ◌≤◌, List, [], ◌∷◌, if◌then◌else◌, codes}
 use Rattle.std.specs.Str.{bytes_eq}
 use Rattle.wave_wasm.specs.Lists.{AllOf}
 use Rattle.wave_wasm.specs.Types.{TypeTree}
@@ -8,11 +8,18 @@ use Rattle.wave_wasm.specs.HasType.{HasType}
 use Rattle.wave_type.specs.FunctionSpelling.{IsFunctionOf, levels_of_function}
 use Rattle.wave_type.specs.FunctionType.{FunctionType, types_of}
 use Rattle.wave_type.specs.TypeSpelling.{IsTypeOf, levels_of}
-use Rattle.wave.specs.declared.types.TheConstants.{SAMPLES}
 
 -- the samples: their names, and the texts of their types
 abbrev pub samples : List (List ℕ × List ℕ)
-samples = map (λ sample. (sample.0.now, sample.1.now)) SAMPLES
+samples =
+    (codes "bytes", codes "list<u8>")
+    ∷ (codes "perms", codes "flags { read, write, exec }")
+    ∷ (codes "status", codes "enum { ok, not-found }")
+    ∷ (codes "response", codes "variant { empty, body(list<u8>), err(string) }")
+    ∷ (codes "example", codes "record { must-have: u8, optional: option<u8> }")
+    ∷ (codes "counts", codes "map<string, u32>")
+    ∷ (codes "quad", codes "list<u8, 4>")
+    ∷ []
 
 -- the text of the sample of this name among them, or the word itself
 abbrev pub text_among : List (List ℕ × List ℕ) → List ℕ → List ℕ

@@ -6,7 +6,7 @@ ghost use Rattle.wave_lex.specs.declared.error.ParserErrorKind.TheVariants as ki
 ghost use Rattle.wave.specs.ReadFaults.{IsReadToEnd, IsReadFault};
 ghost use Rattle.wave.specs.Written.{WritesWhole, WritesLess, Prints};
 ghost use Rattle.wave.specs.Requests.{AreUnknown};
-ghost use Rattle.wave.specs.Answers.{words_of_fault};
+ghost use Rattle.wave.specs.Answers.{words_of_fault, usage};
 ghost use Rattle.wave.specs.Lines.{line};
 ghost use Rattle.wave.specs.Private.Answers.{IsOutcome, IsNoOutcome, TellsRefusal};
 ghost use Rattle.wave.specs.ByLines.{RunsByLines};
@@ -121,7 +121,7 @@ fn misused<W: Write, E: Write>(
     errors: &mut Output<E>,
 ) -> Ended
     requires { AreUnknown (map string_bytes words.now) }
-    ensures told { Prints W.contents output.old output.new USAGE.now 2 result.status }
+    ensures told { Prints W.contents output.old output.new usage 2 result.status }
     ensures shown { result.status ≡ 2 →
         ShowsMisuse E.contents (map string_bytes words.now) errors.old errors.new result.shown }
     ensures quiet { result.status ≢ 2 → (errors.new ≡ errors.old) × (result.shown ≡ Ok tt) }

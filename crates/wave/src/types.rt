@@ -1,25 +1,14 @@
 // The types that the program reads at, from its arguments.
-ghost use Rattle.std.specs.Prelude.{◌≡◌, ◌↔◌, IfOk, IsTrue, MatchOption, map};
+ghost use Rattle.std.specs.Prelude.{◌≡◌, ◌↔◌, IfOk, IsTrue, MatchOption};
 ghost use Rattle.wave_wasm.specs.Types.{TypeTree};
 ghost use Rattle.wave_wasm.specs.Lists.{AllOf};
 ghost use Rattle.wave_type.specs.FunctionType.{FunctionType, types_of};
-ghost use Rattle.wave.specs.Types.{text_of, text_among, HasValue, NamesType, NamesFunction};
+ghost use Rattle.wave.specs.Types.{text_of, HasValue, NamesType, NamesFunction};
 
 use crate::inhabited::is_inhabited;
 use std::alloc::{AllocError, Global};
 use wasm_wave::value::{FuncType, Type, TypeErrorKind};
 use wasm_wave::wasm::WasmFunc;
-
-/// The samples: their names, and the texts of their types.
-const SAMPLES: [(&str, &str); 7] = [
-    ("bytes", "list<u8>"),
-    ("perms", "flags { read, write, exec }"),
-    ("status", "enum { ok, not-found }"),
-    ("response", "variant { empty, body(list<u8>), err(string) }"),
-    ("example", "record { must-have: u8, optional: option<u8> }"),
-    ("counts", "map<string, u32>"),
-    ("quad", "list<u8, 4>"),
-];
 
 /// The type that the word names, a sample or the text of a type, where it has a value. The only error
 /// is out of memory.
@@ -76,17 +65,14 @@ fn params_have_values(alloc: Global, function: &FuncType) -> Result<bool, AllocE
 pub fn text_of(word: &str) -> &str
     ensures { result.now ≡ text_of word.now }
 {
-    text_among(&SAMPLES, word)
-}
-
-/// The text of the sample of this name among them, or the word itself.
-fn text_among<'a>(samples: &[(&'a str, &'a str)], word: &'a str) -> &'a str
-    ensures { result.now ≡ text_among (map (λ sample. (sample.0.now, sample.1.now)) samples.now) word.now }
-{
-    for (name, text) in samples {
-        if word == *name {
-            return text;
-        }
+    match word {
+        "bytes" => "list<u8>",
+        "perms" => "flags { read, write, exec }",
+        "status" => "enum { ok, not-found }",
+        "response" => "variant { empty, body(list<u8>), err(string) }",
+        "example" => "record { must-have: u8, optional: option<u8> }",
+        "counts" => "map<string, u32>",
+        "quad" => "list<u8, 4>",
+        _ => word,
     }
-    word
 }
