@@ -28,14 +28,14 @@ pub(crate) fn read_enum<V: WasmValue>(
         return Err(leaf.error(ParserErrorKind::InvalidType));
     }
     let name = label_name(leaf.text);
-    let is_case = match ty.has_enum_case(alloc, name) {
-        Ok(is_case) => is_case,
-        Err(_) => return Err(leaf.error(ParserErrorKind::OutOfMemory)),
-    };
-    if !is_case {
-        return Err(no_case(leaf, alloc, name));
+    match V::make_enum(alloc, ty, name) {
+        Ok(val) => Ok(val),
+        Err(cause) => match ty.has_enum_case(alloc, name) {
+            Ok(true) => Err(leaf.refused(alloc, cause)),
+            Ok(false) => Err(no_case(leaf, alloc, name)),
+            Err(_) => Err(leaf.error(ParserErrorKind::OutOfMemory)),
+        },
     }
-    leaf.or_error_here(alloc, V::make_enum(alloc, ty, name))
 }
 
 /// A refusal at the leaf because the type has no case of this name.

@@ -125,11 +125,14 @@ pub(crate) fn read_case<V: WasmValue>(
         return Err(leaf.error(ParserErrorKind::InvalidType));
     }
     let name = label_name(leaf.text);
-    match ty.variant_case(alloc, name) {
-        Ok(Some((_, Some(_)))) => Err(no_payload(leaf, alloc, name)),
-        Ok(Some((_, None))) => leaf.or_error_here(alloc, V::make_variant(alloc, ty, name, None)),
-        Ok(None) => Err(no_case(leaf, alloc, name)),
-        Err(_) => Err(leaf.error(ParserErrorKind::OutOfMemory)),
+    match V::make_variant(alloc, ty, name, None) {
+        Ok(val) => Ok(val),
+        Err(cause) => match ty.variant_case(alloc, name) {
+            Ok(Some((_, Some(_)))) => Err(no_payload(leaf, alloc, name)),
+            Ok(Some((_, None))) => Err(leaf.refused(alloc, cause)),
+            Ok(None) => Err(no_case(leaf, alloc, name)),
+            Err(_) => Err(leaf.error(ParserErrorKind::OutOfMemory)),
+        },
     }
 }
 

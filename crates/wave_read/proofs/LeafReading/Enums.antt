@@ -1,8 +1,11 @@
 -- Enums of one token.
-use Rattle.std.proofs.Common.{ℕ, ◌≡◌, ◌≢◌, inl, inr, Bool, true, false, List, Result, Err, IfOk, IfErr, refl, sym, ◌∙◌, subst}
+use Rattle.std.proofs.Common.{ℕ, ◌≡◌, ◌≢◌, inl, inr, Bool, true, false, List, Result, Ok, Err, refl, sym, ◌∙◌, subst}
 use Rattle.wave_grammar.specs.FaultOrder.{Order, FirstFault}
-use Rattle.wave_wasm.specs.Names.{is_one_of}
+use Rattle.wave_wasm.specs.HasType.{HasType}
+use Rattle.wave_wasm.specs.Names.{is_one_of, IsOneOf}
 use Rattle.wave_wasm.specs.Types.{TypeTree, enum_names, kind_of}
+use Rattle.wave_wasm.specs.Types as type
+use Rattle.wave_wasm.specs.Values as value
 use Rattle.wave_wasm.specs.Values.{Value}
 use Rattle.wave_wasm.specs.ValueErrors.{unknown_case}
 use Rattle.wave_wasm.specs.ConstructorContracts.{MakesEnum, FullEnum}
@@ -21,8 +24,8 @@ use Rattle.wave_grammar.proofs.ByKind.Leaves.{said}
 use Rattle.wave_grammar.proofs.ByKind.Enums.{enum_is, enum_fault, unknown_blame, enum_made}
 use Rattle.wave_grammar.proofs.ErrorSpans.Nodes.{at_in, form_at, caused_at, made_in}
 use Rattle.wave_read.specs.Reading.{IsReadAs}
-use Rattle.wave_read.specs.Errors.{IsMadeOrMemory}
-use Rattle.wave_read.proofs.ReadErrors.HandedOn.{made_anew, made_of}
+use Rattle.wave_read.specs.Errors.{IsRefusedBy}
+use Rattle.wave_read.proofs.ReadErrors.HandedOn.{made_anew}
 
 module _ {V : Type 0} (tree : V → Value) (of : V → TypeTree → Type 0) (Full : TypeTree → Type 0) (o w : Order) where
   -- a node of another form than an enum's
@@ -44,12 +47,30 @@ module _ {V : Type 0} (tree : V → Value) (of : V → TypeTree → Type 0) (Ful
         typed = tt;
       }
 
-  -- the case was made, or its constructor refused
-  pub enum_read : (T : TypeTree) (source : List ℕ) (n : NodeTree) (name : List ℕ) (is_case : Bool) (m : Result V WasmValueError) (r : Result V Diagnostic) → kind_of T ≡ kinds.Enum → type_of n ≡ kind.Label → name ≡ name_of (node_text source n) → is_case ≡ is_one_of (enum_names T) name → is_case ≡ true → IfOk m (MakesEnum tree of T name) → IfErr m (FullEnum of Full T name) → IsMadeOrMemory n m r → IsReadAs tree of Full o w T source n r
-  enum_read T source n name is_case m r is ty named tested there ok full done =
-      made_anew (MakesEnum tree of T name) (FullEnum of Full T name) (n) m r (λ a f names is one. tt) ok full done (λ m ok full done.
+  same_name : (a b : List ℕ) → value.enum a ≡ value.enum b → a ≡ b
+  same_name a b e = cc
+
+  one_of : (T : TypeTree) (names : List (List ℕ)) (name : List ℕ) → T ≡ type.enum names → HasType T (value.enum name) → IsOneOf names name
+  one_of T names name is fits =
+      let (other, one, same) = subst (λ (U : TypeTree). HasType U (value.enum name)) is fits in
+      subst (IsOneOf names) (sym (same_name name other same)) one
+
+  -- a case that was made is one of the type's
+  pub case_made : (T : TypeTree) (source : List ℕ) (n : NodeTree) (name : List ℕ) (v : V) → kind_of T ≡ kinds.Enum → type_of n ≡ kind.Label → name ≡ name_of (node_text source n) → MakesEnum tree of T name v → IsReadAs tree of Full o w T source n (Ok v)
+  case_made T source n name v is ty named makes =
+      let enum = enum_is T (sym is) (enum_names T) refl in
       record {
-        answer = λ t node distinct. enum_made tree of Full o w T (enum_names T) source n t name m r (enum_is T (sym is) (enum_names T) refl) distinct node.0 ty named (is_one (enum_names T) name (sym tested ∙ there)) ok full done;
-        within = λ v. made_in source n m r (inl v) done;
-        typed = made_of of T (MakesEnum tree of T name) n m r (λ v makes distinct. (makes distinct).is_of) ok done;
+        answer = λ t node distinct. enum_made tree of Full o w T (enum_names T) source n t name (Ok v) (Ok v) enum distinct node.0 ty named (one_of T (enum_names T) name enum (makes distinct).fits) makes tt refl;
+        within = λ v. tt;
+        typed = λ distinct. (makes distinct).is_of;
+      }
+
+  -- a case that is there, which its constructor refused
+  pub case_refused : (T : TypeTree) (source : List ℕ) (n : NodeTree) (name : List ℕ) (is_case : Bool) (cause : WasmValueError) (e : Diagnostic) → kind_of T ≡ kinds.Enum → type_of n ≡ kind.Label → name ≡ name_of (node_text source n) → is_case ≡ is_one_of (enum_names T) name → is_case ≡ true → FullEnum of Full T name cause → IsRefusedBy cause e → e.span ≡ place_of n → IsReadAs tree of Full o w T source n (Err e)
+  case_refused T source n name is_case cause e is ty named tested there full refused place =
+      made_anew (MakesEnum tree of T name) (FullEnum of Full T name) n (Err cause) (Err e) (λ a f names is one. tt) tt full (refused, place) (λ m ok full done.
+      record {
+        answer = λ t node distinct. enum_made tree of Full o w T (enum_names T) source n t name m (Err e) (enum_is T (sym is) (enum_names T) refl) distinct node.0 ty named (is_one (enum_names T) name (sym tested ∙ there)) ok full done;
+        within = λ v. made_in source n m (Err e) (inl v) done;
+        typed = tt;
       })

@@ -1,13 +1,15 @@
 -- The label and the payload of a case.
-use Rattle.std.proofs.Common.{ℕ, ◌≡◌, ◌≢◌, inl, inr, Bool, true, false, cond, if◌then◌else◌, List, [], ◌∷◌, Option, Some, None, option_map, Bor, Result, Ok, Err, IfOk, IfErr, refl, sym, ap, ◌∙◌, subst}
+use Rattle.std.proofs.Common.{ℕ, ◌≡◌, ◌≢◌, inl, inr, Bool, true, false, cond, if◌then◌else◌, List, [], ◌∷◌, Option, Some, None, option_map, Bor, Result, Ok, Err, refl, sym, ap, ◌∙◌, subst}
 use Rattle.std.specs.List.{find}
 use Rattle.std.specs.Str.{bytes_eq}
 use Rattle.std.specs.declared.ops.Range.{Range}
 use Rattle.std.proofs.lemmas.Slice.Eq.{bytes_eq-Decides}
 use Rattle.wave_grammar.specs.FaultOrder.{Order, FirstFault}
 use Rattle.wave_wasm.specs.Types as type
-use Rattle.wave_wasm.specs.Types.{TypeTree, MaybeType, HasDistinctNames, kind_of, maybe_type, variant_parts}
-use Rattle.wave_wasm.specs.Values.{Value}
+use Rattle.wave_wasm.specs.HasType.{HasType, HasPayload, HasCase as TypedCase}
+use Rattle.wave_wasm.specs.Types.{TypeTree, MaybeType, Cases, HasDistinctNames, kind_of, variant_parts}
+use Rattle.wave_wasm.specs.Values as value
+use Rattle.wave_wasm.specs.Values.{Value, MaybeValue, no_value}
 use Rattle.wave_wasm.specs.ValueErrors.{unknown_case, missing_payload, unexpected_payload}
 use Rattle.wave_wasm.specs.Borrowed.{shown, shown_case}
 use Rattle.wave_wasm.specs.ConstructorContracts.{HasFullParts, MakesVariant, FullVariant}
@@ -17,6 +19,8 @@ use Rattle.wave_lex.specs.Errors.{Diagnostic, refusal_of}
 use Rattle.wave_lex.specs.declared.error.ParserErrorKind.TheVariants.{InvalidType}
 use Rattle.wave_grammar.specs.LeafTokens.{name_of}
 use Rattle.wave_grammar.specs.TypedGrammar.{look_up}
+use Rattle.wave_grammar.specs.Tree as form
+use Rattle.wave_grammar.specs.Elaborates.{TreeReads, TreeReadsCase, TreeReadsPayload}
 use Rattle.wave_grammar.specs.TypeErrors.{RefusesFor}
 use Rattle.wave_grammar.specs.SpannedTree.{SpannedTree, SpannedShape, MaybePlaced, at, label, no_placed, a_placed, slice, tree_of, SpellsEach}
 use Rattle.wave_grammar.specs.NodeTree.{NodeTree, node, node_trees, type_of, place_of, node_list}
@@ -28,12 +32,13 @@ use Rattle.wave_grammar.specs.declared.form.NodeType.TheVariants as kind
 use Rattle.wave_grammar.proofs.ChildNodes.Inside.{inside, AreParsed, parsed, nodes_in}
 use Rattle.wave_grammar.proofs.ChildNodes.Cases.{shape_at, case_shape}
 use Rattle.wave_grammar.proofs.ChildNodes.Trees.{list_of_trees}
+use Rattle.wave_grammar.proofs.ByKind.Leaves.{tree_is}
 use Rattle.wave_grammar.proofs.ByKind.Enums.{label_node}
 use Rattle.wave_grammar.proofs.ByKind.Variants.{VariantType, HasCase, CaseNode, variant_is, variant_fault, flag_text, case_found, case_missing, case_blame, no_case_blame, variant_made}
 use Rattle.wave_grammar.proofs.ErrorSpans.Nodes.{BelongsTo, children_belong, at_in, form_at, caused_at, made_in}
 use Rattle.wave_read.specs.Reading.{IsReadAs}
-use Rattle.wave_read.specs.Errors.{IsMadeOrMemory}
-use Rattle.wave_read.proofs.ReadErrors.HandedOn.{made_anew, made_of}
+use Rattle.wave_read.specs.Errors.{IsRefusedBy}
+use Rattle.wave_read.proofs.ReadErrors.HandedOn.{made_anew}
 
 -- the type of a variant, by its kind
 pub variant_type : (T : TypeTree) → kind_of T ≡ kinds.Variant → VariantType T (variant_parts T)
@@ -114,6 +119,27 @@ label_case source n t name h ty named =
 pub payload_belongs : (source : List ℕ) (p : Range ℕ) (c u : NodeTree) (more : List NodeTree) → IsValueOf source (node kind.VariantWithPayload p (node_trees (c ∷ u ∷ more))) → BelongsTo (node kind.VariantWithPayload p (node_trees (c ∷ u ∷ more))) u
 payload_belongs source p c u more v = (children_belong source (node kind.VariantWithPayload p (node_trees (c ∷ u ∷ more))) v).1.0
 
+-- a case without a payload, of a value of the type, is read of a label alone
+bare_case : (cs : Cases) (name : List ℕ) → TypedCase cs name no_value → TreeReadsCase cs name form.no_tree no_value
+bare_case type.no_cases name h = absurd h
+bare_case (type.case_of other P more) name (inl h) = inl (h.0, bare P h.1)
+  where
+    bare : (P : MaybeType) → HasPayload P no_value → TreeReadsPayload P form.no_tree no_value
+    bare type.no_type e = (refl, refl)
+    bare (type.a_type T) (w, of, e) = absurd (cc)
+bare_case (type.case_of other P more) name (inr h) = inr (bare_case more name h)
+
+bare_label : (cs : Cases) (source : List ℕ) (n : NodeTree) (t : SpannedTree) (name : List ℕ) → placed_of source n ≡ Some t → type_of n ≡ kind.Label → name ≡ name_of (node_text source n) → HasType (type.variant cs) (value.variant name no_value) → TreeReads (type.variant cs) (tree_of t) (value.variant name no_value)
+bare_label cs source n t name placed ty named (other, payload, case, same) =
+    let has = subst (λ (p : MaybeValue). TypedCase cs name p) (sym (same_payload name other no_value payload same)) (subst (λ (x : List ℕ). TypedCase cs x payload) (sym (same_name name other no_value payload same)) case) in
+    (node_text source n, form.no_tree, no_value, tree_is t (label (place_of n) (node_text source n) no_placed) (label_node source n t placed ty), subst (λ (x : List ℕ). TreeReadsCase cs x form.no_tree no_value) named (bare_case cs name has), ap (λ (x : List ℕ). value.variant x no_value) named)
+  where
+    same_name : (a b : List ℕ) (p q : MaybeValue) → value.variant a p ≡ value.variant b q → a ≡ b
+    same_name a b p q e = cc
+
+    same_payload : (a b : List ℕ) (p q : MaybeValue) → value.variant a p ≡ value.variant b q → p ≡ q
+    same_payload a b p q e = cc
+
 -- ---- payloads
 
 module _ {V : Type 0} (tree : V → Value) (of : V → TypeTree → Type 0) (Full : TypeTree → Type 0) (o w : Order) where
@@ -185,16 +211,29 @@ module _ {V : Type 0} (tree : V → Value) (of : V → TypeTree → Type 0) (Ful
         typed = tt;
       }
 
-  -- the label of a case without one
-  pub label_read : (T : TypeTree) (source : List ℕ) (n : NodeTree) (name : List ℕ) (m : Result V WasmValueError) (r : Result V Diagnostic) → kind_of T ≡ kinds.Variant → type_of n ≡ kind.Label → name ≡ name_of (node_text source n) → Some None ≡ look_up (variant_parts T) name → IfOk m (MakesVariant tree of T name None) → IfErr m (FullVariant of Full T name None) → IsMadeOrMemory n m r → IsReadAs tree of Full o w T source n r
-  label_read T source n name m r is ty named here ok full done =
-      made_anew (MakesVariant tree of T name None) (FullVariant of Full T name None) (n) m r (λ a f cs is P some of. tt) ok full done (λ m ok full done.
+  -- the label of a case without one, which was made
+  pub case_made : (T : TypeTree) (source : List ℕ) (n : NodeTree) (name : List ℕ) (v : V) → kind_of T ≡ kinds.Variant → type_of n ≡ kind.Label → name ≡ name_of (node_text source n) → MakesVariant tree of T name None v → IsReadAs tree of Full o w T source n (Ok v)
+  case_made T source n name v is ty named makes =
+      let variant = variant_type T is in
+      record {
+        answer = λ t node distinct.
+            let made = makes distinct in
+            let read = bare_label variant.cases source n t name node.0 ty named (subst (λ (U : TypeTree). HasType U (value.variant name no_value)) variant.is made.fits) in
+            record { reads = subst (λ (U : TypeTree). TreeReads U (tree_of t) (tree v)) (sym variant.is) (subst (TreeReads (type.variant variant.cases) (tree_of t)) (sym made.means) read); is_of = made.is_of };
+        within = λ v. tt;
+        typed = λ distinct. (makes distinct).is_of;
+      }
+
+  -- the label of a case without one, which its constructor refused
+  pub case_refused : (T : TypeTree) (source : List ℕ) (n : NodeTree) (name : List ℕ) (cause : WasmValueError) (e : Diagnostic) → kind_of T ≡ kinds.Variant → type_of n ≡ kind.Label → name ≡ name_of (node_text source n) → Some None ≡ look_up (variant_parts T) name → FullVariant of Full T name None cause → IsRefusedBy cause e → e.span ≡ place_of n → IsReadAs tree of Full o w T source n (Err e)
+  case_refused T source n name cause e is ty named here full refused place =
+      made_anew (MakesVariant tree of T name None) (FullVariant of Full T name None) n (Err cause) (Err e) (λ a f cs is P some of. tt) tt full (refused, place) (λ m ok full done.
       let variant = variant_type T is in
       let found : HasCase variant.cases name type.no_type = case_found T (variant_parts T) variant name None here in
       record {
         answer = λ t node distinct.
             let k = label_case source n t name node ty named in
-            variant_made tree of Full o w T variant.cases source t n name None k type.no_type None m r variant.is distinct found (none_read source k.payload k.node) ok full done;
-        within = λ v. made_in source n m r (inl v) done;
-        typed = made_of of T (MakesVariant tree of T name None) n m r (λ v makes distinct. (makes distinct).is_of) ok done;
+            variant_made tree of Full o w T variant.cases source t n name None k type.no_type None m (Err e) variant.is distinct found (none_read source k.payload k.node) ok full done;
+        within = λ v. made_in source n m (Err e) (inl v) done;
+        typed = tt;
       })
