@@ -2,7 +2,8 @@
 use Rattle.std.proofs.Common.{ℕ, ◌≡◌, ◌≢◌, ◌∙◌, List, [], ◌∷◌, ◌++◌, String, Global, Option, Some, None, Result, Ok, Err, IfOk, IfErr, MatchOption, string_bytes, map, get_or, drop, length, length-append, refl, inr, sym, ap, subst, arith, codes}
 use Rattle.wave.specs.declared.request.Request.{Request}
 use Rattle.wave.specs.declared.request.Asked.TheVariants.{Whole, Lines}
-use Rattle.wave.specs.Requests.{AreWordsOf, AskFor, AskByLines, AskNoneByLines, AskForType, HaveType, MakeNone, AreUnknown}
+use Rattle.wave.specs.Requests.{AreWordsOf, AskFor, AskForType, HaveType, AreUnknown}
+use Rattle.wave.specs.Private.Requests.{AskByLines, AskNoneByLines, MakeNone}
 
 -- the texts of all arguments but the last, and the last
 pub texts_before : (words front : List (String Global)) (last : String Global) (t : List ℕ) → words ≡ front ++ last ∷ [] → t ≡ string_bytes last → map string_bytes words ≡ map string_bytes front ++ t ∷ []

@@ -3,7 +3,8 @@ use Rattle.std.proofs.Common.{ℕ, ◌≡◌, ◌≤◌, ◌<◌, ◌∙◌, Lis
 use Rattle.wave.specs.declared.request.Request.TheVariants.{Value, Call, CallAt, Read}
 use Rattle.wave_type.specs.FunctionType.{FunctionType}
 use Rattle.wave.specs.Types.{NamesFunction}
-use Rattle.wave.specs.Requests.{IsLimitWord, HaveType, MakeNone}
+use Rattle.wave.specs.Requests.{IsLimitWord, HaveType}
+use Rattle.wave.specs.Private.Requests.{MakeNone}
 
 -- the text of the only word
 pub one_word : (words : List (String Global)) (word : String Global) (text : List ℕ) → 1 ≤ length words → length words < 2 → word ≡ get_or words 0 word → text ≡ string_bytes word → map string_bytes words ≡ text ∷ []

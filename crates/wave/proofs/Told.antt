@@ -16,14 +16,14 @@ use Rattle.wave.specs.declared.output.Output.{Output}
 use Rattle.wave.specs.Requests.{TellLimit, AreWordsOf, AskFor, AreUnknown}
 use Rattle.wave.specs.Answers.{IsFaultOf, IsInput, words_of_fault}
 use Rattle.wave.specs.ByLines.{EndsBefore, AnswersLines, RunsByLines}
-use Rattle.wave.specs.Explained.{ShowsRefusal, ShowsWhy, ShowsFault, IsFailure}
+use Rattle.wave.specs.Explained.{ShowsRefusal, ShowsWhy, IsFailure}
 use Rattle.wave.specs.Lines.{line}
 use Rattle.wave.specs.ReadFaults.{IsReadToEnd}
 use Rattle.wave.specs.Statuses.{IsDueTo}
 use Rattle.wave.specs.Written.{Prints, WritesWhole}
 use Rattle.wave.specs.Private.Requests.{IsFit}
 use Rattle.wave.proofs.Spelled.{named_distinct, params_distinct}
-use Rattle.wave.specs.Private.Answers.{IsNoOutcome, Refuses, TellsRefusal}
+use Rattle.wave.specs.Private.Answers.{ShowsFault, IsNoOutcome, Refuses, TellsRefusal}
 
 -- the limit that arguments name is one
 is_limit : (words front : List (List ℕ)) (n : ℕ) → TellLimit words front n → IsLimit n

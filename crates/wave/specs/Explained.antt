@@ -64,13 +64,6 @@ module _ {E : Type 0} (contents : E → Option (List ℕ)) where
   ShowsPlace old new InputFailed shown = (new ≡ old) × (shown ≡ Ok tt)
   ShowsPlace old new OutOfMemory shown = (new ≡ old) × (shown ≡ Ok tt)
 
--- the fault's words are the line that was written, and the place is shown; or a write failed, and nothing is shown
-abbrev pub ShowsFault : {W E : Type 0} → (W → Option (List ℕ)) → Output W → Output W → (E → Option (List ℕ)) → Output E → Output E
-    → Fault → Result (Unit {0}) AllocError → Type 0
-ShowsFault contents before after held old new fault shown =
-    WritesWhole contents before after (line (words_of_fault fault)) × ShowsPlace held old new fault shown
-    ⊎ WritesLess contents before after (line (words_of_fault fault)) × (new ≡ old) × (shown ≡ Ok tt)
-
 -- there is a fault, whose words are the line that was written, and the place is shown; or a write failed, and nothing is shown
 abbrev pub IsFailure : {R W E : Type 0} → Option (List ℕ) → Input R → Input R → (W → Option (List ℕ)) → Output W → Output W
     → (E → Option (List ℕ)) → Output E → Output E → Result (Unit {0}) AllocError → Type 0

@@ -37,10 +37,6 @@ IsCommandAmong (command ∷ more) word most = (word ≡ command.0) × (most ≡ 
 abbrev pub IsCommand : List ℕ → ℕ → Type 0
 IsCommand word most = IsCommandAmong commands word most
 
--- the word begins no request
-abbrev pub IsNoRequestWord : List ℕ → Type 0
-IsNoRequestWord word = (word ≢ codes "value") × (word ≢ codes "call") × (word ≢ codes "read")
-
 -- the word in quotes, and with escapes, which are stated of words of ASCII
 abbrev pub IsQuoted : List ℕ → List ℕ → Type 0
 IsQuoted word quoted = IfSome (debug_str word) (λ text. quoted ≡ text)

@@ -1,8 +1,6 @@
 -- How far an input was read, and why not to its end.
 use Rattle.std.specs.Prelude.{◌≡◌, ◌⊎◌, true, false}
 use Rattle.wave.specs.Counts.{CountsOne}
-use Rattle.wave.specs.declared.input.Fault.{Fault}
-use Rattle.wave.specs.declared.input.Fault.TheVariants.{NotUtf8, InputFailed, OutOfMemory}
 use Rattle.wave.specs.declared.input.Input.{Input}
 
 module _ {R : Type 0} where
@@ -16,9 +14,3 @@ module _ {R : Type 0} where
       CountsOne old.failures new.failures × (new.has_ended ≡ false)
       ⊎ (new.reads_left ≡ 0) × (new.has_ended ≡ false) × (new.failures ≡ old.failures)
       ⊎ (old.has_ended ≡ true) × (new ≡ old)
-
-  -- the input was not read to its end; or there was no memory before the reader reported its end, and no read failed
-  abbrev pub IsReadFault : Input R → Input R → Fault → Type 0
-  IsReadFault old new (NotUtf8 place) = ⊥
-  IsReadFault old new InputFailed = IsUnread old new
-  IsReadFault old new OutOfMemory = (new.failures ≡ old.failures) × (new.has_ended ≡ false)

@@ -43,17 +43,6 @@ HaveType words =
 abbrev pub AskForType : List (List ℕ) → Type 0
 AskForType words = HaveType words ⊎ ((front : List (List ℕ)) × (words ≡ front ++ codes "--lines" ∷ []) × HaveType front)
 
--- the arguments make no request of the whole input
-abbrev pub MakeNone : List (List ℕ) → Type 0
-MakeNone words = (request : Request) → AreWordsOf request words → ⊥
-
--- the arguments make the request before a last `--lines`, to be answered on each line; or none
-abbrev pub AskByLines : Request → List (List ℕ) → Type 0
-AskByLines request words = AskFor (Lines request) words
-
-abbrev pub AskNoneByLines : List (List ℕ) → Type 0
-AskNoneByLines words = (request : Request) → AskByLines request words → ⊥
-
 -- the arguments ask for nothing
 abbrev pub AreUnknown : List (List ℕ) → Type 0
 AreUnknown words = (asked : Asked) → AskFor asked words → ⊥

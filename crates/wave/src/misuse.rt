@@ -7,8 +7,9 @@ ghost use Rattle.wave_type.specs.TypeErrors.{type_error_text};
 ghost use Rattle.wave_type.specs.declared.error.TypeErrorKind.TheVariants as kind;
 ghost use Rattle.wasm_wave.specs.Places.{IsExplained};
 ghost use Rattle.wave.specs.Lines.{line};
-ghost use Rattle.wave.specs.Misuse.{edits, suggestions, IsHint, IsQuoted, IsBadType, IsBadFunc, IsNoRequestWord, IsMisuse, IsExplainedMisuse};
-ghost use Rattle.wave.specs.Requests.{MakeNone, AreUnknown};
+ghost use Rattle.wave.specs.Misuse.{edits, suggestions, IsHint, IsQuoted, IsBadType, IsBadFunc, IsMisuse, IsExplainedMisuse};
+ghost use Rattle.wave.specs.Requests.{AreUnknown};
+ghost use Rattle.wave.specs.Private.Requests.{IsNoRequestWord, MakeNone};
 ghost use Rattle.wave.specs.Types.{NamesType, NamesFunction};
 
 use crate::request::limit_of;

@@ -3,14 +3,14 @@ ghost use Rattle.std.specs.Prelude.{ℕ, List, ◌≡◌, ◌≢◌, ◌≤◌, 
 ghost use Rattle.std.specs.Str.{IsValidUpTo};
 ghost use Rattle.wave_lex.specs.Errors.{error_text};
 ghost use Rattle.wave_lex.specs.declared.error.ParserErrorKind.TheVariants as kind;
-ghost use Rattle.wave.specs.ReadFaults.{IsReadToEnd, IsReadFault};
+ghost use Rattle.wave.specs.ReadFaults.{IsReadToEnd};
 ghost use Rattle.wave.specs.Written.{WritesWhole, WritesLess, Prints};
 ghost use Rattle.wave.specs.Requests.{AreUnknown};
 ghost use Rattle.wave.specs.Answers.{words_of_fault, usage};
 ghost use Rattle.wave.specs.Lines.{line};
-ghost use Rattle.wave.specs.Private.Answers.{IsOutcome, IsNoOutcome, TellsRefusal};
 ghost use Rattle.wave.specs.ByLines.{RunsByLines};
-ghost use Rattle.wave.specs.Explained.{IsShown, ShowsWhy, ShowsRefusal, ShowsPlace, ShowsFault, IsFailure, place_shown};
+ghost use Rattle.wave.specs.Explained.{IsShown, ShowsWhy, ShowsRefusal, ShowsPlace, IsFailure, place_shown};
+ghost use Rattle.wave.specs.Private.Answers.{IsReadFault, IsOutcome, IsNoOutcome, TellsRefusal, ShowsFault};
 ghost use Rattle.wave.specs.Misuse.{ShowsMisuse};
 ghost use Rattle.wave.specs.Private.Requests.{IsFit};
 ghost use Rattle.wave.specs.Statuses.{IsDue, IsDueTo};

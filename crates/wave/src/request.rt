@@ -1,6 +1,7 @@
 // What the arguments after the program's name ask for.
 ghost use Rattle.std.specs.Prelude.{ℕ, [], ◌∷◌, IfOk, IfErr, MatchOption, map, string_bytes};
-ghost use Rattle.wave.specs.Requests.{IsLimitWord, AreWordsOf, HaveType, MakeNone, AskFor, AskByLines, AskNoneByLines, AskForType, AreUnknown};
+ghost use Rattle.wave.specs.Requests.{IsLimitWord, AreWordsOf, HaveType, AskFor, AskForType, AreUnknown};
+ghost use Rattle.wave.specs.Private.Requests.{MakeNone, AskByLines, AskNoneByLines};
 
 use crate::types::{function_at, type_at};
 use std::alloc::{AllocError, Global};

@@ -1,5 +1,7 @@
 -- What the parts of the program answer to each other.
-use Rattle.std.specs.Prelude.{ℕ, List, ◌≡◌, ◌≢◌, ◌⊎◌, false, string_bytes}
+use Rattle.std.specs.Prelude.{ℕ, List, ◌≡◌, ◌≢◌, ◌⊎◌, false, Ok, string_bytes}
+use Rattle.std.specs.declared.alloc.AllocError.{AllocError}
+use Rattle.std.specs.declared.result.Result.{Result}
 use Rattle.std.specs.declared.option.Option.{Option}
 use Rattle.wave_lex.specs.Errors.{Diagnostic, error_text}
 use Rattle.wave_lex.specs.declared.error.ParserErrorKind.TheVariants as kind
@@ -16,7 +18,8 @@ use Rattle.wave.specs.Answers.{Answers, IsRefused, IsInput, IsNoText, words_of_f
 use Rattle.wave.specs.Lines.{line}
 use Rattle.wave.specs.ReadFaults.{IsReadToEnd, IsUnread}
 use Rattle.wave.specs.Statuses.{IsAnswer}
-use Rattle.wave.specs.Written.{Prints}
+use Rattle.wave.specs.Written.{Prints, WritesWhole, WritesLess}
+use Rattle.wave.specs.Explained.{ShowsPlace}
 
 -- the request has no answer on the text, and the refusal says why; or it is out of memory
 abbrev pub Refuses : Request → List ℕ → Diagnostic → Type 0
@@ -44,9 +47,22 @@ module _ {R : Type 0} where
   IsNoOutcome request left old new InputFailed = IsUnread old new
   IsNoOutcome request left old new OutOfMemory = (new.failures ≡ old.failures) × ((new.has_ended ≡ false) ⊎ HasAnswer request left)
 
+  -- the input was not read to its end; or there was no memory before the reader reported its end, and no read failed
+  abbrev pub IsReadFault : Input R → Input R → Fault → Type 0
+  IsReadFault old new (NotUtf8 place) = ⊥
+  IsReadFault old new InputFailed = IsUnread old new
+  IsReadFault old new OutOfMemory = (new.failures ≡ old.failures) × (new.has_ended ≡ false)
+
 module _ {W : Type 0} (contents : W → Option (List ℕ)) where
   -- the refusal's text was printed at status 1, which isn't out of memory; or out of memory at status 3
   abbrev pub TellsRefusal : Output W → Output W → Diagnostic → ℕ → Type 0
   TellsRefusal old new e result =
       (e.kind ≢ kind.OutOfMemory) × Prints contents old new (line (error_text e)) 1 result
       ⊎ Prints contents old new (line (words_of_fault OutOfMemory)) 3 result
+
+-- the fault's words are the line that was written, and the place is shown; or a write failed, and nothing is shown
+abbrev pub ShowsFault : {W E : Type 0} → (W → Option (List ℕ)) → Output W → Output W → (E → Option (List ℕ)) → Output E → Output E
+    → Fault → Result (Unit {0}) AllocError → Type 0
+ShowsFault contents before after held old new fault shown =
+    WritesWhole contents before after (line (words_of_fault fault)) × ShowsPlace held old new fault shown
+    ⊎ WritesLess contents before after (line (words_of_fault fault)) × (new ≡ old) × (shown ≡ Ok tt)
