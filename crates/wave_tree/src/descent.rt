@@ -13,7 +13,7 @@ ghost use Rattle.wave_grammar.specs.NodeParts.{IsOfParts, IsOneToken, TakesPart}
 ghost use Rattle.wave_grammar.specs.NodeTree.{NodeTree, node, no_nodes};
 ghost use Rattle.wave_grammar.specs.declared.form.NodeType.TheVariants as node_type;
 ghost use Rattle.wave_tree.specs.ParsedNodes.{IsParsed, TakesClass};
-ghost use Rattle.wave_tree.specs.Private.ParsedNodes.{IsBuilt, IsParsedBehind, IsOfPayload, IsMaybe, IsPayload, IsOfItems, IsOfEntries, IsOfFlags, label_children};
+ghost use Rattle.wave_tree.specs.Private.ParsedNodes.{IsBuilt, IsParsedBehind, IsOfPayload, IsMaybe, IsInParens, IsOfItems, IsOfEntries, IsOfFlags, label_children};
 ghost use Rattle.wave_tree.specs.Private.ParserState.{AsksFor, IsValueStart, OnlyOutOfMemory};
 
 use crate::ast::NodeType;
@@ -103,28 +103,10 @@ impl<'source> Tokens<'source> {
     {
         match front {
             ValueStart::Alone(ty) => Ok(self.leaf(alloc, builder, ty)),
-            ValueStart::Some => self.parse_some(alloc, builder, levels - 1),
-            ValueStart::Ok => self.parse_optional_payload(
-                alloc,
-                builder,
-                levels - 1,
-                NodeType::ResultOk,
-                NodeType::ResultOk,
-            ),
-            ValueStart::Err => self.parse_optional_payload(
-                alloc,
-                builder,
-                levels - 1,
-                NodeType::ResultErr,
-                NodeType::ResultErr,
-            ),
-            ValueStart::Case => self.parse_optional_payload(
-                alloc,
-                builder,
-                levels - 1,
-                NodeType::Label,
-                NodeType::VariantWithPayload,
-            ),
+            ValueStart::Some => self.parse_payload(alloc, builder, levels - 1, NodeType::OptionSome),
+            ValueStart::Label(alone, with) => {
+                self.parse_optional_payload(alloc, builder, levels - 1, alone, with)
+            }
             ValueStart::Paren => self.parse_items(alloc, builder, levels - 1, Token::ParenClose),
             ValueStart::Bracket => self.parse_items(
                 alloc,
@@ -135,28 +117,6 @@ impl<'source> Tokens<'source> {
             ValueStart::Brace => self.parse_braces(alloc, builder, levels - 1),
             ValueStart::Nothing => self.refuse_token(token),
         }
-    }
-
-    /// Reads the payload after `some`.
-    #[cycle(parser)]
-    #[inline(never)]
-    fn parse_some<P: Builder>(
-        &mut self,
-        alloc: Global,
-        builder: P,
-        levels: u32,
-    ) -> Result<P::Made, ReadError>
-        requires { word_of (text_at self.old.place) ≡ some_word }
-        ensures led { GivesWithin result (levels + 1) due.paren [] self.old.place self.new.place }
-        ensures tree { IfOk result (IsBuilt (P.is_made builder) self.old.place
-            (IsParsedBehind lex_class.LabelOrKeyword (levels + 1) self.old.place self.new.place)) }
-        ensures memory { IfErr result (OnlyOutOfMemory (P.takes_memory builder) self.old.place) }
-        ensures asks { AsksFor self.old self.new }
-    {
-        let start = self.span().start;
-        self.expect(Token::ParenOpen)?;
-        let parts = builder.parts(alloc, NodeType::OptionSome);
-        self.parse_payload(alloc, builder, levels, NodeType::OptionSome, start, parts)
     }
 
     /// Reads the payload after a label, where an open parenthesis stands there.
@@ -176,37 +136,14 @@ impl<'source> Tokens<'source> {
         ensures memory { IfErr result (OnlyOutOfMemory (P.takes_memory builder) self.old.place) }
         ensures asks { AsksFor self.old self.new }
     {
-        let start = self.span().start;
         if !self.next_is(Token::ParenOpen) {
             return Ok(self.leaf(alloc, builder, alone));
         }
-        let front = self.label_parts(alloc, builder, with)?;
-        self.expect(Token::ParenOpen)?;
-        self.parse_payload(alloc, builder, levels, with, start, front)
+        self.parse_payload(alloc, builder, levels, with)
     }
 
-    /// The label of a case, which was taken last, as the first part of its node; no part of other
-    /// nodes.
-    fn label_parts<P: Builder>(
-        &self,
-        alloc: Global,
-        builder: P,
-        ty: NodeType,
-    ) -> Result<P::Parts, ReadError>
-        ensures made { let source = self.now.place.lexer.source in
-            IfOk result (λ made. IsOfParts ty → P.are_parts builder source ty (label_children ty (span_at self.now.place)) made) }
-        ensures memory { IfErr result (λ e. e.kind ≡ kind.OutOfMemory) }
-        ensures takes { IfErr result (λ _. IsOfParts ty → P.takes_memory builder) }
-    {
-        let mut parts = builder.parts(alloc, ty);
-        if let NodeType::VariantWithPayload = ty {
-            self.push_key(alloc, builder, &mut parts, NodeType::Label)?;
-        }
-        Ok(parts)
-    }
-
-    /// Reads a value and the close parenthesis after it, in a node after these parts, where the value
-    /// stands next.
+    /// Reads a payload in parentheses after the keyword or the label that was taken last, in a node of
+    /// this type.
     #[cycle(parser)]
     #[inline(never)]
     fn parse_payload<P: Builder>(
@@ -215,21 +152,41 @@ impl<'source> Tokens<'source> {
         builder: P,
         levels: u32,
         ty: NodeType,
-        start: usize,
-        parts: P::Parts,
     ) -> Result<P::Made, ReadError>
-        requires { (front : List NodeTree) × TakesPart ty front × P.are_parts builder self.old.place.lexer.source ty front parts }
-        ensures led { GivesWithin result (levels + 1) due.value (due.payload ∷ []) self.old.place self.new.place }
-        ensures tree { IfOk result (λ made. (front : List NodeTree) → TakesPart ty front → P.are_parts builder self.old.place.lexer.source ty front parts
-            → IsBuilt (P.is_made builder) self.old.place (IsPayload levels ty start front self.old.place self.new.place) made) }
-        ensures memory { IfErr result (λ e. (front : List NodeTree) → TakesPart ty front → P.are_parts builder self.old.place.lexer.source ty front parts
-            → OnlyOutOfMemory (P.takes_memory builder) self.old.place e) }
+        requires { IsOfPayload ty }
+        ensures led { GivesWithin result (levels + 1) due.paren [] self.old.place self.new.place }
+        ensures tree { IfOk result (IsBuilt (P.is_made builder) self.old.place (IsInParens levels ty self.old.place self.new.place)) }
+        ensures memory { IfErr result (OnlyOutOfMemory (P.takes_memory builder) self.old.place) }
         ensures asks { AsksFor self.old self.new }
     {
-        let mut parts = parts;
+        let start = self.span().start;
+        let mut parts = builder.parts(alloc, ty);
+        self.push_label(alloc, builder, &mut parts, ty)?;
+        self.expect(Token::ParenOpen)?;
         self.parse_part(alloc, builder, &mut parts, levels)?;
         self.expect(Token::ParenClose)?;
         Ok(self.whole(alloc, builder, ty, start, parts))
+    }
+
+    /// Adds the label of a case, which was taken last, as the first part of its node; no part of other
+    /// nodes.
+    fn push_label<P: Builder>(
+        &self,
+        alloc: Global,
+        builder: P,
+        parts: &mut P::Parts,
+        ty: NodeType,
+    ) -> Result<(), ReadError>
+        ensures kept { let source = self.now.place.lexer.source in
+            IfOk result (λ _. P.are_parts builder source ty [] parts.old → P.are_parts builder source ty (label_children ty (span_at self.now.place)) parts.new) }
+        ensures memory { IfErr result (λ e. e.kind ≡ kind.OutOfMemory) }
+        ensures takes { let source = self.now.place.lexer.source in
+            IfErr result (λ _. P.are_parts builder source ty [] parts.old → P.takes_memory builder) }
+    {
+        match ty {
+            NodeType::VariantWithPayload => self.push_key(alloc, builder, parts, NodeType::Label),
+            _ => Ok(()),
+        }
     }
 
     /// Reads the items of a tuple or a list, and its close.
@@ -254,8 +211,7 @@ impl<'source> Tokens<'source> {
             if close == Token::ParenClose {
                 return self.refuse_empty(start);
             }
-            let none = builder.parts(alloc, NodeType::List);
-            return Ok(self.whole(alloc, builder, NodeType::List, start, none));
+            return Ok(self.whole_of_none(alloc, builder, NodeType::List, start));
         }
         let ty = if close == Token::ParenClose {
             NodeType::Tuple
@@ -296,48 +252,25 @@ impl<'source> Tokens<'source> {
         let start = self.span().start;
         let token = self.advance()?;
         if token == Token::BraceClose {
-            let none = builder.parts(alloc, NodeType::EmptySet);
-            return Ok(self.whole(alloc, builder, NodeType::EmptySet, start, none));
+            return Ok(self.whole_of_none(alloc, builder, NodeType::EmptySet, start));
         }
         if token == Token::Colon {
             self.expect(Token::BraceClose)?;
-            let none = builder.parts(alloc, NodeType::TupleSet);
-            return Ok(self.whole(alloc, builder, NodeType::TupleSet, start, none));
+            return Ok(self.whole_of_none(alloc, builder, NodeType::TupleSet, start));
         }
         if token == Token::LabelOrKeyword {
             if self.next_is(Token::Colon) {
-                let key = self.first_key(alloc, builder, NodeType::Label)?;
-                self.expect(Token::Colon)?;
-                return self.parse_entries(alloc, builder, levels, start, key);
+                return self.parse_entries(alloc, builder, levels, start, NodeType::Label);
             }
             return self.parse_flags(alloc, builder, start);
         }
         let Some(ty) = key_type(token) else {
             return self.refuse_token(token);
         };
-        let key = self.first_key(alloc, builder, ty)?;
-        self.expect(Token::Colon)?;
-        self.parse_entries(alloc, builder, levels, start, key)
+        self.parse_entries(alloc, builder, levels, start, ty)
     }
 
-    /// The first part of entries: their first key, which was taken last.
-    fn first_key<P: Builder>(
-        &self,
-        alloc: Global,
-        builder: P,
-        ty: NodeType,
-    ) -> Result<P::Parts, ReadError>
-        ensures made { let source = self.now.place.lexer.source in
-            IfOk result (P.are_parts builder source node_type.TupleSet (node ty (span_at self.now.place) no_nodes ∷ [])) }
-        ensures memory { IfErr result (λ e. e.kind ≡ kind.OutOfMemory) }
-        ensures takes { IfErr result (λ _. P.takes_memory builder) }
-    {
-        let mut parts = builder.parts(alloc, NodeType::TupleSet);
-        self.push_key(alloc, builder, &mut parts, ty)?;
-        Ok(parts)
-    }
-
-    /// Reads the value after the first key, the further entries and the close.
+    /// Reads the entries whose first key, of a node of this type, was taken last, and the close.
     #[cycle(parser)]
     #[inline(never)]
     fn parse_entries<P: Builder>(
@@ -346,16 +279,17 @@ impl<'source> Tokens<'source> {
         builder: P,
         levels: u32,
         start: usize,
-        key: P::Parts,
+        first: NodeType,
     ) -> Result<P::Made, ReadError>
-        requires { (first : NodeTree) × P.are_parts builder self.old.place.lexer.source node_type.TupleSet (first ∷ []) key }
-        ensures led { GivesWithin result (levels + 1) due.value (due.entries ∷ []) self.old.place self.new.place }
-        ensures tree { IfOk result (λ made. (first : NodeTree) → P.are_parts builder self.old.place.lexer.source node_type.TupleSet (first ∷ []) key
-            → IsBuilt (P.is_made builder) self.old.place (IsOfEntries levels start first self.old.place self.new.place) made) }
+        ensures led { GivesWithin result (levels + 1) due.behind_key [] self.old.place self.new.place }
+        ensures tree { IfOk result (IsBuilt (P.is_made builder) self.old.place (IsOfEntries levels start first self.old.place self.new.place)) }
         ensures asks { AsksFor self.old self.new }
     {
-        let mut parts = key;
+        let mut parts = builder.parts(alloc, NodeType::TupleSet);
+        let mut key = first;
         'entries: loop {
+            self.push_key(alloc, builder, &mut parts, key)?;
+            self.expect(Token::Colon)?;
             self.parse_part(alloc, builder, &mut parts, levels)?;
             let token = self.advance()?;
             if token == Token::BraceClose {
@@ -371,8 +305,7 @@ impl<'source> Tokens<'source> {
             let Some(ty) = key_type(next) else {
                 return self.refuse_token(next);
             };
-            self.push_key(alloc, builder, &mut parts, ty)?;
-            self.expect(Token::Colon)?;
+            key = ty;
         }
     }
 

@@ -15,12 +15,9 @@ pub(crate) enum ValueStart {
     Alone(NodeType),
     /// `some`
     Some,
-    /// `ok`
-    Ok,
-    /// `err`
-    Err,
-    /// The label of a case.
-    Case,
+    /// `ok`, `err` or the label of a case, on its own or with a payload in parentheses. Its node has the
+    /// first type, or the second with a payload.
+    Label(NodeType, NodeType),
     /// `(`
     Paren,
     /// `[`
@@ -64,11 +61,11 @@ fn label_front(text: &str) -> ValueStart
     } else if text == "some" {
         ValueStart::Some
     } else if text == "ok" {
-        ValueStart::Ok
+        ValueStart::Label(NodeType::ResultOk, NodeType::ResultOk)
     } else if text == "err" {
-        ValueStart::Err
+        ValueStart::Label(NodeType::ResultErr, NodeType::ResultErr)
     } else {
-        ValueStart::Case
+        ValueStart::Label(NodeType::Label, NodeType::VariantWithPayload)
     }
 }
 

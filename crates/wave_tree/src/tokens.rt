@@ -11,7 +11,7 @@ ghost use Rattle.wave_lex.specs.Errors.{Says};
 ghost use Rattle.wave_lex.specs.Tokenization.{item_of, span};
 ghost use Rattle.wave_tree.specs.UntypedCall.{AreParamsTaken, RefusesTuple};
 ghost use Rattle.wave_read.specs.PlainReading.{IsPlain};
-ghost use Rattle.wave_grammar.specs.NodeParts.{ArePartsOfSome, IsOneToken, TakesKey, TakesPart};
+ghost use Rattle.wave_grammar.specs.NodeParts.{ArePartsOfSome, IsOfParts, IsOneToken, TakesKey, TakesPart};
 ghost use Rattle.wave_grammar.specs.NodeTree.{NodeTree, node, no_nodes, node_trees};
 ghost use Rattle.wave_tree.specs.ParsedNodes.{IsNodeTaken, IsSound};
 ghost use Rattle.wave_tree.specs.FromStr.{IsValueTaken, RefusesValue, IsCausedBetween};
@@ -327,6 +327,22 @@ impl<'source> Tokens<'source> {
             → P.is_made builder self.now.place.lexer.source (node ty (span start self.now.place.lexer.end) (node_trees children)) result }
     {
         builder.whole(alloc, ty, start..self.span().end, parts)
+    }
+
+    /// The same of a node that has no parts.
+    #[inline(never)]
+    pub(crate) fn whole_of_none<P: Builder>(
+        &self,
+        alloc: Global,
+        builder: P,
+        ty: NodeType,
+        start: usize,
+    ) -> P::Made
+        requires { IsOfParts ty }
+        ensures { P.is_made builder self.now.place.lexer.source (node ty (span start self.now.place.lexer.end) no_nodes) result }
+    {
+        let none = builder.parts(alloc, ty);
+        self.whole(alloc, builder, ty, start, none)
     }
 
     /// Adds the last token to the parts: a key, or the label of a case.

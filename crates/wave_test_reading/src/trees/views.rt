@@ -68,7 +68,9 @@ fn scalar(rt: HostRuntime, val: &Value) -> Result<String, AllocError> {
 /// What the view of a value's parts answers.
 fn parts(rt: HostRuntime, val: &Value) -> Result<String, AllocError> {
     match val.kind() {
-        WasmTypeKind::List => joined(rt, val.unwrap_list(rt.alloc())?),
+        WasmTypeKind::List | WasmTypeKind::FixedLengthList => {
+            joined(rt, val.unwrap_list(rt.alloc())?)
+        }
         WasmTypeKind::Tuple => joined(rt, val.unwrap_tuple(rt.alloc())?),
         WasmTypeKind::Record => joined_fields(rt, val.unwrap_record(rt.alloc())?),
         WasmTypeKind::Map => joined_entries(rt, val.unwrap_map(rt.alloc())?),
@@ -164,6 +166,7 @@ const VIEWS: &[(&str, &str, &str)] = &[
     ("char", "'\\u{1F44B}'", "👋"),
     ("string", "\"it's \\u{61}\"", "it's a"),
     ("list<u8>", "[1, 2]", "1;2;"),
+    ("list<u8, 2>", "[1, 2]", "1;2;"),
     ("tuple<u8, string>", "(1, \"a\")", "1;\"a\";"),
     ("record { a: u8, b: option<u8> }", "{a: 1}", "a=1;b=none;"),
     ("variant { off, on(u8) }", "on(1)", "on=1;"),

@@ -9,7 +9,7 @@ use Rattle.wave_grammar.specs.declared.form.NodeType.{NodeType}
 use Rattle.wave_grammar.specs.declared.form.NodeType.TheVariants as node
 use Rattle.wave_grammar.specs.LeafTokens.{name_of}
 use Rattle.wave_grammar.specs.Token.{label}
-use Rattle.wave_grammar.specs.Tree.{Word, word_of, leaf_word, none_word, some_word, ok_word, err_word, case_word}
+use Rattle.wave_grammar.specs.Tree.{Word, word_of, leaf_word, none_word, some_word}
 use Rattle.wave_grammar.specs.ParserPosition.{token_of}
 use Rattle.wave_grammar.specs.PrefixAutomaton as due
 use Rattle.wave_grammar.specs.PrefixAutomaton.{Expectation, StackSymbol, Step, step, reads, too_deep, value_step, level_step, behind_step, key_step, flag_step, behind_flag_step}
@@ -18,6 +18,7 @@ use Rattle.wave_tree.specs.declared.role.ValueStart.TheVariants as front
 use Rattle.wave_tree.specs.declared.expected.moves.Due.TheVariants as known
 use Rattle.wave_tree.specs.declared.expected.moves.Move.{Move}
 use Rattle.wave_tree.specs.Private.ParserState.{IsValueStart, IsAloneWord}
+use Rattle.wave_tree.proofs.ParserCorrectness.AloneTokens.{label_behind}
 use Rattle.wave_tree.specs.Private.Moves.{stay, front_move, value_move, behind_move, closes, closed, closed_empty, label_move, next_move, due_of, innermost, IsMove}
 
 -- ---- where a value is due
@@ -51,9 +52,8 @@ front_leads (front.Alone ty) MultilineString text d s h = (refl, refl)
 front_leads (front.Alone ty) LabelOrKeyword text d s h = alone_word ty text d s h
 front_leads (front.Alone ty) c text d s h = absurd h
 front_leads front.Some c text d s h = a_label (stay known.Paren) c text d s some_word h.0 h.1 (refl, refl)
-front_leads front.Ok c text d s h = a_label (stay known.BehindLabel) c text d s ok_word h.0 h.1 (refl, refl)
-front_leads front.Err c text d s h = a_label (stay known.BehindLabel) c text d s err_word h.0 h.1 (refl, refl)
-front_leads front.Case c text d s h = a_label (stay known.BehindLabel) c text d s case_word h.0 h.1 (refl, refl)
+front_leads (front.Label alone with) c text d s h =
+    a_label (stay known.BehindLabel) c text d s (word_of text) h.0 refl (subst (λ z. IsMove (stay known.BehindLabel) text d s (reads z s)) (sym (label_behind alone with text h.1)) (refl, refl))
 front_leads front.Paren c text d s h = a_mark (front_move front.Paren) c ParenOpen text d s h (refl, refl)
 front_leads front.Bracket c text d s h = a_mark (front_move front.Bracket) c BracketOpen text d s h (refl, refl)
 front_leads front.Brace c text d s h = a_mark (front_move front.Brace) c BraceOpen text d s h (refl, refl)

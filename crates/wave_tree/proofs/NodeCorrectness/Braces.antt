@@ -15,6 +15,7 @@ use Rattle.wave_grammar.specs.SpannedTree as placed
 use Rattle.wave_grammar.specs.SpannedTree.{SpannedTree, at, PlacedEntries, no_entries, entry, entries, no_fields, empty_braces, one, label, no_placed, HoldsTokens, SpellsEntries, SpellsEach, StandsAtTokens, entry_places, LiesIn, span_of, tree_of, tree_of_shape, slice}
 use Rattle.wave_grammar.specs.NodeTree.{NodeTree, node, no_nodes, node_trees}
 use Rattle.wave_grammar.specs.Nodes.{placed_of, all_placed, key_of, pairs_of, shape_from, and_then, with_both, number_token}
+use Rattle.wave_grammar.specs.declared.form.NodeType.{NodeType}
 use Rattle.wave_grammar.specs.declared.form.NodeType.TheVariants as kind
 use Rattle.wave_tree.specs.ParsedNodes.{IsSound, IsParsed}
 use Rattle.wave_tree.specs.Private.ParsedNodes.{IsKeyAt, key_node_type, ArePairs, AreFurtherPairs, IsOfEntries}
@@ -180,9 +181,11 @@ mutual
       }
 
 -- entries after their first key
-pub entries_parsed : (n : ℕ) (p m k b q : Place) (key parsed : NodeTree) → TakesItem p (Some (Ok BraceOpen)) m → IsKeyAt m key k → TakesItem k (Some (Ok Colon)) b → IsOfEntries n m.lexer.start key b q parsed → IsParsed (n + 1) p q parsed
-entries_parsed n p m k b q key parsed h (c, key_there, is_key, key_node) colon_there e =
-    let inner = pairs_spell n b q e.pairs e.are in
+pub entries_parsed : (n : ℕ) (p m k q : Place) (c : lex.Token) (ty : NodeType) (parsed : NodeTree) → TakesItem p (Some (Ok BraceOpen)) m → TakesItem m (Some (Ok c)) k → IsKeyClass c → ty ≡ key_node_type c → IsOfEntries n m.lexer.start ty k q parsed → IsParsed (n + 1) p q parsed
+entries_parsed n p m k q c ty parsed h key_there is_key same e =
+    let (b, pairs, colon_there, are, children_are) = e.are in
+    let key_node = ap (λ z. node z (span_at k) no_nodes) same in
+    let inner = pairs_spell n b q pairs are in
     let it = key_means m k c key_there is_key in
     let brace_is = taken_is p m BraceOpen h in
     let key_taken = taken_is m k c key_there in
@@ -195,11 +198,11 @@ entries_parsed n p m k b q key parsed h (c, key_there, is_key, key_node) colon_t
     let a1 = key_taken.start in let a2 = colon_is.end in
     let after = tokens_forward k q (colon ∷ inner.tokens) (b, (Colon, colon_there, refl), inner.taken) in
     made (n + 1) p m q brace_open (kt ∷ colon ∷ inner.tokens) parsed (entries all) (BraceOpen, h, refl) (k, (c, key_there, refl), (b, (Colon, colon_there, refl), inner.taken))
-    (λ sound. subst (λ z. placed_of p.lexer.source z ≡ Some (at whole (entries all))) (sym e.is)
+    (λ sound. subst (λ z. placed_of p.lexer.source z ≡ Some (at whole (entries all))) (sym (e.is ∙ ap (λ z. node kind.TupleSet whole (node_trees z)) children_are))
     (let one_key = subst (λ z. placed_of p.lexer.source z ≡ Some it.means) (sym key_node) (subst (λ z. placed_of z (node (key_node_type c) (span_at k) no_nodes) ≡ Some it.means) brace_is.source it.is) in
     let b_sound = sound_tokens m b (kt ∷ colon ∷ []) front (sound_next p m BraceOpen h sound) in
-    let outer = subst (λ z. all_placed z (node_trees e.pairs) ≡ Some (inner.value ∷ inner.means)) source_b (inner.means_them b_sound) in
-    ap (λ o. option_map (at whole) (and_then (with_both (λ t ts. t ∷ ts) o (all_placed p.lexer.source (node_trees e.pairs))) (shape_from kind.TupleSet whole (slice p.lexer.source whole)))) one_key
+    let outer = subst (λ z. all_placed z (node_trees pairs) ≡ Some (inner.value ∷ inner.means)) source_b (inner.means_them b_sound) in
+    ap (λ o. option_map (at whole) (and_then (with_both (λ t ts. t ∷ ts) o (all_placed p.lexer.source (node_trees pairs))) (shape_from kind.TupleSet whole (slice p.lexer.source whole)))) one_key
     ∙ (ap (λ o. option_map (at whole) (and_then (with_both (λ t ts. t ∷ ts) (Some it.means) o) (shape_from kind.TupleSet whole (slice p.lexer.source whole)))) outer
     ∙ (ap (λ o. option_map (at whole) (option_map entries (with_both (λ key rest. entry key.0 key.1 inner.value rest) o (pairs_of inner.means)))) it.key
     ∙ ap (λ o. option_map (at whole) (option_map entries (with_both (λ (key : Range ℕ × Token) rest. entry key.0 key.1 inner.value rest) (Some (span_at k, kt)) o))) inner.pairs))))

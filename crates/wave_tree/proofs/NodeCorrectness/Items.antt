@@ -1,5 +1,5 @@
 -- The answers of a parser's calls, tied to trees.
-use Rattle.std.proofs.Common.{◌≡◌, ◌≢◌, ℕ, ◌<◌, ◌+◌, ◌-◌, inl, inr, true, List, [], ◌∷◌, ◌++◌, sym, ap, subst, ◌∙◌, arith, Some, Result, Ok, Err, Bool, append_assoc}
+use Rattle.std.proofs.Common.{◌≡◌, ◌≢◌, ℕ, ◌<◌, ◌+◌, ◌-◌, inl, inr, true, List, [], ◌∷◌, ◌++◌, refl, sym, ap, subst, ◌∙◌, arith, Some, Result, Ok, Err, Bool, append_assoc}
 use Rattle.std.specs.Prelude.{◌⊎◌, IfOk, codes, if◌then◌else◌}
 use Rattle.wave_wasm.specs.Names.{is_one_of}
 use Rattle.wave_lex.specs.declared.lex.Token as lex
@@ -12,8 +12,9 @@ use Rattle.wave_grammar.specs.NodeTree.{NodeTree, node, no_nodes, node_trees}
 use Rattle.wave_grammar.specs.declared.form.NodeType.{NodeType}
 use Rattle.wave_grammar.specs.declared.form.NodeType.TheVariants as kind
 use Rattle.wave_tree.specs.ParsedNodes.{IsParsed, TakesClass}
-use Rattle.wave_tree.specs.Private.ParsedNodes.{IsParsedBehind, IsMaybe, IsPayload, IsOfItems, items_type, AreClosedItems, AreFurther, IsKeyAt, ArePairs, IsOfEntries, IsOfFlags, label_children}
-use Rattle.wave_tree.specs.Private.TokenRoles.{IsClose}
+use Rattle.wave_tree.specs.Private.ParsedNodes.{IsParsedBehind, IsMaybe, IsInParens, IsOfItems, items_type, AreClosedItems, AreFurther, IsClosed, key_node_type, AreFurtherPairs, AreKeyedParts, IsOfEntries, IsOfFlags}
+use Rattle.wave_tree.specs.Private.ParserState.{IsLabelWord}
+use Rattle.wave_tree.specs.Private.TokenRoles.{IsClose, IsKeyClass}
 use Rattle.wave_lex.specs.Tokenization.{span}
 use Rattle.wave_tree.proofs.NodeCorrectness.Braces.{entries_parsed, empty_parsed, no_fields_parsed}
 use Rattle.wave_tree.proofs.NodeCorrectness.Flags.{flags_parsed}
@@ -62,23 +63,15 @@ number_word_tied n m parsed w e is = λ p h. subst (IsParsed (n + 1) p m) (sym i
 pub none_tied : (n : ℕ) (m : Place) (parsed : NodeTree) → word_of (text_at m) ≡ none_word → parsed ≡ node kind.OptionNone (span_at m) no_nodes → IsParsedBehind LabelOrKeyword (n + 1) m m parsed
 none_tied n m parsed w is = λ p h. subst (IsParsed (n + 1) p m) (sym is) (none_parsed n p m h w)
 
-pub some_tied : {E : Type 0} (n : ℕ) (m w q : Place) (start : ℕ) (front : List NodeTree) (r : Result NodeTree E) → word_of (text_at m) ≡ some_word → start ≡ m.lexer.start → front ≡ [] → TakesItem m (Some (Ok ParenOpen)) w →
-    IfOk r (IsPayload n kind.OptionSome start front w q) → IfOk r (IsParsedBehind LabelOrKeyword (n + 1) m q)
-some_tied n m w q start front (Ok parsed) word_is a b open_there k = λ p h. some_parsed n p m w q parsed h word_is open_there
-    (subst (λ z. IsPayload n kind.OptionSome z [] w q parsed) a (subst (λ z. IsPayload n kind.OptionSome start z w q parsed) b k))
-some_tied n m w q start front (Err x) word_is a b open_there k = tt
+pub some_tied : (n : ℕ) (m q : Place) (parsed : NodeTree) → word_of (text_at m) ≡ some_word → IsInParens n kind.OptionSome m q parsed → IsParsedBehind LabelOrKeyword (n + 1) m q parsed
+some_tied n m q parsed word_is (w, open_there, k) = λ p h. some_parsed n p m w q parsed h word_is open_there k
 
-pub ok_tied : {E : Type 0} (n : ℕ) (m q : Place) (r : Result NodeTree E) → word_of (text_at m) ≡ ok_word → IfOk r (IsMaybe n kind.ResultOk kind.ResultOk m q) → IfOk r (IsParsedBehind LabelOrKeyword (n + 1) m q)
-ok_tied n m q (Ok parsed) word_is k = λ p h. ok_parsed n p m q parsed h word_is k
-ok_tied n m q (Err x) word_is k = tt
-
-pub err_tied : {E : Type 0} (n : ℕ) (m q : Place) (r : Result NodeTree E) → word_of (text_at m) ≡ err_word → IfOk r (IsMaybe n kind.ResultErr kind.ResultErr m q) → IfOk r (IsParsedBehind LabelOrKeyword (n + 1) m q)
-err_tied n m q (Ok parsed) word_is k = λ p h. err_parsed n p m q parsed h word_is k
-err_tied n m q (Err x) word_is k = tt
-
-pub case_tied : {E : Type 0} (n : ℕ) (m q : Place) (r : Result NodeTree E) → word_of (text_at m) ≡ case_word → IfOk r (IsMaybe n kind.Label kind.VariantWithPayload m q) → IfOk r (IsParsedBehind LabelOrKeyword (n + 1) m q)
-case_tied n m q (Ok parsed) word_is k = λ p h. case_parsed n p m q parsed h word_is k
-case_tied n m q (Err x) word_is k = tt
+-- a label with a payload, or without one
+pub word_tied : (alone with : NodeType) (n : ℕ) (m q : Place) (parsed : NodeTree) → IsLabelWord alone with (text_at m) → IsMaybe n alone with m q parsed → IsParsedBehind LabelOrKeyword (n + 1) m q parsed
+word_tied kind.ResultOk kind.ResultOk n m q parsed word_is k = λ p h. ok_parsed n p m q parsed h word_is k
+word_tied kind.ResultErr kind.ResultErr n m q parsed word_is k = λ p h. err_parsed n p m q parsed h word_is k
+word_tied kind.Label kind.VariantWithPayload n m q parsed word_is k = λ p h. case_parsed n p m q parsed h word_is k
+word_tied _ _ n m q parsed word_is k = absurd word_is
 
 -- ---- items
 
@@ -125,26 +118,22 @@ items_next n close p0 p m w v xs ys one_item go h comma_there same e item b r mo
 
 -- ---- entries
 
--- after a value, a comma, a key and its colon
-pub pairs_next : (n : ℕ) (p0 p m w k b : Place) (xs ys zs : List NodeTree) (first value key : NodeTree) →
-    (hs : List NodeTree) × (xs ≡ first ∷ hs) × ((cs : List NodeTree) (r : Place) → ArePairs n p cs r → ArePairs n p0 (hs ++ cs) r) →
-    IsParsed n p m value → TakesClass Comma m w → IsKeyAt w key k → TakesClass Colon k b → ys ≡ xs ++ value ∷ [] → zs ≡ ys ++ key ∷ [] →
-    (hs : List NodeTree) × (zs ≡ first ∷ hs) × ((cs : List NodeTree) (r : Place) → ArePairs n b cs r → ArePairs n p0 (hs ++ cs) r)
-pairs_next n p0 p m w k b xs ys zs first value key (hs, e, go) h comma_there key_there colon_there f g = (
-  hs ++ value ∷ key ∷ [],
-  g ∙ (ap (λ z. z ++ key ∷ []) (f ∙ ap (λ z. z ++ value ∷ []) e) ∙ ap (λ z. first ∷ z) (append_assoc hs (value ∷ []) (key ∷ []))),
-  λ cs r pairs. subst (λ z. ArePairs n p0 z r) (sym (append_assoc hs (value ∷ key ∷ []) cs)) (go (value ∷ key ∷ cs) r (m, h, (w, k, b, comma_there, key_there, colon_there, pairs))),
-)
+module _ (n : ℕ) (p0 p b m q : Place) (ty0 ty : NodeType) (children : List NodeTree) (value : NodeTree)
+    (go : (cs : List NodeTree) (r : Place) → AreKeyedParts n ty p cs r → AreKeyedParts n ty0 p0 (children ++ cs) r) (colon_there : TakesClass Colon p b) (h : IsParsed n b m value) where
+  abbrev key_here : NodeTree
+  key_here = node ty (span_at p) no_nodes
 
--- the close after a value
-pub pairs_close : (n : ℕ) (start : ℕ) (p0 p m q : Place) (xs ys : List NodeTree) (first value parsed : NodeTree) →
-    (hs : List NodeTree) × (xs ≡ first ∷ hs) × ((cs : List NodeTree) (r : Place) → ArePairs n p cs r → ArePairs n p0 (hs ++ cs) r) →
-    IsParsed n p m value → TakesClass BraceClose m q ⊎ ((w : Place) × TakesClass Comma m w × TakesClass BraceClose w q) → ys ≡ xs ++ value ∷ [] → parsed ≡ node kind.TupleSet (span start q.lexer.end) (node_trees ys) → IsOfEntries n start first p0 q parsed
-pairs_close n start p0 p m q xs ys first value parsed (hs, e, go) h close f is = record {
-  pairs = hs ++ value ∷ [];
-  are = go (value ∷ []) q (m, h, close);
-  is = is ∙ ap (λ z. node kind.TupleSet (span start q.lexer.end) (node_trees z)) (f ∙ ap (λ z. z ++ value ∷ []) e);
-}
+  -- after a key, its colon, a value and a comma the next key
+  pub keyed_next : (w : Place) (c : lex.Token) (next : NodeType) → TakesClass Comma m w → TakesClass c w q → IsKeyClass c → next ≡ key_node_type c →
+      (cs : List NodeTree) (r : Place) → AreKeyedParts n next q cs r → AreKeyedParts n ty0 p0 (((children ++ key_here ∷ []) ++ value ∷ []) ++ cs) r
+  keyed_next w c next comma_there key_there is_key same cs r (behind, pairs, then_colon, are, cs_are) =
+      let further = subst (λ z. AreFurtherPairs n m z r) (sym cs_are) (w, q, behind, comma_there, (c, key_there, is_key, ap (λ z. node z (span_at q) no_nodes) same), then_colon, are) in
+      subst (λ z. AreKeyedParts n ty0 p0 z r) (sym (append_assoc (children ++ key_here ∷ []) (value ∷ []) cs ∙ append_assoc children (key_here ∷ []) (value ∷ cs)))
+          (go (key_here ∷ value ∷ cs) r (b, value ∷ cs, colon_there, (m, h, further), refl))
+
+  -- the close after a value
+  pub keyed_close : IsClosed BraceClose m q → AreKeyedParts n ty0 p0 ((children ++ key_here ∷ []) ++ value ∷ []) q
+  keyed_close close = subst (λ z. AreKeyedParts n ty0 p0 z q) (sym (append_assoc children (key_here ∷ []) (value ∷ []))) (go (key_here ∷ value ∷ []) q (b, value ∷ [], colon_there, (m, h, close), refl))
 
 -- ---- braces
 
@@ -154,23 +143,9 @@ empty_tied n m q start ns parsed h a b is = λ p k. subst (IsParsed (n + 1) p q)
 pub no_fields_tied : (n : ℕ) (m w q : Place) (start : ℕ) (ns : List NodeTree) (parsed : NodeTree) → TakesClass Colon m w → TakesClass BraceClose w q → start ≡ m.lexer.start → ns ≡ [] → parsed ≡ node kind.TupleSet (span start q.lexer.end) (node_trees ns) → IsParsedBehind BraceOpen (n + 1) m q parsed
 no_fields_tied n m w q start ns parsed c h a b is = λ p k. subst (IsParsed (n + 1) p q) (sym (is ∙ (ap (λ z. node kind.TupleSet (span z q.lexer.end) (node_trees ns)) a ∙ ap (λ z. node kind.TupleSet (span m.lexer.start q.lexer.end) (node_trees z)) b))) (no_fields_parsed n p m w q k c h)
 
-pub entries_tied : {E : Type 0} (n : ℕ) (m k b q : Place) (start : ℕ) (key : NodeTree) (r : Result NodeTree E) → IsKeyAt m key k → TakesClass Colon k b → start ≡ m.lexer.start → IfOk r (IsOfEntries n start key b q) → IfOk r (IsParsedBehind BraceOpen (n + 1) m q)
-entries_tied n m k b q start key (Ok parsed) key_there colon_there a h = λ p open_there. entries_parsed n p m k b q key parsed open_there key_there colon_there (subst (λ z. IsOfEntries n z key b q parsed) a h)
-entries_tied n m k b q start key (Err x) key_there colon_there a h = tt
+pub entries_tied : (n : ℕ) (m k q : Place) (c : lex.Token) (ty : NodeType) (start : ℕ) (parsed : NodeTree) → TakesClass c m k → IsKeyClass c → ty ≡ key_node_type c → start ≡ m.lexer.start → IsOfEntries n start ty k q parsed → IsParsedBehind BraceOpen (n + 1) m q parsed
+entries_tied n m k q c ty start parsed key_there is_key same a h = λ p open_there. entries_parsed n p m k q c ty parsed open_there key_there is_key same (subst (λ z. IsOfEntries n z ty k q parsed) a h)
 
 pub flags_tied : {E : Type 0} (n : ℕ) (m k q : Place) (start : ℕ) (r : Result NodeTree E) → TakesClass LabelOrKeyword m k → start ≡ m.lexer.start → IfOk r (IsOfFlags start k q) → IfOk r (IsParsedBehind BraceOpen (n + 1) m q)
 flags_tied n m k q start (Ok parsed) label_there a h = λ p open_there. flags_parsed n p m k q parsed open_there label_there (subst (λ z. IsOfFlags z k q parsed) a h)
 flags_tied n m k q start (Err x) label_there a h = tt
-
--- ---- payloads
-
-pub payload_tied : {E : Type 0} (n : ℕ) (alone with : NodeType) (m w v q : Place) (start : ℕ) (front : List NodeTree) (r : Result NodeTree E) → v ≡ m → TakesClass ParenOpen v w → start ≡ m.lexer.start → front ≡ label_children with (span_at v) →
-    IfOk r (IsPayload n with start front w q) → IfOk r (IsMaybe n alone with m q)
-payload_tied n alone with m w v q start front (Ok parsed) same h a b k =
-    inr (
-      w,
-      subst (λ z. TakesClass ParenOpen z w) same h,
-      subst (λ z. IsPayload n with z (label_children with (span_at m)) w q parsed) a
-          (subst (λ z. IsPayload n with start z w q parsed) (b ∙ ap (λ z. label_children with (span_at z)) same) k),
-    )
-payload_tied n alone with m w v q start front (Err x) same h a b k = tt

@@ -4,13 +4,13 @@ use Rattle.wave_lex.specs.declared.lex.Token as lex
 use Rattle.wave_lex.specs.declared.lex.Token.TheVariants.{BraceClose, ParenClose, BracketClose, Colon, Comma, Number, LabelOrKeyword, Char, String, MultilineString}
 use Rattle.wave_grammar.specs.ParserPosition.{Place, TakesItem, span_at, text_at, token_of}
 use Rattle.wave_grammar.specs.Tree.{word_of}
-use Rattle.wave_grammar.specs.PrefixAutomaton.{StackSymbol, due_behind, value, behind_value, value_step, unexpected}
+use Rattle.wave_grammar.specs.PrefixAutomaton.{StackSymbol, due_behind, value, behind_value, behind_label, value_step, unexpected}
 use Rattle.wave_grammar.specs.SyntaxErrors.{LeadsBehindValue}
 use Rattle.wave_grammar.specs.NodeTree.{node, no_nodes}
 use Rattle.wave_grammar.specs.declared.form.NodeType.{NodeType}
 use Rattle.wave_grammar.specs.declared.form.NodeType.TheVariants as kind
 use Rattle.wave_tree.specs.ParsedNodes.{IsParsed}
-use Rattle.wave_tree.specs.Private.ParserState.{IsAlone, IsAloneWord, BeginsNothing}
+use Rattle.wave_tree.specs.Private.ParserState.{IsAlone, IsAloneWord, IsLabelWord, BeginsNothing}
 use Rattle.wave_tree.proofs.NodeCorrectness.Items.{same_level, leaf_tied, number_word_tied, none_tied}
 use Rattle.wave_tree.proofs.NodeCorrectness.Tokens.{number_parsed, char_parsed, string_parsed, multiline_parsed}
 use Rattle.wave_tree.proofs.ParserCorrectness.Steps.{value_read, read_there}
@@ -57,3 +57,10 @@ nothing_begins s BracketClose text h = refl
 nothing_begins s Colon text h = refl
 nothing_begins s Comma text h = refl
 nothing_begins s _ text h = absurd h
+
+-- after a label that may have a payload
+pub label_behind : (alone with : NodeType) (text : List ℕ) → IsLabelWord alone with text → due_behind (word_of text) ≡ behind_label
+label_behind kind.ResultOk kind.ResultOk text h = ap due_behind h
+label_behind kind.ResultErr kind.ResultErr text h = ap due_behind h
+label_behind kind.Label kind.VariantWithPayload text h = ap due_behind h
+label_behind _ _ text h = absurd h

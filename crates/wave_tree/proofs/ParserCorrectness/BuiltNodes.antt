@@ -1,12 +1,13 @@
 -- What is made of nodes while their tokens are taken.
 use Rattle.std.proofs.Common.{◌≡◌, ℕ, List, [], ◌∷◌, ◌++◌, Some, Result, Ok, Err, sym, subst, ◌∙◌}
-use Rattle.std.specs.Prelude.{IfOk, IfErr}
+use Rattle.std.specs.Prelude.{IfOk}
 use Rattle.wave_lex.specs.declared.lex.Token as lex
+use Rattle.wave_lex.specs.declared.lex.Token.TheVariants.{Colon}
 use Rattle.wave_lex.specs.Tokenization.{span}
-use Rattle.wave_grammar.specs.ParserPosition.{Place, TakesItem}
+use Rattle.wave_grammar.specs.ParserPosition.{Place, TakesItem, span_at}
 use Rattle.wave_grammar.specs.PrefixAutomaton.{Expectation, StackSymbol}
 use Rattle.wave_grammar.proofs.NodeTexts.Slices.{tokens_source}
-use Rattle.wave_grammar.specs.NodeTree.{NodeTree, node, node_trees}
+use Rattle.wave_grammar.specs.NodeTree.{NodeTree, node, no_nodes, node_trees}
 use Rattle.wave_grammar.specs.declared.form.NodeType.{NodeType}
 use Rattle.wave_tree.specs.ParsedNodes.{IsParsed}
 use Rattle.wave_tree.specs.Private.ParsedNodes.{IsBuilt}
@@ -33,21 +34,6 @@ built Of p q A B (Err x) e f h = tt
 abbrev pub as_ok : NodeTree → Result NodeTree (Unit {0})
 as_ok n = Ok n
 
--- what holds of an answer after any first parts holds of it after these
-pub of_front : {M E A : Type 0} (Holds : A → Type 0) (r : Result M E) (Is : A → M → Type 0) → IfOk r (λ made. (front : A) → Holds front → Is front made) → (front : A) → Holds front → IfOk r (Is front)
-of_front Holds (Ok made) Is h front k = h front k
-of_front Holds (Err x) Is h front k = tt
-
--- so where a part stands next after them
-pub of_part : {M E A : Type 0} (Next Holds : A → Type 0) (r : Result M E) (Is : A → M → Type 0) → IfOk r (λ made. (front : A) → Next front → Holds front → Is front made) → (front : A) → Next front → Holds front → IfOk r (Is front)
-of_part Next Holds (Ok made) Is h front next k = h front next k
-of_part Next Holds (Err x) Is h front next k = tt
-
--- so of a refusal
-pub wants_part : {M E A : Type 0} (Next Holds : A → Type 0) (r : Result M E) (Is : E → Type 0) → IfErr r (λ e. (front : A) → Next front → Holds front → Is e) → (front : A) → Next front → Holds front → IfErr r Is
-wants_part Next Holds (Ok made) Is h front next k = tt
-wants_part Next Holds (Err x) Is h front next k = h front next k
-
 -- what is made of a node of these children
 pub whole_built : {M Q : Type 0} (Of : List ℕ → NodeTree → M → Type 0) (Are : List ℕ → List NodeTree → Q → Type 0) (p q : Place) (ty : NodeType) (start : ℕ) (made : M) (parts : Q) (children : List NodeTree) (B : NodeTree → Type 0) →
     q.lexer.source ≡ p.lexer.source → Are p.lexer.source children parts → ((cs : List NodeTree) → Are q.lexer.source cs parts → Of q.lexer.source (node ty (span start q.lexer.end) (node_trees cs)) made) →
@@ -71,3 +57,19 @@ part_added Are old new children Is e add are =
 pub as_added : {M E A B : Type 0} (r : Result M E) → IfOk r (λ _. A) → (A → B) → IfOk r (λ _. B)
 as_added (Ok made) a f = f a
 as_added (Err e) a f = tt
+
+-- what is made of a node that has no parts
+pub none_built : {M : Type 0} (Of : List ℕ → NodeTree → M → Type 0) (p q : Place) (ty : NodeType) (start : ℕ) (made : M) (B : NodeTree → Type 0) →
+    q.lexer.source ≡ p.lexer.source → Of q.lexer.source (node ty (span start q.lexer.end) no_nodes) made → B (node ty (span start q.lexer.end) no_nodes) → IsBuilt Of p B made
+none_built Of p q ty start made B e of b = let n = node ty (span start q.lexer.end) no_nodes in (n, b, subst (λ (s : List ℕ). Of s n made) e of)
+
+-- a key, which was taken last, and a value after its colon were added to the parts
+pub entry_added : {Q : Type 0} (Are : List ℕ → List NodeTree → Q → Type 0) (levels : ℕ) (p0 p b m : Place) (ty : NodeType) (children : List NodeTree) (old keyed new : Q) →
+    p.lexer.source ≡ p0.lexer.source → TakesItem p (Some (Ok Colon)) b → Are p0.lexer.source children old →
+    (Are p.lexer.source children old → Are p.lexer.source (children ++ node ty (span_at p) no_nodes ∷ []) keyed) →
+    (Are b.lexer.source (children ++ node ty (span_at p) no_nodes ∷ []) keyed → (n : NodeTree) × IsParsed levels b m n × Are b.lexer.source ((children ++ node ty (span_at p) no_nodes ∷ []) ++ n ∷ []) new) →
+    (n : NodeTree) × IsParsed levels b m n × Are p0.lexer.source ((children ++ node ty (span_at p) no_nodes ∷ []) ++ n ∷ []) new
+entry_added Are levels p0 p b m ty children old keyed new here colon_there are push add =
+    let key = node ty (span_at p) no_nodes in
+    let with_key = subst (λ (s : List ℕ). Are s (children ++ key ∷ []) keyed) here (push (subst (λ (s : List ℕ). Are s children old) (sym here) are)) in
+    part_added Are keyed new (children ++ key ∷ []) (IsParsed levels b m) (source_item p b Colon colon_there ∙ here) add with_key

@@ -17,6 +17,7 @@ key_next children n (k, odd) = let longer = length-append children (n ∷ []) in
 
 -- after the label of a case, or first, the payload
 pub payload_due : (ty : NodeType) (p : Range ℕ) → IsOfPayload ty → TakesPart ty (label_children ty p)
+payload_due kind.OptionSome p h = refl
 payload_due kind.VariantWithPayload p h = refl
 payload_due kind.ResultOk p h = refl
 payload_due kind.ResultErr p h = refl
@@ -24,6 +25,7 @@ payload_due _ p h = absurd h
 
 -- a node with a payload has parts
 pub payload_parts : (ty : NodeType) → IsOfPayload ty → IsOfParts ty
+payload_parts kind.OptionSome h = tt
 payload_parts kind.VariantWithPayload h = tt
 payload_parts kind.ResultOk h = tt
 payload_parts kind.ResultErr h = tt

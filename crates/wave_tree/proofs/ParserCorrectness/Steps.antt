@@ -209,42 +209,53 @@ item_within : (d : Expectation) → IsItemDue d → IsWithin d
 item_within d (inl e) = subst IsWithin (sym e) tt
 item_within d (inr e) = subst IsWithin (sym e) tt
 
-item_refused : (x : Diagnostic) (n : ℕ) (d : Expectation) (s : List StackSymbol) (p q : Place) → IsItemDue d → NoClose s p → (ts : List Token) (at : Place) (e : Expectation) (v : List StackSymbol) →
-    TakesTokens p ts at → Shifts n value s ts e v → IsUnfinished e v → StandsAt x.kind x n e v at q → IsSyntaxError x n d s p q
-item_refused x n d s p q i apart [] at e v taken (a, b) u stands = record {
-  unfinished = inl (item_within d i);
-  tokens = [];
-  at = p;
-  due_there = d;
-  open_there = s;
-  taken = refl;
-  leads = (refl, refl);
-  stands = item_stands x.kind x n d s p q i apart (subst (λ z. StandsAt x.kind x n z s p q) (sym a) (subst (λ z. StandsAt x.kind x n e z p q) (sym b) (subst (λ z. StandsAt x.kind x n e v z q) (sym taken) stands)));
-}
-item_refused x n d s p q i apart (t ∷ ts) at e v (m, one, more) (d', s', a, leads) u stands = record {
+-- by what stands next both go on alike, and what is refused there where d is due is refused where e is
+pub record Alike (n : ℕ) (d e : Expectation) (s : List StackSymbol) (p : Place) : Type 0 where
+  pub steps : (t : Token) (q : Place) → TakesToken p t q → step n d s t ≡ step n e s t
+  pub first : (x : Diagnostic) (q : Place) → StandsAt x.kind x n d s p q → IsSyntaxError x n e s p q
+  pub not_behind : IsBehind d p → ⊥
+
+alike_refused : (x : Diagnostic) (n : ℕ) (c d : Expectation) (s : List StackSymbol) (p q : Place) → Alike n c d s p → (ts : List Token) (at : Place) (e : Expectation) (v : List StackSymbol) →
+    TakesTokens p ts at → Shifts n c s ts e v → IsUnfinished e v → StandsAt x.kind x n e v at q → IsSyntaxError x n d s p q
+alike_refused x n c d s p q alike [] at e v taken (a, b) u stands =
+    alike.first x q (subst (λ z. StandsAt x.kind x n c z p q) (sym b) (subst (λ z. StandsAt x.kind x n z v p q) (sym a) (subst (λ z. StandsAt x.kind x n e v z q) (sym taken) stands)))
+alike_refused x n c d s p q alike (t ∷ ts) at e v (m, one, more) (d', s', a, leads) u stands = record {
   unfinished = u;
   tokens = t ∷ ts;
   at = at;
   due_there = e;
   open_there = v;
   taken = (m, one, more);
-  leads = (d', s', sym (item_step n d s t i (apart t m one)) ∙ a, leads);
+  leads = (d', s', sym (alike.steps t m one) ∙ a, leads);
   stands = stands;
 }
 
-pub item_refuses : {n : ℕ} {s : List StackSymbol} {p q : Place} (d : Expectation) (x : Diagnostic) → IsItemDue d → NoClose s p → FailsBySyntax x n value s p q → FailsBySyntax x n d s p q
-item_refuses {n} {s} {p} {q} d x i apart h = λ known. let r = h known in item_refused x n d s p q i apart r.tokens r.at r.due_there r.open_there r.taken r.leads r.unfinished r.stands
+alike_refuses : {n : ℕ} {c d : Expectation} {s : List StackSymbol} {p q : Place} (x : Diagnostic) → Alike n c d s p → FailsBySyntax x n c s p q → FailsBySyntax x n d s p q
+alike_refuses {n} {c} {d} {s} {p} {q} x alike h = λ known. let r = h known in alike_refused x n c d s p q alike r.tokens r.at r.due_there r.open_there r.taken r.leads r.unfinished r.stands
+
+alike_read_at : (n : ℕ) (c d : Expectation) (s v : List StackSymbol) (p q : Place) → Alike n c d s p → (ts : List Token) (e : Expectation) → IsBehind e q → TakesTokens p ts q → Shifts n c s ts e v → Reached n d s p e v q
+alike_read_at n c d s v p q alike [] e b taken (x, y) = absurd (alike.not_behind (subst (λ z. IsBehind z p) (sym x) (subst (IsBehind e) (sym taken) b)))
+alike_read_at n c d s v p q alike (t ∷ ts) e b (m, one, more) (d', s', x, leads) = record { tokens = t ∷ ts; taken = (m, one, more); leads = (d', s', sym (alike.steps t m one) ∙ x, leads) }
+
+alike_read : {n : ℕ} {c d : Expectation} {s v : List StackSymbol} {p q : Place} → Alike n c d s p → (h : LeadsBehindValue n c s p q v) → Reached n d s p h.due_there v q
+alike_read {n} {c} {d} {s} {v} {p} {q} alike h = alike_read_at n c d s v p q alike h.tokens h.due_there h.is_behind h.taken h.leads
 
 value_not_behind : (p : Place) → IsBehind value p → ⊥
 value_not_behind p (inl e) = cc
 value_not_behind p (inr (e, h)) = cc
 
-item_read_at : (n : ℕ) (d : Expectation) (s v : List StackSymbol) (p q : Place) → IsItemDue d → NoClose s p → (ts : List Token) (e : Expectation) → IsBehind e q → TakesTokens p ts q → Shifts n value s ts e v → Reached n d s p e v q
-item_read_at n d s v p q i apart [] e b taken (x, y) = absurd (value_not_behind q (subst (λ z. IsBehind z q) (sym x) b))
-item_read_at n d s v p q i apart (t ∷ ts) e b (m, one, more) (d', s', x, leads) = record { tokens = t ∷ ts; taken = (m, one, more); leads = (d', s', sym (item_step n d s t i (apart t m one)) ∙ x, leads) }
+item_alike : (n : ℕ) (d : Expectation) (s : List StackSymbol) (p : Place) → IsItemDue d → NoClose s p → Alike n value d s p
+item_alike n d s p i apart = record {
+  steps = λ t q there. item_step n d s t i (apart t q there);
+  first = λ x q stands. record { unfinished = inl (item_within d i); tokens = []; at = p; due_there = d; open_there = s; taken = refl; leads = (refl, refl); stands = item_stands x.kind x n d s p q i apart stands };
+  not_behind = value_not_behind p;
+}
+
+pub item_refuses : {n : ℕ} {s : List StackSymbol} {p q : Place} (d : Expectation) (x : Diagnostic) → IsItemDue d → NoClose s p → FailsBySyntax x n value s p q → FailsBySyntax x n d s p q
+item_refuses {n} {s} {p} d x i apart h = alike_refuses x (item_alike n d s p i apart) h
 
 pub item_read : {n : ℕ} {s v : List StackSymbol} {p q : Place} (d : Expectation) → IsItemDue d → NoClose s p → (h : LeadsBehindValue n value s p q v) → Reached n d s p h.due_there v q
-item_read {n} {s} {v} {p} {q} d i apart h = item_read_at n d s v p q i apart h.tokens h.due_there h.is_behind h.taken h.leads
+item_read {n} {s} {v} {p} d i apart h = alike_read (item_alike n d s p i apart) h
 
 -- ---- what is left gets less
 
@@ -461,6 +472,58 @@ taken_count p q (t ∷ ts) (m, (c, h, e), more) = let one = taken_count m q ts m
 
 pub place_path : (p q : Place) → p.lexer ≡ q.lexer → p.taken ≡ q.taken → p ≡ q
 place_path p q e f = λ i. record { lexer = e i; taken = f i }
+
+-- ---- what stands next is known
+
+same_class : (c k : lex.Token) → item_of c ≡ item_of k → c ≡ k
+same_class c k e = cc
+
+next_same : (p w q : Place) (c k : lex.Token) → TakesItem p (Some (Ok c)) w → TakesItem p (Some (Ok k)) q → (q ≡ w) × (k ≡ c)
+next_same p w q c k h g = let one = next_one p.lexer q.lexer w.lexer _ _ g.0 h.0 in (place_path q w one.0 (g.1 ∙ sym h.1), same_class k c one.1)
+
+module _ (n : ℕ) (d e f : Expectation) (s v : List StackSymbol) (p w : Place) (c : lex.Token) (there : TakesItem p (Some (Ok c)) w) (goes : step n d s (token_of c (text_at w)) ≡ reads f v) where
+  token_same : (t : Token) (q : Place) → TakesToken p t q → t ≡ token_of c (text_at w)
+  token_same t q (k, h, is) = let same = next_same p w q c k there h in is ∙ (ap (λ z. token_of z (text_at q)) same.1 ∙ ap (λ z. token_of c (text_at z)) same.0)
+
+  known_goes : (k : lex.Token) (q : Place) → TakesItem p (Some (Ok k)) q → step n d s (token_of k (text_at q)) ≡ reads f v
+  known_goes k q h = ap (step n d s) (token_same (token_of k (text_at q)) q (token_there p q k h)) ∙ goes
+
+  known_stands : (k : ParserErrorKind) (x : Diagnostic) (q : Place) → (IsValueDue d → ⊥) → StandsAt k x n d s p q → ⊥
+  known_stands kind.EmptyTuple x q apart (k, (h, is), says) = let wrong : reads f v ≡ empty_tuple = sym (known_goes k q h) ∙ is in cc
+  known_stands kind.UnexpectedToken x q apart (k, (h, is), says) = let wrong : reads f v ≡ unexpected = sym (known_goes k q h) ∙ is in cc
+  known_stands kind.DuplicateFlag x q apart (k, (h, is), says) = let wrong : reads f v ≡ repeated_flag = sym (known_goes k q h) ∙ is in cc
+  known_stands kind.InvalidToken x q apart (bad, h, shallow, says) = let wrong : item_of c ≡ Some (Err bad) = (next_one p.lexer w.lexer q.lexer _ _ there.0 h.0).1 in cc
+  known_stands kind.UnexpectedEnd x q apart (h, shallow, says) = let wrong : item_of c ≡ None = (next_one p.lexer w.lexer q.lexer _ _ there.0 h.0).1 in cc
+  known_stands kind.NestingTooDeep x q apart (deep, h, says) = apart deep.due
+  known_stands k x q apart h = absurd h
+
+  -- both go on alike, as what stands next is known
+  pub known_alike : (IsValueDue d → ⊥) → (IsBehind d p → ⊥) → step n e s (token_of c (text_at w)) ≡ reads f v → Alike n d e s p
+  known_alike apart not_behind as_well = record {
+    steps = λ t q one. let same = token_same t q one in ap (step n d s) same ∙ (goes ∙ (sym as_well ∙ ap (step n e s) (sym same)));
+    first = λ x q stands. absurd (known_stands x.kind x q apart stands);
+    not_behind = not_behind;
+  }
+
+pub gives_alike : {X : Type 0} (n : ℕ) (d e : Expectation) (s v : List StackSymbol) (p q : Place) (r : Result X Diagnostic) → Alike n d e s p → Gives r n d s p q v → Gives r n e s p q v
+gives_alike n d e s v p q (Ok x) alike h = read_there (alike_read alike h) h.is_behind
+gives_alike n d e s v p q (Err x) alike h = alike_refuses x alike h
+
+paren_not_behind : (p : Place) → IsBehind due.paren p → ⊥
+paren_not_behind p (inl e) = cc
+paren_not_behind p (inr (e, h)) = cc
+
+key_not_behind : (p : Place) → IsBehind due.behind_key p → ⊥
+key_not_behind p (inl e) = cc
+key_not_behind p (inr (e, h)) = cc
+
+-- before an open parenthesis a label goes on as `some` does
+pub paren_alike : (n : ℕ) (s : List StackSymbol) (p : Place) → (next : Place) × TakesItem p (Some (Ok ParenOpen)) next → Alike n due.paren behind_label s p
+paren_alike n s p (w, there) = known_alike n due.paren behind_label value s (due.payload ∷ s) p w ParenOpen there refl (λ h. h) (paren_not_behind p) refl
+
+-- before a colon a word in braces goes on as a key does
+pub colon_alike : (n : ℕ) (s : List StackSymbol) (p : Place) (text : List ℕ) → (next : Place) × TakesItem p (Some (Ok Colon)) next → Alike n due.behind_key (due.behind_word text) s p
+colon_alike n s p text (w, there) = known_alike n due.behind_key (due.behind_word text) value s (due.entries ∷ s) p w Colon there refl (λ h. h) (key_not_behind p) refl
 
 pub flag_within : (d : Expectation) (names : List (List ℕ)) (p : Place) → IsFlagDue d names p → IsWithin d
 flag_within d names p (inl e) = subst IsWithin (sym e) tt

@@ -17,8 +17,9 @@ use Rattle.wave_tree.specs.ParsedNodes.{IsParsed, TakesClass}
 abbrev pub IsParsedBehind : lex.Token → ℕ → Place → Place → NodeTree → Type 0
 IsParsedBehind c n first new parsed = (old : Place) → TakesClass c old first → IsParsed n old new parsed
 
--- the type of a node of a label and its payload
+-- the type of a node of a keyword or a label, and its payload
 abbrev pub IsOfPayload : NodeType → Type 0
+IsOfPayload kind.OptionSome = Unit {0}
 IsOfPayload kind.VariantWithPayload = Unit {0}
 IsOfPayload kind.ResultOk = Unit {0}
 IsOfPayload kind.ResultErr = Unit {0}
@@ -37,11 +38,14 @@ pub record IsPayload (n : ℕ) (ty : NodeType) (start : ℕ) (children : List No
   pub close : TakesClass class.ParenClose behind new
   pub is : parsed ≡ node ty (span start new.lexer.end) (node_trees (children ++ payload ∷ []))
 
+-- after the keyword or the label at the place old its payload in parentheses
+abbrev pub IsInParens : ℕ → NodeType → Place → Place → NodeTree → Type 0
+IsInParens n ty old new parsed =
+    (m : Place) × TakesClass class.ParenOpen old m × IsPayload n ty old.lexer.start (label_children ty (span_at old)) m new parsed
+
 -- after a label no payload, or one in parentheses
 abbrev pub IsMaybe : ℕ → NodeType → NodeType → Place → Place → NodeTree → Type 0
-IsMaybe n alone with old new parsed =
-    (new ≡ old) × (parsed ≡ node alone (span_at old) no_nodes)
-    ⊎ ((m : Place) × TakesClass class.ParenOpen old m × IsPayload n with old.lexer.start (label_children with (span_at old)) m new parsed)
+IsMaybe n alone with old new parsed = (new ≡ old) × (parsed ≡ node alone (span_at old) no_nodes) ⊎ IsInParens n with old new parsed
 
 -- the close, or a comma and the close
 abbrev pub IsClosed : lex.Token → Place → Place → Type 0
@@ -94,11 +98,16 @@ abbrev mutual
   AreFurtherPairs n p (key ∷ more) q =
       (m : Place) × (k : Place) × (behind : Place) × TakesClass class.Comma p m × IsKeyAt m key k × TakesClass class.Colon k behind × ArePairs n behind more q
 
--- a node of entries after its first key, which starts there
-pub record IsOfEntries (n : ℕ) (start : ℕ) (key : NodeTree) (old new : Place) (parsed : NodeTree) : Type 0 where
-  pub pairs : List NodeTree
-  pub are : ArePairs n old pairs new
-  pub is : parsed ≡ node kind.TupleSet (span start new.lexer.end) (node_trees (key ∷ pairs))
+-- the key at this place, of a node of this type, and after its colon what follows it
+abbrev pub AreKeyedParts : ℕ → NodeType → Place → List NodeTree → Place → Type 0
+AreKeyedParts n ty p cs q =
+    (behind : Place) × (pairs : List NodeTree) × TakesClass class.Colon p behind × ArePairs n behind pairs q × (cs ≡ node ty (span_at p) no_nodes ∷ pairs)
+
+-- a node of entries after its first key, of this type, which stands at the place old; it starts there
+pub record IsOfEntries (n : ℕ) (start : ℕ) (ty : NodeType) (old new : Place) (parsed : NodeTree) : Type 0 where
+  pub children : List NodeTree
+  pub are : AreKeyedParts n ty old children new
+  pub is : parsed ≡ node kind.TupleSet (span start new.lexer.end) (node_trees children)
 
 -- the flag's node
 abbrev pub flag_node : Flag → NodeTree

@@ -90,6 +90,13 @@ IsAlone class.MultilineString text ty = ty ≡ kind.MultilineString
 IsAlone class.LabelOrKeyword text ty = IsAloneWord ty text
 IsAlone _ text ty = ⊥
 
+-- a word of this text may have a payload; these are the types of its node without one, and with one
+abbrev pub IsLabelWord : NodeType → NodeType → List ℕ → Type 0
+IsLabelWord kind.ResultOk kind.ResultOk text = word_of text ≡ ok_word
+IsLabelWord kind.ResultErr kind.ResultErr text = word_of text ≡ err_word
+IsLabelWord kind.Label kind.VariantWithPayload text = word_of text ≡ case_word
+IsLabelWord _ _ text = ⊥
+
 -- no value begins with a token of this class
 abbrev pub BeginsNothing : lex.Token → Type 0
 BeginsNothing class.Number = ⊥
@@ -106,9 +113,7 @@ BeginsNothing _ = Unit {0}
 abbrev pub IsValueStart : lex.Token → List ℕ → ValueStart → Type 0
 IsValueStart c text (front.Alone ty) = IsAlone c text ty
 IsValueStart c text front.Some = (c ≡ class.LabelOrKeyword) × (word_of text ≡ some_word)
-IsValueStart c text front.Ok = (c ≡ class.LabelOrKeyword) × (word_of text ≡ ok_word)
-IsValueStart c text front.Err = (c ≡ class.LabelOrKeyword) × (word_of text ≡ err_word)
-IsValueStart c text front.Case = (c ≡ class.LabelOrKeyword) × (word_of text ≡ case_word)
+IsValueStart c text (front.Label alone with) = (c ≡ class.LabelOrKeyword) × IsLabelWord alone with text
 IsValueStart c text front.Paren = c ≡ class.ParenOpen
 IsValueStart c text front.Bracket = c ≡ class.BracketOpen
 IsValueStart c text front.Brace = c ≡ class.BraceOpen

@@ -6,24 +6,25 @@ use Rattle.wave_grammar.specs.PrefixAutomaton.{Expectation, StackSymbol, due_beh
 use Rattle.wave_grammar.specs.PrefixAutomaton as due
 use Rattle.wave_grammar.specs.SyntaxErrors.{Gives, IsBehind, LeadsBehindValue}
 use Rattle.std.specs.declared.ops.Range.{Range}
+use Rattle.wave_lex.specs.Tokenization.{span}
 use Rattle.wave_tree.specs.Private.TokenRoles.{form_of, IsClose}
 use Rattle.wave_lex.specs.declared.error.ParserErrorKind.TheVariants as because
-use Rattle.wave_tree.proofs.ParserCorrectness.Steps.{gives_or_memory, no_level, refuses_there, kind_is, here, here_is, handed, gives_then, fails, any_token, shallow, value_read, level_open, read_there, unexpected_there, no_paren, then_token, token_there, behind_bare, reached, fails_behind, then_behind, payload_other, unexpected_behind, expected, untrue, moved, then_class, then_behind_class, range_path, close_first, close_empty, close_next, then_same, then_refuses, item_refuses, item_read, then_reached, Reached, IsItemDue, no_close, empty_there, key_reads, no_key, brace_key, entries_other, close_behind, comma_behind, other_behind, token_less, tokens_less, left_at, no_colon, no_brace}
+use Rattle.wave_tree.proofs.ParserCorrectness.Steps.{gives_or_memory, no_level, refuses_there, kind_is, here, here_is, handed, gives_then, fails, any_token, shallow, value_read, level_open, read_there, unexpected_there, no_paren, then_token, token_there, behind_bare, reached, fails_behind, then_behind, payload_other, unexpected_behind, expected, untrue, moved, then_class, then_behind_class, range_path, close_first, close_empty, close_next, then_same, then_refuses, item_refuses, item_read, then_reached, Reached, IsItemDue, no_close, empty_there, key_reads, no_key, brace_key, entries_other, close_behind, comma_behind, other_behind, token_less, tokens_less, left_at, no_colon, no_brace, gives_alike, paren_alike, colon_alike}
 use Rattle.wave_tree.specs.declared.role.ValueStart.{ValueStart}
 use Rattle.wave_tree.specs.declared.role.ValueStart.TheVariants as front
 use Rattle.wave_tree.specs.Private.ParserState.{Stream, AsksFor, IsAlone, IsValueStart}
-use Rattle.wave_tree.specs.Private.ParsedNodes.{IsParsedBehind, IsMaybe, IsPayload, IsOfItems, IsOfEntries, IsOfFlags, items_type, label_children, IsBuilt}
+use Rattle.wave_tree.specs.Private.ParsedNodes.{IsParsedBehind, IsMaybe, IsInParens, IsOfItems, IsOfEntries, IsOfFlags, items_type, label_children}
 use Rattle.wave_tree.specs.ParsedNodes.{TakesClass, IsParsed}
-use Rattle.wave_grammar.specs.NodeTree.{NodeTree, node, no_nodes}
+use Rattle.wave_grammar.specs.NodeTree.{NodeTree, node, no_nodes, node_trees}
 use Rattle.wave_grammar.specs.declared.form.NodeType.{NodeType}
 use Rattle.wave_grammar.specs.declared.form.NodeType.TheVariants as kind_of_node
-use Rattle.wave_tree.proofs.NodeCorrectness.Items.{class_as, label_tied, items_tied, braces_tied, some_tied, ok_tied, err_tied, case_tied, some_there, type_of_items, items_made, items_none, items_first, items_next, pairs_next, pairs_close, empty_tied, no_fields_tied, entries_tied, flags_tied, payload_tied}
+use Rattle.wave_tree.proofs.NodeCorrectness.Items.{class_as, label_tied, items_tied, braces_tied, some_tied, some_there, type_of_items, items_made, items_none, items_first, items_next, empty_tied, no_fields_tied, entries_tied, flags_tied, word_tied, keyed_next, keyed_close}
 use Rattle.wave_grammar.proofs.Elaboration.ParamsInTurn.{error_handed}
 use Rattle.wave_tree.specs.Private.ParserState.{OnlyOutOfMemory}
-use Rattle.wave_tree.proofs.ParserCorrectness.AloneTokens.{alone_parsed, alone_led, nothing_begins}
-use Rattle.wave_tree.proofs.ParserCorrectness.OutOfMemory.{whatever_parts, wants_any, wants_refused, wants_reached, wants_less, answer_token, answer_brace, wants_other, wants_fails, wants_taken}
+use Rattle.wave_tree.proofs.ParserCorrectness.AloneTokens.{alone_parsed, alone_led, label_behind, nothing_begins}
+use Rattle.wave_tree.proofs.ParserCorrectness.OutOfMemory.{wants_token, whatever_parts, wants_any, wants_refused, wants_reached, wants_less, answer_token, answer_brace, wants_other, wants_fails, wants_taken}
 use Rattle.wave_tree.proofs.ParserCorrectness.PartsDue.{key_next, value_next, payload_due, payload_parts}
-use Rattle.wave_tree.proofs.ParserCorrectness.BuiltNodes.{as_added, part_added, built, whole_built, as_ok, of_front, of_part, wants_part, source_item, source_parsed, source_reached}
+use Rattle.wave_tree.proofs.ParserCorrectness.BuiltNodes.{as_added, part_added, entry_added, built, whole_built, none_built, as_ok, source_item, source_parsed, source_reached}
 use Rattle.wave_grammar.specs.NodeParts.{IsOfParts, TakesPart}
 use Rattle.wave_tree.proofs.ParserCorrectness.ClassTests.{is_class, is_other, differs, differs_not}
 use Rattle.wave_tree.proofs.ParserCorrectness.LexerCalls.{asks_none, asks_once, asks_token, asks_looked, asks_read, asks_reached}
@@ -34,9 +35,17 @@ use Rattle.wave_tree.proofs.tokens.Tokens.+parser.Goals.{parse_items-then-eq-2, 
 front_alone : (c : lex.Token) (text shown : List ℕ) (f : ValueStart) (ty : NodeType) → shown ≡ text → IsValueStart c shown f → f ≡ front.Alone ty → IsAlone c text ty
 front_alone c text shown f ty text_is begins is = subst (λ (z : List ℕ). IsAlone c z ty) text_is (subst (IsValueStart c shown) is begins)
 
+-- after an open parenthesis
+open_there : {n : ℕ} {s : List StackSymbol} {p w : Place} → TakesItem p (Some (Ok ParenOpen)) w → Reached n due.paren s p due.value (due.payload ∷ s) w
+open_there {n} {s} {p} h = then_same ParenOpen (here n due.paren s p) h refl
+
+-- after a key and its colon
+value_there : {n : ℕ} {s : List StackSymbol} {p q w : Place} → Reached n due.behind_key s p due.behind_key s q → TakesItem q (Some (Ok Colon)) w → Reached n due.behind_key s p due.value (due.entries ∷ s) w
+value_there so_far h = then_same Colon so_far h refl
+
 -- after a value and a comma a key is due
-key_due : {n : ℕ} {s : List StackSymbol} {p q m w : Place} {c : lex.Token} → Reached n due.value (due.entries ∷ s) p due.value (due.entries ∷ s) q → (item : LeadsBehindValue n due.value (due.entries ∷ s) q m (due.entries ∷ s)) →
-    TakesItem m (Some (Ok c)) w → c ≡ Comma → Reached n due.value (due.entries ∷ s) p due.key s w
+key_due : {n : ℕ} {s : List StackSymbol} {p q m w : Place} {c : lex.Token} → Reached n due.behind_key s p due.value (due.entries ∷ s) q → (item : LeadsBehindValue n due.value (due.entries ∷ s) q m (due.entries ∷ s)) →
+    TakesItem m (Some (Ok c)) w → c ≡ Comma → Reached n due.behind_key s p due.key s w
 key_due {s = s} so_far item comma_there is_comma = then_behind_class {f = due.key} {b = s} item.due_there Comma (then_reached so_far (reached item)) item.is_behind comma_there is_comma refl
 
 -- after a value that was read
@@ -51,9 +60,8 @@ asks_items levels close old at new led first more =
     asks_reached (levels + 1) due.first_item d (form_of close ∷ []) (form_of close ∷ []) old at new r first more
 
 -- after the entries so far
-asks_entries : (levels : ℕ) (old at new : Stream) → ((n : ℕ) (s : List StackSymbol) → n ≡ levels + 1 + length s → Reached n due.value (due.entries ∷ s) old.place due.value (due.entries ∷ s) at.place) →
-    AsksFor old at → AsksFor at new → AsksFor old new
-asks_entries levels old at new led first more = asks_reached (levels + 1) due.value due.value (due.entries ∷ []) (due.entries ∷ []) old at new (led (levels + 1) [] (omega arith)) first more
+asks_entries : (levels : ℕ) (old at new : Stream) → ((n : ℕ) (s : List StackSymbol) → n ≡ levels + 1 + length s → Reached n due.behind_key s old.place due.behind_key s at.place) → AsksFor old at → AsksFor at new → AsksFor old new
+asks_entries levels old at new led first more = asks_reached (levels + 1) due.behind_key due.behind_key [] [] old at new (led (levels + 1) [] (omega arith)) first more
 
 pub parse_part-returns-in_err-token-clause-led : goal.parse_part-returns-in_err-token-clause-led
 parse_part-returns-in_err-token-clause-led g t c = λ n s e. handed s _ _ c.from_residual.ensures.1
@@ -61,26 +69,6 @@ parse_part-returns-in_err-token-clause-led g t c = λ n s e. handed s _ _ c.from
 
 pub parse_after_token-returns-in-Alone-clause-led : goal.parse_after_token-returns-in-Alone-clause-led
 parse_after_token-returns-in-Alone-clause-led g t c = λ first there n s e. alone_led n s first c.args.self.now.place c.args.token c.in-Alone.ty (omega arith) there (subst (IsValueStart c.args.token (text_at c.args.self.now.place)) c.in-Alone.is c.requires.front)
-
-pub parse_after_token-returns-in-Some-clause-led : goal.parse_after_token-returns-in-Some-clause-led
-parse_after_token-returns-in-Some-clause-led g t c = λ first there n s e.
-    let front = subst (IsValueStart c.args.token (text_at c.args.self.now.place)) c.in-Some.is c.requires.front in
-    gives_then s _ c.parse_some.result (value_read n due.paren s s _ _ _ LabelOrKeyword (omega arith) there front.0 (ap (λ w. reads (due_behind w) s) front.1)) (c.parse_some.ensures.led n s (omega arith))
-
-pub parse_after_token-returns-in-Ok-clause-led : goal.parse_after_token-returns-in-Ok-clause-led
-parse_after_token-returns-in-Ok-clause-led g t c = λ first there n s e.
-    let front = subst (IsValueStart c.args.token (text_at c.args.self.now.place)) c.in-Ok.is c.requires.front in
-    gives_then s _ c.parse_optional_payload.result (value_read n due.behind_label s s _ _ _ LabelOrKeyword (omega arith) there front.0 (ap (λ w. reads (due_behind w) s) front.1)) (c.parse_optional_payload.ensures.led n s (omega arith))
-
-pub parse_after_token-returns-in-Err-clause-led : goal.parse_after_token-returns-in-Err-clause-led
-parse_after_token-returns-in-Err-clause-led g t c = λ first there n s e.
-    let front = subst (IsValueStart c.args.token (text_at c.args.self.now.place)) c.in-Err.is c.requires.front in
-    gives_then s _ c.parse_optional_payload-in-Err.result (value_read n due.behind_label s s _ _ _ LabelOrKeyword (omega arith) there front.0 (ap (λ w. reads (due_behind w) s) front.1)) (c.parse_optional_payload-in-Err.ensures.led n s (omega arith))
-
-pub parse_after_token-returns-in-Case-clause-led : goal.parse_after_token-returns-in-Case-clause-led
-parse_after_token-returns-in-Case-clause-led g t c = λ first there n s e.
-    let front = subst (IsValueStart c.args.token (text_at c.args.self.now.place)) c.in-Case.is c.requires.front in
-    gives_then s _ c.parse_optional_payload-in-Case.result (value_read n due.behind_label s s _ _ _ LabelOrKeyword (omega arith) there front.0 (ap (λ w. reads (due_behind w) s) front.1)) (c.parse_optional_payload-in-Case.ensures.led n s (omega arith))
 
 pub parse_after_token-returns-in-Paren-clause-led : goal.parse_after_token-returns-in-Paren-clause-led
 parse_after_token-returns-in-Paren-clause-led g t c = λ first there n s e. gives_then s _ c.parse_items.result (value_read n due.first_item s (due.tuple ∷ s) _ _ _ ParenOpen (omega arith) there (subst (IsValueStart c.args.token (text_at c.args.self.now.place)) c.in-Paren.is c.requires.front) refl) (c.parse_items.ensures.led n s (omega arith))
@@ -98,43 +86,8 @@ parse_after_token-returns-in-Nothing-clause-led g t c = λ first there n s e.
     (level_open n s (token_of c.args.token (text_at c.args.self.now.place)) (omega arith) ∙ nothing_begins s c.args.token (text_at c.args.self.now.place) (subst (IsValueStart c.args.token (text_at c.args.self.now.place)) c.in-Nothing.is c.requires.front))
     says)
 
-pub parse_some-returns-in_err-expect-clause-led : goal.parse_some-returns-in_err-expect-clause-led
-parse_some-returns-in_err-expect-clause-led g t c = λ n s e. handed s _ _ c.from_residual.ensures.1
-    (fails (inl tt) (λ k. k ≡ ParenOpen) c.in_err-expect.field-0.0 (here n due.paren s _) (λ deep. deep.due) (λ k h apart. no_paren n s k (text_at c.expect.new.self.place) apart) c.in_err-expect.ensures.takes)
-
-pub parse_some-returns-clause-led : goal.parse_some-returns-clause-led
-parse_some-returns-clause-led g t c = λ n s e. gives_then s _ c.parse_payload.result (then_token _ (here n due.paren s _) (token_there _ _ ParenOpen c.in_ok-expect.ensures.takes) refl) (c.parse_payload.ensures.led n s (omega arith))
-
-pub parse_some-returns-clause-asks : goal.parse_some-returns-clause-asks
-parse_some-returns-clause-asks g t c =
-    asks_token c.args.self.now c.expect.new.self c.parse_payload.new.self ParenOpen c.in_ok-expect.ensures.takes c.expect.ensures.asks c.parse_payload.ensures.asks
-
 pub parse_after_token-returns-in-Alone-clause-tree : goal.parse_after_token-returns-in-Alone-clause-tree
 parse_after_token-returns-in-Alone-clause-tree g t c = (node c.in-Alone.ty (span_at c.args.self.now.place) no_nodes, λ first there. alone_parsed c.args.levels first c.args.self.now.place c.args.token c.in-Alone.ty c.requires.levels there (subst (IsValueStart c.args.token (text_at c.args.self.now.place)) c.in-Alone.is c.requires.front), c.leaf.ensures)
-
-pub parse_after_token-returns-in-Some-clause-tree : goal.parse_after_token-returns-in-Some-clause-tree
-parse_after_token-returns-in-Some-clause-tree g t c =
-    let front = subst (IsValueStart c.args.token (text_at c.args.self.now.place)) c.in-Some.is c.requires.front in
-    built (g.P.Builder.is_made c.args.builder) c.args.self.now.place c.args.self.now.place (IsParsedBehind LabelOrKeyword (c.args.levels - 1 + 1) c.args.self.now.place c.parse_some.new.self.place) (IsParsedBehind c.args.token c.args.levels c.args.self.now.place c.parse_some.new.self.place) c.parse_some.result refl
-    (λ n is first there. label_tied c.args.levels first c.args.self.now.place c.parse_some.new.self.place c.args.token (as_ok n) c.requires.levels there front.0 is) c.parse_some.ensures.tree
-
-pub parse_after_token-returns-in-Ok-clause-tree : goal.parse_after_token-returns-in-Ok-clause-tree
-parse_after_token-returns-in-Ok-clause-tree g t c =
-    let front = subst (IsValueStart c.args.token (text_at c.args.self.now.place)) c.in-Ok.is c.requires.front in
-    built (g.P.Builder.is_made c.args.builder) c.args.self.now.place c.args.self.now.place (IsMaybe (c.args.levels - 1) kind_of_node.ResultOk kind_of_node.ResultOk c.args.self.now.place c.parse_optional_payload.new.self.place) (IsParsedBehind c.args.token c.args.levels c.args.self.now.place c.parse_optional_payload.new.self.place) c.parse_optional_payload.result refl
-    (λ n is first there. label_tied c.args.levels first c.args.self.now.place c.parse_optional_payload.new.self.place c.args.token (as_ok n) c.requires.levels there front.0 (ok_tied (c.args.levels - 1) c.args.self.now.place c.parse_optional_payload.new.self.place (as_ok n) front.1 is)) c.parse_optional_payload.ensures.tree
-
-pub parse_after_token-returns-in-Err-clause-tree : goal.parse_after_token-returns-in-Err-clause-tree
-parse_after_token-returns-in-Err-clause-tree g t c =
-    let front = subst (IsValueStart c.args.token (text_at c.args.self.now.place)) c.in-Err.is c.requires.front in
-    built (g.P.Builder.is_made c.args.builder) c.args.self.now.place c.args.self.now.place (IsMaybe (c.args.levels - 1) kind_of_node.ResultErr kind_of_node.ResultErr c.args.self.now.place c.parse_optional_payload-in-Err.new.self.place) (IsParsedBehind c.args.token c.args.levels c.args.self.now.place c.parse_optional_payload-in-Err.new.self.place) c.parse_optional_payload-in-Err.result refl
-    (λ n is first there. label_tied c.args.levels first c.args.self.now.place c.parse_optional_payload-in-Err.new.self.place c.args.token (as_ok n) c.requires.levels there front.0 (err_tied (c.args.levels - 1) c.args.self.now.place c.parse_optional_payload-in-Err.new.self.place (as_ok n) front.1 is)) c.parse_optional_payload-in-Err.ensures.tree
-
-pub parse_after_token-returns-in-Case-clause-tree : goal.parse_after_token-returns-in-Case-clause-tree
-parse_after_token-returns-in-Case-clause-tree g t c =
-    let front = subst (IsValueStart c.args.token (text_at c.args.self.now.place)) c.in-Case.is c.requires.front in
-    built (g.P.Builder.is_made c.args.builder) c.args.self.now.place c.args.self.now.place (IsMaybe (c.args.levels - 1) kind_of_node.Label kind_of_node.VariantWithPayload c.args.self.now.place c.parse_optional_payload-in-Case.new.self.place) (IsParsedBehind c.args.token c.args.levels c.args.self.now.place c.parse_optional_payload-in-Case.new.self.place) c.parse_optional_payload-in-Case.result refl
-    (λ n is first there. label_tied c.args.levels first c.args.self.now.place c.parse_optional_payload-in-Case.new.self.place c.args.token (as_ok n) c.requires.levels there front.0 (case_tied (c.args.levels - 1) c.args.self.now.place c.parse_optional_payload-in-Case.new.self.place (as_ok n) front.1 is)) c.parse_optional_payload-in-Case.ensures.tree
 
 pub parse_after_token-returns-in-Paren-clause-tree : goal.parse_after_token-returns-in-Paren-clause-tree
 parse_after_token-returns-in-Paren-clause-tree g t c =
@@ -154,31 +107,6 @@ parse_after_token-returns-in-Brace-clause-tree g t c =
     built (g.P.Builder.is_made c.args.builder) c.args.self.now.place c.args.self.now.place (IsParsedBehind BraceOpen (c.args.levels - 1 + 1) c.args.self.now.place c.parse_braces.new.self.place) (IsParsedBehind c.args.token c.args.levels c.args.self.now.place c.parse_braces.new.self.place) c.parse_braces.result refl
     (λ n is first there. braces_tied c.args.levels first c.args.self.now.place c.parse_braces.new.self.place c.args.token (as_ok n) c.requires.levels there front is) c.parse_braces.ensures.tree
 
-pub parse_some-returns-clause-tree : goal.parse_some-returns-clause-tree
-parse_some-returns-clause-tree g t c =
-    built (g.P.Builder.is_made c.args.builder) c.args.self.now.place c.expect.new.self.place (IsPayload c.args.levels kind_of_node.OptionSome c.span-start.result.start [] c.expect.new.self.place c.parse_payload.new.self.place) (IsParsedBehind LabelOrKeyword (c.args.levels + 1) c.args.self.now.place c.parse_payload.new.self.place) c.parse_payload.result (source_item c.args.self.now.place c.expect.new.self.place ParenOpen c.in_ok-expect.ensures.takes)
-    (λ n. some_tied c.args.levels c.args.self.now.place c.expect.new.self.place c.parse_payload.new.self.place c.span-start.result.start [] (as_ok n) c.requires (ap (λ (z : Range ℕ). z.start) c.span-start.ensures) refl c.in_ok-expect.ensures.takes)
-    (of_part (TakesPart kind_of_node.OptionSome) (λ front. g.P.Builder.are_parts c.args.builder c.expect.new.self.place.lexer.source kind_of_node.OptionSome front c.parts-parts.result) c.parse_payload.result (λ front. IsBuilt (g.P.Builder.is_made c.args.builder) c.expect.new.self.place (IsPayload c.args.levels kind_of_node.OptionSome c.span-start.result.start front c.expect.new.self.place c.parse_payload.new.self.place)) c.parse_payload.ensures.tree [] refl (c.parts-parts.ensures c.expect.new.self.place.lexer.source tt))
-
-pub parse_some-returns-in_err-expect-clause-memory : goal.parse_some-returns-in_err-expect-clause-memory
-parse_some-returns-in_err-expect-clause-memory g t c = error_handed (OnlyOutOfMemory (g.P.Builder.takes_memory c.args.builder) c.args.self.now.place) c.from_residual.result c.in_err-expect.field-0.0 c.from_residual.ensures.1 (wants_fails (g.P.Builder.takes_memory c.args.builder) c.args.self.now.place c.args.self.now.place c.expect.new.self.place (λ k. k ≡ ParenOpen) c.in_err-expect.field-0.0 c.in_err-expect.ensures.takes)
-
-pub parse_some-returns-clause-memory : goal.parse_some-returns-clause-memory
-parse_some-returns-clause-memory g t c = answer_token (g.P.Builder.takes_memory c.args.builder) c.args.self.now.place c.expect.new.self.place ParenOpen c.parse_payload.result c.in_ok-expect.ensures.takes
-    (wants_part (TakesPart kind_of_node.OptionSome) (λ front. g.P.Builder.are_parts c.args.builder c.expect.new.self.place.lexer.source kind_of_node.OptionSome front c.parts-parts.result) c.parse_payload.result (OnlyOutOfMemory (g.P.Builder.takes_memory c.args.builder) c.expect.new.self.place) c.parse_payload.ensures.memory [] refl (c.parts-parts.ensures c.expect.new.self.place.lexer.source tt))
-
-pub parse_after_token-returns-in-Some-clause-memory : goal.parse_after_token-returns-in-Some-clause-memory
-parse_after_token-returns-in-Some-clause-memory g t c = λ first there. answer_token (g.P.Builder.takes_memory c.args.builder) first c.args.self.now.place c.args.token c.parse_some.result there c.parse_some.ensures.memory
-
-pub parse_after_token-returns-in-Ok-clause-memory : goal.parse_after_token-returns-in-Ok-clause-memory
-parse_after_token-returns-in-Ok-clause-memory g t c = λ first there. answer_token (g.P.Builder.takes_memory c.args.builder) first c.args.self.now.place c.args.token c.parse_optional_payload.result there c.parse_optional_payload.ensures.memory
-
-pub parse_after_token-returns-in-Err-clause-memory : goal.parse_after_token-returns-in-Err-clause-memory
-parse_after_token-returns-in-Err-clause-memory g t c = λ first there. answer_token (g.P.Builder.takes_memory c.args.builder) first c.args.self.now.place c.args.token c.parse_optional_payload-in-Err.result there c.parse_optional_payload-in-Err.ensures.memory
-
-pub parse_after_token-returns-in-Case-clause-memory : goal.parse_after_token-returns-in-Case-clause-memory
-parse_after_token-returns-in-Case-clause-memory g t c = λ first there. answer_token (g.P.Builder.takes_memory c.args.builder) first c.args.self.now.place c.args.token c.parse_optional_payload-in-Case.result there c.parse_optional_payload-in-Case.ensures.memory
-
 pub parse_after_token-returns-in-Paren-clause-memory : goal.parse_after_token-returns-in-Paren-clause-memory
 parse_after_token-returns-in-Paren-clause-memory g t c = λ first there. answer_token (g.P.Builder.takes_memory c.args.builder) first c.args.self.now.place c.args.token c.parse_items.result there c.parse_items.ensures.memory
 
@@ -191,28 +119,6 @@ parse_after_token-returns-in-Brace-clause-memory g t c = λ first there. answer_
 pub parse_after_token-returns-in-Nothing-clause-memory : goal.parse_after_token-returns-in-Nothing-clause-memory
 parse_after_token-returns-in-Nothing-clause-memory g t c = λ first there. wants_refused (g.P.Builder.takes_memory c.args.builder) first c.refuse_token.result c.refuse_token.ensures.refused
     (λ x says. wants_other (g.P.Builder.takes_memory c.args.builder) first x because.UnexpectedToken (kind_is says) (λ z. cc))
-
-pub parse_optional_payload-returns-then-not-next_is-clause-led : goal.parse_optional_payload-returns-then-not-next_is-clause-led
-parse_optional_payload-returns-then-not-next_is-clause-led g t c = λ n s e.
-    read_there (here_is n due.behind_label s _ _ c.next_is.ensures.stays) (subst (λ z. IsBehind due.behind_label z) (sym c.next_is.ensures.stays)
-    (behind_bare c.args.self.now.place (λ next. untrue _ c.if-not-next_is.true (c.next_is.ensures.answer.1 next))))
-
-pub parse_optional_payload-returns-in_err-expect-clause-led : goal.parse_optional_payload-returns-in_err-expect-clause-led
-parse_optional_payload-returns-in_err-expect-clause-led g t c = λ n s e. handed s _ _ c.from_residual-in_err-expect.ensures.1
-    (expected c.args.self.now.place c.next_is.new.self.place c.expect.new.self.place ParenOpen c.in_err-expect.field-0.0 c.next_is.ensures.stays (c.if-not-next_is.ensures.answer.0 refl) c.in_err-expect.ensures.takes)
-
-pub parse_optional_payload-returns-clause-led : goal.parse_optional_payload-returns-clause-led
-parse_optional_payload-returns-clause-led g t c = λ n s e. gives_then s _ c.parse_payload.result (then_same ParenOpen (here_is n due.behind_label s _ _ c.next_is.ensures.stays) c.in_ok-expect.ensures.takes refl) (c.parse_payload.ensures.led n s (omega arith))
-
-pub parse_payload-returns-in_err-expect-clause-led : goal.parse_payload-returns-in_err-expect-clause-led
-parse_payload-returns-in_err-expect-clause-led g t c = λ n s e.
-    let item = c.in_ok-parse_part.ensures.led n (due.payload ∷ s) (omega arith) in
-    handed s _ _ c.from_residual-in_err-expect.ensures.1 (fails_behind item.due_there (λ k. k ≡ ParenClose) c.in_err-expect.field-0.0 (reached item) item.is_behind (λ k text apart. payload_other k s text apart) c.in_err-expect.ensures.takes)
-
-pub parse_payload-returns-clause-led : goal.parse_payload-returns-clause-led
-parse_payload-returns-clause-led g t c = λ n s e.
-    let item = c.in_ok-parse_part.ensures.led n (due.payload ∷ s) (omega arith) in
-    read_there (then_behind item.due_there ParenClose (reached item) item.is_behind c.in_ok-expect.ensures.takes refl) (inl refl)
 
 pub parse_items-returns-in_err-expect-clause-led : goal.parse_items-returns-in_err-expect-clause-led
 parse_items-returns-in_err-expect-clause-led g t c = λ n s e. handed s _ _ c.from_residual.ensures.1
@@ -301,124 +207,6 @@ parse_items-items-smaller g t c =
     let three = ap left_at c.next_is-in-items.ensures.stays in
     omega arith
 
-pub parse_braces-returns-in_err-token-clause-led : goal.parse_braces-returns-in_err-token-clause-led
-parse_braces-returns-in_err-token-clause-led g t c = λ n s e. handed s _ _ c.from_residual.ensures.1
-    (fails (inl tt) (λ _. Unit {0}) c.in_err-token.field-0.0 (here n due.in_braces s _) (λ deep. deep.due) (any_token n due.in_braces s _ _) c.in_err-token.ensures.takes)
-
-pub parse_braces-returns-then-eq-clause-led : goal.parse_braces-returns-then-eq-clause-led
-parse_braces-returns-then-eq-clause-led g t c = λ n s e. read_there (then_class BraceClose (here n due.in_braces s _) c.in_ok-token.ensures.takes (is_class _ _ c.eq.ensures c.if-eq.true) refl) (inl refl)
-
-pub parse_braces-returns-in_err-expect-clause-led : goal.parse_braces-returns-in_err-expect-clause-led
-parse_braces-returns-in_err-expect-clause-led g t c = λ n s e. handed s _ _ c.from_residual-in_err-expect.ensures.1
-    (fails (inl tt) (λ k. k ≡ BraceClose) c.in_err-expect.field-0.0 (then_class {f = due.no_fields} {v = s} Colon (here n due.in_braces s _) c.in_ok-token.ensures.takes (is_class _ _ c.eq-2.ensures c.if-eq-2.true) refl) (λ deep. deep.due)
-    (λ k h apart. no_brace n s k (text_at c.expect.new.self.place) apart) c.in_err-expect.ensures.takes)
-
-pub parse_braces-returns-then-eq-2-clause-led : goal.parse_braces-returns-then-eq-2-clause-led
-parse_braces-returns-then-eq-2-clause-led g t c = λ n s e.
-    read_there (then_same BraceClose (then_class {f = due.no_fields} {v = s} Colon (here n due.in_braces s _) c.in_ok-token.ensures.takes (is_class _ _ c.eq-2.ensures c.if-eq-2.true) refl) c.in_ok-expect.ensures.takes refl) (inl refl)
-
-pub parse_braces-returns-in_err-expect-2-clause-led : goal.parse_braces-returns-in_err-expect-2-clause-led
-parse_braces-returns-in_err-expect-2-clause-led g t c = λ n s e. handed s _ _ c.from_residual-in_err-expect-2.ensures.1
-    (expected c.advance.new.self.place c.next_is.new.self.place c.expect-then-next_is.new.self.place Colon c.in_err-expect-2.field-0.0 c.next_is.ensures.stays (c.if-next_is.ensures.answer.0 refl) c.in_err-expect-2.ensures.takes)
-
-pub parse_braces-returns-then-next_is-clause-led : goal.parse_braces-returns-then-next_is-clause-led
-parse_braces-returns-then-next_is-clause-led g t c = λ n s e.
-    let word = then_class {f = due.behind_word (text_at c.advance.new.self.place)} {v = s} LabelOrKeyword (here n due.in_braces s _) c.in_ok-token.ensures.takes (is_class _ _ c.eq-3.ensures c.if-eq-3.true) refl in
-    gives_then s _ c.parse_entries.result (then_same Colon (moved c.next_is.ensures.stays word) c.in_ok-expect-2.ensures.takes refl) (c.parse_entries.ensures.led n s e)
-
-pub parse_braces-returns-then-eq-3-clause-led : goal.parse_braces-returns-then-eq-3-clause-led
-parse_braces-returns-then-eq-3-clause-led g t c = λ n s e.
-    let word = then_class {f = due.behind_word (text_at c.advance.new.self.place)} {v = s} LabelOrKeyword (here n due.in_braces s _) c.in_ok-token.ensures.takes (is_class _ _ c.eq-3.ensures c.if-eq-3.true) refl in
-    gives_then s _ c.parse_flags.result (moved c.next_is.ensures.stays word)
-    (subst (λ z. Gives c.parse_flags.result n (due.behind_word (text_at z)) s c.next_is.new.self.place c.parse_flags.new.self.place s) c.next_is.ensures.stays (c.parse_flags.ensures.led n s))
-
-pub parse_braces-returns-in_default-clause-led : goal.parse_braces-returns-in_default-clause-led
-parse_braces-returns-in_default-clause-led g t c = λ n s e. refuses_there s c.refuse_token.result c.refuse_token.ensures.never c.refuse_token.ensures.refused (λ x says. unexpected_there (inl tt) x c.in_ok-token.token (here n due.in_braces s _) c.in_ok-token.ensures.takes
-    (brace_key c.in_ok-token.token s (text_at c.advance.new.self.place) (is_other _ _ c.eq-3.ensures c.if-eq-3.false) (is_other _ _ c.eq-2.ensures c.if-eq-2.false) ∙
-    no_key c.in_ok-token.token s (text_at c.advance.new.self.place) c.in_default.ensures (is_other _ _ c.eq.ensures c.if-eq.false))
-    says)
-
-pub parse_braces-returns-in_err-expect-3-clause-led : goal.parse_braces-returns-in_err-expect-3-clause-led
-parse_braces-returns-in_err-expect-3-clause-led g t c = λ n s e.
-    let key_step_there = brace_key c.in_ok-token.token s (text_at c.advance.new.self.place) (is_other _ _ c.eq-3.ensures c.if-eq-3.false) (is_other _ _ c.eq-2.ensures c.if-eq-2.false) ∙ key_reads c.in_ok-token.token s (text_at c.advance.new.self.place) c.in-Some.ensures.0 in
-    handed s _ _ c.from_residual-in_err-expect-3.ensures.1 (fails (inl tt) (λ k. k ≡ Colon) c.in_err-expect-3.field-0.0 (then_same c.in_ok-token.token (here n due.in_braces s _) c.in_ok-token.ensures.takes key_step_there) (λ deep. deep.due)
-    (λ k h apart. no_colon n s k (text_at c.expect-2.new.self.place) apart) c.in_err-expect-3.ensures.takes)
-
-pub parse_braces-returns-clause-led : goal.parse_braces-returns-clause-led
-parse_braces-returns-clause-led g t c = λ n s e.
-    let key_step_there = brace_key c.in_ok-token.token s (text_at c.advance.new.self.place) (is_other _ _ c.eq-3.ensures c.if-eq-3.false) (is_other _ _ c.eq-2.ensures c.if-eq-2.false) ∙ key_reads c.in_ok-token.token s (text_at c.advance.new.self.place) c.in-Some.ensures.0 in
-    gives_then s _ c.parse_entries-2.result (then_same Colon (then_same c.in_ok-token.token (here n due.in_braces s _) c.in_ok-token.ensures.takes key_step_there) c.in_ok-expect-3.ensures.takes refl) (c.parse_entries-2.ensures.led n s e)
-
-pub parse_entries-returns-in_err-parse_part-clause-led : goal.parse_entries-returns-in_err-parse_part-clause-led
-parse_entries-returns-in_err-parse_part-clause-led g t c = λ n s e. handed s _ _ c.from_residual.ensures.1
-    (then_refuses c.in_err-parse_part.field-0.0 (c.entries.invariant.led n s e) (c.in_err-parse_part.ensures.led n (due.entries ∷ s) (omega arith)))
-
-pub parse_entries-returns-in_err-token-clause-led : goal.parse_entries-returns-in_err-token-clause-led
-parse_entries-returns-in_err-token-clause-led g t c = λ n s e.
-    let item = c.in_ok-parse_part.ensures.led n (due.entries ∷ s) (omega arith) in
-    handed s _ _ c.from_residual-in_err-token.ensures.1 (fails_behind item.due_there (λ _. Unit {0}) c.in_err-token.field-0.0 (then_reached (c.entries.invariant.led n s e) (reached item)) item.is_behind (λ k text apart. absurd (apart tt)) c.in_err-token.ensures.takes)
-
-pub parse_entries-returns-then-eq-clause-led : goal.parse_entries-returns-then-eq-clause-led
-parse_entries-returns-then-eq-clause-led g t c = λ n s e.
-    let item = c.in_ok-parse_part.ensures.led n (due.entries ∷ s) (omega arith) in
-    read_there (then_behind_class item.due_there BraceClose (then_reached (c.entries.invariant.led n s e) (reached item)) item.is_behind c.in_ok-token.ensures.takes (is_class _ _ c.eq.ensures c.if-eq.true) refl) (inl refl)
-
-pub parse_entries-returns-then-ne-clause-led : goal.parse_entries-returns-then-ne-clause-led
-parse_entries-returns-then-ne-clause-led g t c = λ n s e.
-    let item = c.in_ok-parse_part.ensures.led n (due.entries ∷ s) (omega arith) in
-    refuses_there s c.refuse_token.result c.refuse_token.ensures.never c.refuse_token.ensures.refused (λ x says. unexpected_behind item.due_there x c.in_ok-token.token (then_reached (c.entries.invariant.led n s e) (reached item)) item.is_behind c.in_ok-token.ensures.takes
-    (entries_other c.in_ok-token.token s (text_at c.advance.new.self.place) (is_other _ _ c.eq.ensures c.if-eq.false) (differs _ _ c.ne.ensures c.if-ne.true))
-    says)
-
-pub parse_entries-returns-in_err-next-clause-led : goal.parse_entries-returns-in_err-next-clause-led
-parse_entries-returns-in_err-next-clause-led g t c = λ n s e.
-    let item = c.in_ok-parse_part.ensures.led n (due.entries ∷ s) (omega arith) in
-    let due_key = key_due (c.entries.invariant.led n s e) item c.in_ok-token.ensures.takes (differs_not _ _ c.ne.ensures c.if-ne.false) in
-    handed s _ _ c.from_residual-in_err-next.ensures.1 (fails (inl tt) (λ _. Unit {0}) c.in_err-next.field-0.0 due_key (λ deep. deep.due) (any_token n due.key s _ _) c.in_err-next.ensures.takes)
-
-pub parse_entries-returns-then-eq-2-clause-led : goal.parse_entries-returns-then-eq-2-clause-led
-parse_entries-returns-then-eq-2-clause-led g t c = λ n s e.
-    let item = c.in_ok-parse_part.ensures.led n (due.entries ∷ s) (omega arith) in
-    let due_key = key_due (c.entries.invariant.led n s e) item c.in_ok-token.ensures.takes (differs_not _ _ c.ne.ensures c.if-ne.false) in
-    read_there (then_class BraceClose due_key c.in_ok-next.ensures.takes (is_class _ _ c.eq-in-entries.ensures c.if-eq-2.true) refl) (inl refl)
-
-pub parse_entries-returns-in_default-clause-led : goal.parse_entries-returns-in_default-clause-led
-parse_entries-returns-in_default-clause-led g t c = λ n s e.
-    let item = c.in_ok-parse_part.ensures.led n (due.entries ∷ s) (omega arith) in
-    let due_key = key_due (c.entries.invariant.led n s e) item c.in_ok-token.ensures.takes (differs_not _ _ c.ne.ensures c.if-ne.false) in
-    refuses_there s c.refuse_token-in_default.result c.refuse_token-in_default.ensures.never c.refuse_token-in_default.ensures.refused (λ x says. unexpected_there (inl tt) x c.in_ok-next.next due_key c.in_ok-next.ensures.takes
-    (no_key c.in_ok-next.next s (text_at c.advance-in-entries.new.self.place) c.in_default.ensures (is_other _ _ c.eq-in-entries.ensures c.if-eq-2.false))
-    says)
-
-pub parse_entries-returns-in_err-expect-clause-led : goal.parse_entries-returns-in_err-expect-clause-led
-parse_entries-returns-in_err-expect-clause-led g t c = λ n s e.
-    let item = c.in_ok-parse_part.ensures.led n (due.entries ∷ s) (omega arith) in
-    let due_key = key_due (c.entries.invariant.led n s e) item c.in_ok-token.ensures.takes (differs_not _ _ c.ne.ensures c.if-ne.false) in
-    handed s _ _ c.from_residual-in_err-expect.ensures.1 (fails (inl tt) (λ k. k ≡ Colon) c.in_err-expect.field-0.0
-    (then_same c.in_ok-next.next due_key c.in_ok-next.ensures.takes (key_reads c.in_ok-next.next s (text_at c.advance-in-entries.new.self.place) c.in-Some.ensures.0)) (λ deep. deep.due)
-    (λ k h apart. no_colon n s k (text_at c.expect.new.self.place) apart) c.in_err-expect.ensures.takes)
-
-pub parse_entries-entries-smaller : goal.parse_entries-entries-smaller
-parse_entries-entries-smaller g t c =
-    let item = c.in_ok-parse_part.ensures.led (c.args.levels + 1 + 0) (due.entries ∷ []) (omega arith) in
-    let one = tokens_less _ _ item.tokens item.taken in
-    let two = token_less _ _ c.in_ok-token.token c.in_ok-token.ensures.takes in
-    let three = token_less _ _ c.in_ok-next.next c.in_ok-next.ensures.takes in
-    let four = token_less _ _ Colon c.in_ok-expect.ensures.takes in
-    omega arith
-
-pub parse_optional_payload-returns-clause-asks : goal.parse_optional_payload-returns-clause-asks
-parse_optional_payload-returns-clause-asks g t c =
-    asks_looked c.args.self.now c.next_is.new.self c.parse_payload.new.self c.next_is.ensures.stays c.next_is.ensures.asks (asks_token c.next_is.new.self c.expect.new.self c.parse_payload.new.self ParenOpen c.in_ok-expect.ensures.takes c.expect.ensures.asks c.parse_payload.ensures.asks)
-
-pub parse_payload-returns-in_err-expect-clause-asks : goal.parse_payload-returns-in_err-expect-clause-asks
-parse_payload-returns-in_err-expect-clause-asks g t c =
-    asks_value c.args.levels c.args.self.now c.parse_part.new.self c.expect.new.self c.in_ok-parse_part.ensures.led c.parse_part.ensures.asks (asks_once c.parse_part.new.self c.expect.new.self c.expect.ensures.asks)
-
-pub parse_payload-returns-clause-asks : goal.parse_payload-returns-clause-asks
-parse_payload-returns-clause-asks g t c =
-    asks_value c.args.levels c.args.self.now c.parse_part.new.self c.expect.new.self c.in_ok-parse_part.ensures.led c.parse_part.ensures.asks (asks_once c.parse_part.new.self c.expect.new.self c.expect.ensures.asks)
-
 pub parse_items-returns-in_err-parse_part-clause-asks : goal.parse_items-returns-in_err-parse_part-clause-asks
 parse_items-returns-in_err-parse_part-clause-asks g t c =
     asks_items c.args.levels c.args.close c.args.self.now c.items.self c.parse_part.new.self c.items.invariant.reached c.items.invariant.asks c.parse_part.ensures.asks
@@ -443,99 +231,6 @@ pub parse_items-returns-then-next_is-2-clause-asks : goal.parse_items-returns-th
 parse_items-returns-then-next_is-2-clause-asks g t c =
     asks_items c.args.levels c.args.close c.args.self.now c.items.self c.expect-then-next_is-2.new.self c.items.invariant.reached c.items.invariant.asks (asks_value c.args.levels c.items.self c.parse_part.new.self c.expect-then-next_is-2.new.self c.in_ok-parse_part.ensures.led c.parse_part.ensures.asks (asks_token c.parse_part.new.self c.advance.new.self c.expect-then-next_is-2.new.self c.in_ok-token.token c.in_ok-token.ensures.takes c.advance.ensures.asks (asks_looked c.advance.new.self c.next_is-in-items.new.self c.expect-then-next_is-2.new.self c.next_is-in-items.ensures.stays c.next_is-in-items.ensures.asks (asks_once c.next_is-in-items.new.self c.expect-then-next_is-2.new.self c.expect-then-next_is-2.ensures.asks))))
 
-pub parse_braces-returns-in_err-expect-clause-asks : goal.parse_braces-returns-in_err-expect-clause-asks
-parse_braces-returns-in_err-expect-clause-asks g t c =
-    asks_token c.args.self.now c.advance.new.self c.expect.new.self c.in_ok-token.token c.in_ok-token.ensures.takes c.advance.ensures.asks (asks_once c.advance.new.self c.expect.new.self c.expect.ensures.asks)
-
-pub parse_braces-returns-then-eq-2-clause-asks : goal.parse_braces-returns-then-eq-2-clause-asks
-parse_braces-returns-then-eq-2-clause-asks g t c =
-    asks_token c.args.self.now c.advance.new.self c.expect.new.self c.in_ok-token.token c.in_ok-token.ensures.takes c.advance.ensures.asks (asks_once c.advance.new.self c.expect.new.self c.expect.ensures.asks)
-
-pub parse_braces-returns-in_err-expect-2-clause-asks : goal.parse_braces-returns-in_err-expect-2-clause-asks
-parse_braces-returns-in_err-expect-2-clause-asks g t c =
-    asks_token c.args.self.now c.advance.new.self c.expect-then-next_is.new.self c.in_ok-token.token c.in_ok-token.ensures.takes c.advance.ensures.asks (asks_looked c.advance.new.self c.next_is.new.self c.expect-then-next_is.new.self c.next_is.ensures.stays c.next_is.ensures.asks (asks_once c.next_is.new.self c.expect-then-next_is.new.self c.expect-then-next_is.ensures.asks))
-
-pub parse_braces-returns-then-next_is-clause-asks : goal.parse_braces-returns-then-next_is-clause-asks
-parse_braces-returns-then-next_is-clause-asks g t c =
-    asks_token c.args.self.now c.advance.new.self c.parse_entries.new.self c.in_ok-token.token c.in_ok-token.ensures.takes c.advance.ensures.asks (asks_looked c.advance.new.self c.next_is.new.self c.parse_entries.new.self c.next_is.ensures.stays c.next_is.ensures.asks (asks_token c.next_is.new.self c.expect-then-next_is.new.self c.parse_entries.new.self Colon c.in_ok-expect-2.ensures.takes c.expect-then-next_is.ensures.asks c.parse_entries.ensures.asks))
-
-pub parse_braces-returns-then-eq-3-clause-asks : goal.parse_braces-returns-then-eq-3-clause-asks
-parse_braces-returns-then-eq-3-clause-asks g t c =
-    asks_token c.args.self.now c.advance.new.self c.parse_flags.new.self c.in_ok-token.token c.in_ok-token.ensures.takes c.advance.ensures.asks (asks_looked c.advance.new.self c.next_is.new.self c.parse_flags.new.self c.next_is.ensures.stays c.next_is.ensures.asks c.parse_flags.ensures.asks)
-
-pub parse_braces-returns-in_err-expect-3-clause-asks : goal.parse_braces-returns-in_err-expect-3-clause-asks
-parse_braces-returns-in_err-expect-3-clause-asks g t c =
-    asks_token c.args.self.now c.advance.new.self c.expect-2.new.self c.in_ok-token.token c.in_ok-token.ensures.takes c.advance.ensures.asks (asks_once c.advance.new.self c.expect-2.new.self c.expect-2.ensures.asks)
-
-pub parse_braces-returns-clause-asks : goal.parse_braces-returns-clause-asks
-parse_braces-returns-clause-asks g t c =
-    asks_token c.args.self.now c.advance.new.self c.parse_entries-2.new.self c.in_ok-token.token c.in_ok-token.ensures.takes c.advance.ensures.asks (asks_token c.advance.new.self c.expect-2.new.self c.parse_entries-2.new.self Colon c.in_ok-expect-3.ensures.takes c.expect-2.ensures.asks c.parse_entries-2.ensures.asks)
-
-pub parse_entries-returns-in_err-parse_part-clause-asks : goal.parse_entries-returns-in_err-parse_part-clause-asks
-parse_entries-returns-in_err-parse_part-clause-asks g t c =
-    asks_entries c.args.levels c.args.self.now c.entries.self c.parse_part.new.self c.entries.invariant.led c.entries.invariant.asks c.parse_part.ensures.asks
-
-pub parse_entries-returns-in_err-token-clause-asks : goal.parse_entries-returns-in_err-token-clause-asks
-parse_entries-returns-in_err-token-clause-asks g t c =
-    asks_entries c.args.levels c.args.self.now c.entries.self c.advance.new.self c.entries.invariant.led c.entries.invariant.asks (asks_value c.args.levels c.entries.self c.parse_part.new.self c.advance.new.self c.in_ok-parse_part.ensures.led c.parse_part.ensures.asks (asks_once c.parse_part.new.self c.advance.new.self c.advance.ensures.asks))
-
-pub parse_entries-returns-then-eq-clause-asks : goal.parse_entries-returns-then-eq-clause-asks
-parse_entries-returns-then-eq-clause-asks g t c =
-    asks_entries c.args.levels c.args.self.now c.entries.self c.advance.new.self c.entries.invariant.led c.entries.invariant.asks (asks_value c.args.levels c.entries.self c.parse_part.new.self c.advance.new.self c.in_ok-parse_part.ensures.led c.parse_part.ensures.asks (asks_once c.parse_part.new.self c.advance.new.self c.advance.ensures.asks))
-
-pub parse_entries-returns-then-ne-clause-asks : goal.parse_entries-returns-then-ne-clause-asks
-parse_entries-returns-then-ne-clause-asks g t c =
-    asks_entries c.args.levels c.args.self.now c.entries.self c.advance.new.self c.entries.invariant.led c.entries.invariant.asks (asks_value c.args.levels c.entries.self c.parse_part.new.self c.advance.new.self c.in_ok-parse_part.ensures.led c.parse_part.ensures.asks (asks_once c.parse_part.new.self c.advance.new.self c.advance.ensures.asks))
-
-pub parse_entries-returns-in_err-next-clause-asks : goal.parse_entries-returns-in_err-next-clause-asks
-parse_entries-returns-in_err-next-clause-asks g t c =
-    asks_entries c.args.levels c.args.self.now c.entries.self c.advance-in-entries.new.self c.entries.invariant.led c.entries.invariant.asks (asks_value c.args.levels c.entries.self c.parse_part.new.self c.advance-in-entries.new.self c.in_ok-parse_part.ensures.led c.parse_part.ensures.asks (asks_token c.parse_part.new.self c.advance.new.self c.advance-in-entries.new.self c.in_ok-token.token c.in_ok-token.ensures.takes c.advance.ensures.asks (asks_once c.advance.new.self c.advance-in-entries.new.self c.advance-in-entries.ensures.asks)))
-
-pub parse_entries-returns-then-eq-2-clause-asks : goal.parse_entries-returns-then-eq-2-clause-asks
-parse_entries-returns-then-eq-2-clause-asks g t c =
-    asks_entries c.args.levels c.args.self.now c.entries.self c.advance-in-entries.new.self c.entries.invariant.led c.entries.invariant.asks (asks_value c.args.levels c.entries.self c.parse_part.new.self c.advance-in-entries.new.self c.in_ok-parse_part.ensures.led c.parse_part.ensures.asks (asks_token c.parse_part.new.self c.advance.new.self c.advance-in-entries.new.self c.in_ok-token.token c.in_ok-token.ensures.takes c.advance.ensures.asks (asks_once c.advance.new.self c.advance-in-entries.new.self c.advance-in-entries.ensures.asks)))
-
-pub parse_entries-returns-in_default-clause-asks : goal.parse_entries-returns-in_default-clause-asks
-parse_entries-returns-in_default-clause-asks g t c =
-    asks_entries c.args.levels c.args.self.now c.entries.self c.advance-in-entries.new.self c.entries.invariant.led c.entries.invariant.asks (asks_value c.args.levels c.entries.self c.parse_part.new.self c.advance-in-entries.new.self c.in_ok-parse_part.ensures.led c.parse_part.ensures.asks (asks_token c.parse_part.new.self c.advance.new.self c.advance-in-entries.new.self c.in_ok-token.token c.in_ok-token.ensures.takes c.advance.ensures.asks (asks_once c.advance.new.self c.advance-in-entries.new.self c.advance-in-entries.ensures.asks)))
-
-pub parse_entries-returns-in_err-expect-clause-asks : goal.parse_entries-returns-in_err-expect-clause-asks
-parse_entries-returns-in_err-expect-clause-asks g t c =
-    asks_entries c.args.levels c.args.self.now c.entries.self c.expect.new.self c.entries.invariant.led c.entries.invariant.asks (asks_value c.args.levels c.entries.self c.parse_part.new.self c.expect.new.self c.in_ok-parse_part.ensures.led c.parse_part.ensures.asks (asks_token c.parse_part.new.self c.advance.new.self c.expect.new.self c.in_ok-token.token c.in_ok-token.ensures.takes c.advance.ensures.asks (asks_token c.advance.new.self c.advance-in-entries.new.self c.expect.new.self c.in_ok-next.next c.in_ok-next.ensures.takes c.advance-in-entries.ensures.asks (asks_once c.advance-in-entries.new.self c.expect.new.self c.expect.ensures.asks))))
-
-pub parse_entries-returns-in_err-push_key-clause-asks : goal.parse_entries-returns-in_err-push_key-clause-asks
-parse_entries-returns-in_err-push_key-clause-asks g t c =
-    asks_entries c.args.levels c.args.self.now c.entries.self c.advance-in-entries.new.self c.entries.invariant.led c.entries.invariant.asks (asks_value c.args.levels c.entries.self c.parse_part.new.self c.advance-in-entries.new.self c.in_ok-parse_part.ensures.led c.parse_part.ensures.asks (asks_token c.parse_part.new.self c.advance.new.self c.advance-in-entries.new.self c.in_ok-token.token c.in_ok-token.ensures.takes c.advance.ensures.asks (asks_once c.advance.new.self c.advance-in-entries.new.self c.advance-in-entries.ensures.asks)))
-
-pub parse_optional_payload-returns-then-not-next_is-clause-tree : goal.parse_optional_payload-returns-then-not-next_is-clause-tree
-parse_optional_payload-returns-then-not-next_is-clause-tree g t c =
-    let stays = c.next_is.ensures.stays in
-    (node c.args.alone (span_at c.args.self.now.place) no_nodes, inl (stays, refl), subst (λ (z : Place). g.P.Builder.is_made c.args.builder z.lexer.source (node c.args.alone (span_at z) no_nodes) c.leaf.result) stays c.leaf.ensures)
-
-pub parse_optional_payload-returns-clause-tree : goal.parse_optional_payload-returns-clause-tree
-parse_optional_payload-returns-clause-tree g t c =
-    let stays = c.next_is.ensures.stays in
-    let label = label_children c.args.with (span_at c.next_is.new.self.place) in
-    let behind : c.expect.new.self.place.lexer.source ≡ c.next_is.new.self.place.lexer.source = source_item c.next_is.new.self.place c.expect.new.self.place ParenOpen c.in_ok-expect.ensures.takes in
-    built (g.P.Builder.is_made c.args.builder) c.args.self.now.place c.expect.new.self.place (IsPayload c.args.levels c.args.with c.span-start.result.start label c.expect.new.self.place c.parse_payload.new.self.place) (IsMaybe c.args.levels c.args.alone c.args.with c.args.self.now.place c.parse_payload.new.self.place) c.parse_payload.result (behind ∙ ap (λ (z : Place). z.lexer.source) stays)
-    (λ n. payload_tied c.args.levels c.args.alone c.args.with c.args.self.now.place c.expect.new.self.place c.next_is.new.self.place c.parse_payload.new.self.place c.span-start.result.start label (as_ok n) stays c.in_ok-expect.ensures.takes (ap (λ (z : Range ℕ). z.start) c.span-start.ensures) refl)
-    (of_part (TakesPart c.args.with) (λ front. g.P.Builder.are_parts c.args.builder c.expect.new.self.place.lexer.source c.args.with front c.in_ok-front.front) c.parse_payload.result (λ front. IsBuilt (g.P.Builder.is_made c.args.builder) c.expect.new.self.place (IsPayload c.args.levels c.args.with c.span-start.result.start front c.expect.new.self.place c.parse_payload.new.self.place)) c.parse_payload.ensures.tree label (payload_due c.args.with (span_at c.next_is.new.self.place) c.requires.1)
-    (subst (λ (s : List ℕ). g.P.Builder.are_parts c.args.builder s c.args.with label c.in_ok-front.front) (sym behind) (c.in_ok-front.ensures.made (payload_parts c.args.with c.requires.1))))
-
-pub parse_payload-returns-clause-tree : goal.parse_payload-returns-clause-tree
-parse_payload-returns-clause-tree g t c = λ front part_due first.
-    let (n, is, grown) = c.in_ok-parse_part.ensures.kept c.args.ty front part_due first in
-    let source : c.expect.new.self.place.lexer.source ≡ c.args.self.now.place.lexer.source = source_item c.parse_part.new.self.place c.expect.new.self.place ParenClose c.in_ok-expect.ensures.takes ∙ source_parsed c.args.levels c.args.self.now.place c.parse_part.new.self.place n is in
-    whole_built (g.P.Builder.is_made c.args.builder) (λ (s : List ℕ) cs ps. g.P.Builder.are_parts c.args.builder s c.args.ty cs ps) c.args.self.now.place c.expect.new.self.place c.args.ty c.args.start c.whole.result c.parse_part.new.parts (front ++ n ∷ []) (IsPayload c.args.levels c.args.ty c.args.start front c.args.self.now.place c.expect.new.self.place) source grown c.whole.ensures
-    (record { payload = n; behind = c.parse_part.new.self.place; inner = is; close = c.in_ok-expect.ensures.takes; is = refl })
-
-pub parse_items-returns-then-next_is-clause-tree : goal.parse_items-returns-then-next_is-clause-tree
-parse_items-returns-then-next_is-clause-tree g t c =
-    let stays = c.next_is.ensures.stays in
-    let source : c.expect.new.self.place.lexer.source ≡ c.args.self.now.place.lexer.source = source_item c.next_is.new.self.place c.expect.new.self.place c.args.close c.in_ok-expect.ensures.takes ∙ ap (λ (z : Place). z.lexer.source) stays in
-    whole_built (g.P.Builder.is_made c.args.builder) (λ (s : List ℕ) cs ps. g.P.Builder.are_parts c.args.builder s kind_of_node.List cs ps) c.args.self.now.place c.expect.new.self.place kind_of_node.List c.span-start.result.start c.whole.result c.parts-none.result [] (IsOfItems c.args.levels c.args.close c.args.self.now.place c.expect.new.self.place) source (c.parts-none.ensures c.args.self.now.place.lexer.source tt) c.whole.ensures
-    (items_none c.args.levels c.args.close c.args.self.now.place c.next_is.new.self.place c.expect.new.self.place c.span-start.result.start [] _ refl refl c.requires (is_other _ _ c.eq.ensures c.if-eq.false) (ap (λ (z : Range ℕ). z.start) c.span-start.ensures) stays c.in_ok-expect.ensures.takes)
-
 pub parse_items-returns-then-eq-3-clause-tree : goal.parse_items-returns-then-eq-3-clause-tree
 parse_items-returns-then-eq-3-clause-tree g t c =
     let (children, first, go) = c.items.invariant.tree in
@@ -548,7 +243,7 @@ parse_items-returns-then-eq-3-clause-tree g t c =
     let (n, is, grown) = part_added (λ (s : List ℕ) cs ps. g.P.Builder.are_parts c.args.builder s c.if-eq-2.ty cs ps) c.items.parts c.parse_part.new.parts children (IsParsed c.args.levels c.items.self.place c.parse_part.new.self.place) here (c.in_ok-parse_part.ensures.kept c.if-eq-2.ty children part_due) first in
     let behind : c.parse_part.new.self.place.lexer.source ≡ c.args.self.now.place.lexer.source = source_parsed c.args.levels c.items.self.place c.parse_part.new.self.place n is ∙ here in
     let token : c.advance.new.self.place.lexer.source ≡ c.args.self.now.place.lexer.source = source_item c.parse_part.new.self.place c.advance.new.self.place c.in_ok-token.token c.in_ok-token.ensures.takes ∙ behind in
-    whole_built (g.P.Builder.is_made c.args.builder) (λ (s : List ℕ) cs ps. g.P.Builder.are_parts c.args.builder s c.if-eq-2.ty cs ps) c.args.self.now.place c.advance.new.self.place c.if-eq-2.ty c.span-start.result.start c.whole-then-eq-3.result c.parse_part.new.parts (children ++ n ∷ []) (IsOfItems c.args.levels c.args.close c.args.self.now.place c.advance.new.self.place) token grown c.whole-then-eq-3.ensures
+    whole_built (g.P.Builder.is_made c.args.builder) (λ (s : List ℕ) cs ps. g.P.Builder.are_parts c.args.builder s c.if-eq-2.ty cs ps) c.args.self.now.place c.advance.new.self.place c.if-eq-2.ty c.span-start.result.start c.whole.result c.parse_part.new.parts (children ++ n ∷ []) (IsOfItems c.args.levels c.args.close c.args.self.now.place c.advance.new.self.place) token grown c.whole.ensures
     (items_made c.args.levels c.args.close c.args.self.now.place c.advance.new.self.place c.if-eq-2.ty c.span-start.result.start (children ++ n ∷ []) _ refl (elim c.if-eq-2.branch [
       | parse_items-then-eq-2 w ↦ w.ty-is ∙ sym (ap items_type (is_class c.args.close ParenClose c.eq-2.ensures w.if-eq-2.true))
       | parse_items-else-eq-2 w ↦ w.ty-is ∙ sym (type_of_items c.args.close c.requires (is_other _ _ c.eq-2.ensures w.if-eq-2.false))
@@ -604,91 +299,6 @@ parse_items-items-preserved g t c = record {
       (children ++ n ∷ [], grown, items_next c.args.levels c.args.close c.args.self.now.place c.items.self.place c.parse_part.new.self.place c.advance.new.self.place c.next_is-in-items.new.self.place children (children ++ n ∷ []) n go is (class_as _ _ _ Comma c.in_ok-token.ensures.takes (differs_not _ _ c.ne.ensures c.if-ne.false)) c.next_is-in-items.ensures.stays refl);
 }
 
-pub parse_braces-returns-then-next_is-clause-tree : goal.parse_braces-returns-then-next_is-clause-tree
-parse_braces-returns-then-next_is-clause-tree g t c =
-    let stays = c.next_is.ensures.stays in
-    let key = node kind_of_node.Label (span_at c.next_is.new.self.place) no_nodes in
-    let behind : c.expect-then-next_is.new.self.place.lexer.source ≡ c.next_is.new.self.place.lexer.source = source_item c.next_is.new.self.place c.expect-then-next_is.new.self.place Colon c.in_ok-expect-2.ensures.takes in
-    built (g.P.Builder.is_made c.args.builder) c.args.self.now.place c.expect-then-next_is.new.self.place (IsOfEntries c.args.levels c.span-start.result.start key c.expect-then-next_is.new.self.place c.parse_entries.new.self.place) (IsParsedBehind BraceOpen (c.args.levels + 1) c.args.self.now.place c.parse_entries.new.self.place) c.parse_entries.result (behind ∙ (ap (λ (z : Place). z.lexer.source) stays ∙ (source_item c.args.self.now.place c.advance.new.self.place c.in_ok-token.token c.in_ok-token.ensures.takes)))
-    (λ n. entries_tied c.args.levels c.args.self.now.place c.advance.new.self.place c.expect-then-next_is.new.self.place c.parse_entries.new.self.place c.span-start.result.start key (as_ok n)
-    (LabelOrKeyword, class_as _ _ _ LabelOrKeyword c.in_ok-token.ensures.takes (is_class _ _ c.eq-3.ensures c.if-eq-3.true), tt, ap (λ z. node kind_of_node.Label (span_at z) no_nodes) stays)
-    (subst (λ z. TakesClass Colon z c.expect-then-next_is.new.self.place) stays c.in_ok-expect-2.ensures.takes) (ap (λ (z : Range ℕ). z.start) c.span-start.ensures))
-    (of_front (λ first. g.P.Builder.are_parts c.args.builder c.expect-then-next_is.new.self.place.lexer.source kind_of_node.TupleSet (first ∷ []) c.in_ok-key.key) c.parse_entries.result (λ first. IsBuilt (g.P.Builder.is_made c.args.builder) c.expect-then-next_is.new.self.place (IsOfEntries c.args.levels c.span-start.result.start first c.expect-then-next_is.new.self.place c.parse_entries.new.self.place)) c.parse_entries.ensures.tree key
-    (subst (λ (s : List ℕ). g.P.Builder.are_parts c.args.builder s kind_of_node.TupleSet (key ∷ []) c.in_ok-key.key) (sym behind) c.in_ok-key.ensures.made))
-
-pub parse_braces-returns-clause-tree : goal.parse_braces-returns-clause-tree
-parse_braces-returns-clause-tree g t c =
-    let key = node c.in-Some.ty (span_at c.advance.new.self.place) no_nodes in
-    let behind : c.expect-2.new.self.place.lexer.source ≡ c.advance.new.self.place.lexer.source = source_item c.advance.new.self.place c.expect-2.new.self.place Colon c.in_ok-expect-3.ensures.takes in
-    built (g.P.Builder.is_made c.args.builder) c.args.self.now.place c.expect-2.new.self.place (IsOfEntries c.args.levels c.span-start.result.start key c.expect-2.new.self.place c.parse_entries-2.new.self.place) (IsParsedBehind BraceOpen (c.args.levels + 1) c.args.self.now.place c.parse_entries-2.new.self.place) c.parse_entries-2.result (behind ∙ (source_item c.args.self.now.place c.advance.new.self.place c.in_ok-token.token c.in_ok-token.ensures.takes))
-    (λ n. entries_tied c.args.levels c.args.self.now.place c.advance.new.self.place c.expect-2.new.self.place c.parse_entries-2.new.self.place c.span-start.result.start key (as_ok n)
-    (c.in_ok-token.token, c.in_ok-token.ensures.takes, c.in-Some.ensures.0, ap (λ z. node z (span_at c.advance.new.self.place) no_nodes) c.in-Some.ensures.1)
-    c.in_ok-expect-3.ensures.takes (ap (λ (z : Range ℕ). z.start) c.span-start.ensures))
-    (of_front (λ first. g.P.Builder.are_parts c.args.builder c.expect-2.new.self.place.lexer.source kind_of_node.TupleSet (first ∷ []) c.in_ok-key-2.key) c.parse_entries-2.result (λ first. IsBuilt (g.P.Builder.is_made c.args.builder) c.expect-2.new.self.place (IsOfEntries c.args.levels c.span-start.result.start first c.expect-2.new.self.place c.parse_entries-2.new.self.place)) c.parse_entries-2.ensures.tree key
-    (subst (λ (s : List ℕ). g.P.Builder.are_parts c.args.builder s kind_of_node.TupleSet (key ∷ []) c.in_ok-key-2.key) (sym behind) c.in_ok-key-2.ensures.made))
-
-pub parse_braces-returns-then-eq-clause-tree : goal.parse_braces-returns-then-eq-clause-tree
-parse_braces-returns-then-eq-clause-tree g t c =
-    whole_built (g.P.Builder.is_made c.args.builder) (λ (s : List ℕ) cs ps. g.P.Builder.are_parts c.args.builder s kind_of_node.EmptySet cs ps) c.args.self.now.place c.advance.new.self.place kind_of_node.EmptySet c.span-start.result.start c.whole.result c.parts-none.result [] (IsParsedBehind BraceOpen (c.args.levels + 1) c.args.self.now.place c.advance.new.self.place) (source_item c.args.self.now.place c.advance.new.self.place c.in_ok-token.token c.in_ok-token.ensures.takes) (c.parts-none.ensures c.args.self.now.place.lexer.source tt) c.whole.ensures
-    (empty_tied c.args.levels c.args.self.now.place c.advance.new.self.place c.span-start.result.start [] _ (class_as _ _ _ BraceClose c.in_ok-token.ensures.takes (is_class _ _ c.eq.ensures c.if-eq.true)) (ap (λ (z : Range ℕ). z.start) c.span-start.ensures) refl refl)
-
-pub parse_braces-returns-then-eq-2-clause-tree : goal.parse_braces-returns-then-eq-2-clause-tree
-parse_braces-returns-then-eq-2-clause-tree g t c =
-    whole_built (g.P.Builder.is_made c.args.builder) (λ (s : List ℕ) cs ps. g.P.Builder.are_parts c.args.builder s kind_of_node.TupleSet cs ps) c.args.self.now.place c.expect.new.self.place kind_of_node.TupleSet c.span-start.result.start c.whole-then-eq-2.result c.parts-none-then-eq-2.result [] (IsParsedBehind BraceOpen (c.args.levels + 1) c.args.self.now.place c.expect.new.self.place) (source_item c.advance.new.self.place c.expect.new.self.place BraceClose c.in_ok-expect.ensures.takes ∙ (source_item c.args.self.now.place c.advance.new.self.place c.in_ok-token.token c.in_ok-token.ensures.takes)) (c.parts-none-then-eq-2.ensures c.args.self.now.place.lexer.source tt) c.whole-then-eq-2.ensures
-    (no_fields_tied c.args.levels c.args.self.now.place c.advance.new.self.place c.expect.new.self.place c.span-start.result.start [] _ (class_as _ _ _ Colon c.in_ok-token.ensures.takes (is_class _ _ c.eq-2.ensures c.if-eq-2.true)) c.in_ok-expect.ensures.takes (ap (λ (z : Range ℕ). z.start) c.span-start.ensures) refl refl)
-
-pub parse_braces-returns-then-eq-3-clause-tree : goal.parse_braces-returns-then-eq-3-clause-tree
-parse_braces-returns-then-eq-3-clause-tree g t c =
-    let stays = c.next_is.ensures.stays in
-    built (g.P.Builder.is_made c.args.builder) c.args.self.now.place c.next_is.new.self.place (IsOfFlags c.span-start.result.start c.next_is.new.self.place c.parse_flags.new.self.place) (IsParsedBehind BraceOpen (c.args.levels + 1) c.args.self.now.place c.parse_flags.new.self.place) c.parse_flags.result (ap (λ (z : Place). z.lexer.source) stays ∙ (source_item c.args.self.now.place c.advance.new.self.place c.in_ok-token.token c.in_ok-token.ensures.takes))
-    (λ n. flags_tied c.args.levels c.args.self.now.place c.next_is.new.self.place c.parse_flags.new.self.place c.span-start.result.start (as_ok n) (subst (λ z. TakesClass LabelOrKeyword c.args.self.now.place z) (sym stays) (class_as _ _ _ LabelOrKeyword c.in_ok-token.ensures.takes (is_class _ _ c.eq-3.ensures c.if-eq-3.true))) (ap (λ (z : Range ℕ). z.start) c.span-start.ensures)) c.parse_flags.ensures.tree
-
-pub parse_entries-returns-then-eq-clause-tree : goal.parse_entries-returns-then-eq-clause-tree
-parse_entries-returns-then-eq-clause-tree g t c = λ first given.
-    let (hs, so_far, part_due, go) = c.entries.invariant.tree first given in
-    let here : c.entries.self.place.lexer.source ≡ c.args.self.now.place.lexer.source = source_reached (c.entries.invariant.led (c.args.levels + 1) [] (omega arith)) in
-    let (n, is, grown) = part_added (λ (s : List ℕ) cs ps. g.P.Builder.are_parts c.args.builder s kind_of_node.TupleSet cs ps) c.entries.parts c.parse_part.new.parts (first ∷ hs) (IsParsed c.args.levels c.entries.self.place c.parse_part.new.self.place) here (c.in_ok-parse_part.ensures.kept kind_of_node.TupleSet (first ∷ hs) part_due) so_far in
-    let token : c.advance.new.self.place.lexer.source ≡ c.args.self.now.place.lexer.source = source_item c.parse_part.new.self.place c.advance.new.self.place c.in_ok-token.token c.in_ok-token.ensures.takes ∙ (source_parsed c.args.levels c.entries.self.place c.parse_part.new.self.place n is ∙ here) in
-    whole_built (g.P.Builder.is_made c.args.builder) (λ (s : List ℕ) cs ps. g.P.Builder.are_parts c.args.builder s kind_of_node.TupleSet cs ps) c.args.self.now.place c.advance.new.self.place kind_of_node.TupleSet c.args.start c.whole.result c.parse_part.new.parts (first ∷ (hs ++ n ∷ [])) (IsOfEntries c.args.levels c.args.start first c.args.self.now.place c.advance.new.self.place) token grown c.whole.ensures
-    (pairs_close c.args.levels c.args.start c.args.self.now.place c.entries.self.place c.parse_part.new.self.place c.advance.new.self.place (first ∷ hs) (first ∷ (hs ++ n ∷ [])) first n _ (hs, refl, go) is (inl (class_as _ _ _ BraceClose c.in_ok-token.ensures.takes (is_class _ _ c.eq.ensures c.if-eq.true))) refl refl)
-
-pub parse_entries-returns-then-eq-2-clause-tree : goal.parse_entries-returns-then-eq-2-clause-tree
-parse_entries-returns-then-eq-2-clause-tree g t c = λ first given.
-    let (hs, so_far, part_due, go) = c.entries.invariant.tree first given in
-    let here : c.entries.self.place.lexer.source ≡ c.args.self.now.place.lexer.source = source_reached (c.entries.invariant.led (c.args.levels + 1) [] (omega arith)) in
-    let (n, is, grown) = part_added (λ (s : List ℕ) cs ps. g.P.Builder.are_parts c.args.builder s kind_of_node.TupleSet cs ps) c.entries.parts c.parse_part.new.parts (first ∷ hs) (IsParsed c.args.levels c.entries.self.place c.parse_part.new.self.place) here (c.in_ok-parse_part.ensures.kept kind_of_node.TupleSet (first ∷ hs) part_due) so_far in
-    let token : c.advance.new.self.place.lexer.source ≡ c.args.self.now.place.lexer.source = source_item c.parse_part.new.self.place c.advance.new.self.place c.in_ok-token.token c.in_ok-token.ensures.takes ∙ (source_parsed c.args.levels c.entries.self.place c.parse_part.new.self.place n is ∙ here) in
-    let close : c.advance-in-entries.new.self.place.lexer.source ≡ c.args.self.now.place.lexer.source = source_item c.advance.new.self.place c.advance-in-entries.new.self.place c.in_ok-next.next c.in_ok-next.ensures.takes ∙ token in
-    whole_built (g.P.Builder.is_made c.args.builder) (λ (s : List ℕ) cs ps. g.P.Builder.are_parts c.args.builder s kind_of_node.TupleSet cs ps) c.args.self.now.place c.advance-in-entries.new.self.place kind_of_node.TupleSet c.args.start c.whole-then-eq-2.result c.parse_part.new.parts (first ∷ (hs ++ n ∷ [])) (IsOfEntries c.args.levels c.args.start first c.args.self.now.place c.advance-in-entries.new.self.place) close grown c.whole-then-eq-2.ensures
-    (pairs_close c.args.levels c.args.start c.args.self.now.place c.entries.self.place c.parse_part.new.self.place c.advance-in-entries.new.self.place (first ∷ hs) (first ∷ (hs ++ n ∷ [])) first n _ (hs, refl, go) is (inr (c.advance.new.self.place, class_as _ _ _ Comma c.in_ok-token.ensures.takes (differs_not _ _ c.ne.ensures c.if-ne.false), class_as _ _ _ BraceClose c.in_ok-next.ensures.takes (is_class _ _ c.eq-in-entries.ensures c.if-eq-2.true))) refl refl)
-
-pub parse_entries-entries-init : goal.parse_entries-entries-init
-parse_entries-entries-init g t c = record { asks = asks_none c.args.self.now c.args.self.now refl; led = λ n s e. here n due.value (due.entries ∷ s) c.args.self.now.place; tree = λ first given. ([], given, (0, refl), λ cs r pairs. pairs) }
-
-pub parse_entries-entries-preserved : goal.parse_entries-entries-preserved
-parse_entries-entries-preserved g t c = record {
-  asks = asks_entries c.args.levels c.args.self.now c.entries.self c.expect.new.self c.entries.invariant.led c.entries.invariant.asks (asks_value c.args.levels c.entries.self c.parse_part.new.self c.expect.new.self c.in_ok-parse_part.ensures.led c.parse_part.ensures.asks (asks_token c.parse_part.new.self c.advance.new.self c.expect.new.self c.in_ok-token.token c.in_ok-token.ensures.takes c.advance.ensures.asks (asks_token c.advance.new.self c.advance-in-entries.new.self c.expect.new.self c.in_ok-next.next c.in_ok-next.ensures.takes c.advance-in-entries.ensures.asks (asks_once c.advance-in-entries.new.self c.expect.new.self c.expect.ensures.asks))));
-  tree = λ first given.
-      let (hs, so_far, part_due, go) = c.entries.invariant.tree first given in
-      let here : c.entries.self.place.lexer.source ≡ c.args.self.now.place.lexer.source = source_reached (c.entries.invariant.led (c.args.levels + 1) [] (omega arith)) in
-      let (n, is, grown) = part_added (λ (s : List ℕ) cs ps. g.P.Builder.are_parts c.args.builder s kind_of_node.TupleSet cs ps) c.entries.parts c.parse_part.new.parts (first ∷ hs) (IsParsed c.args.levels c.entries.self.place c.parse_part.new.self.place) here (c.in_ok-parse_part.ensures.kept kind_of_node.TupleSet (first ∷ hs) part_due) so_far in
-      let token : c.advance.new.self.place.lexer.source ≡ c.args.self.now.place.lexer.source = source_item c.parse_part.new.self.place c.advance.new.self.place c.in_ok-token.token c.in_ok-token.ensures.takes ∙ (source_parsed c.args.levels c.entries.self.place c.parse_part.new.self.place n is ∙ here) in
-      let key = node c.in-Some.ty (span_at c.advance-in-entries.new.self.place) no_nodes in
-      let at_key : c.advance-in-entries.new.self.place.lexer.source ≡ c.args.self.now.place.lexer.source = source_item c.advance.new.self.place c.advance-in-entries.new.self.place c.in_ok-next.next c.in_ok-next.ensures.takes ∙ token in
-      let keyed = c.in_ok-push_key.ensures.kept kind_of_node.TupleSet (first ∷ (hs ++ n ∷ [])) (key_next (first ∷ hs) n part_due) (subst (λ (s : List ℕ). g.P.Builder.are_parts c.args.builder s kind_of_node.TupleSet (first ∷ (hs ++ n ∷ [])) c.parse_part.new.parts) (sym at_key) grown) in
-      let (more, same, further) = pairs_next c.args.levels c.args.self.now.place c.entries.self.place c.parse_part.new.self.place c.advance.new.self.place c.advance-in-entries.new.self.place c.expect.new.self.place (first ∷ hs) (first ∷ (hs ++ n ∷ [])) ((first ∷ (hs ++ n ∷ [])) ++ key ∷ []) first n key (hs, refl, go) is (class_as _ _ _ Comma c.in_ok-token.ensures.takes (differs_not _ _ c.ne.ensures c.if-ne.false))
-      (c.in_ok-next.next, c.in_ok-next.ensures.takes, c.in-Some.ensures.0, ap (λ z. node z (span_at c.advance-in-entries.new.self.place) no_nodes) c.in-Some.ensures.1) c.in_ok-expect.ensures.takes refl refl in
-      (more, subst (λ (ns : List NodeTree). g.P.Builder.are_parts c.args.builder c.args.self.now.place.lexer.source kind_of_node.TupleSet ns c.push_key.new.parts) same (subst (λ (s : List ℕ). g.P.Builder.are_parts c.args.builder s kind_of_node.TupleSet ((first ∷ (hs ++ n ∷ [])) ++ key ∷ []) c.push_key.new.parts) at_key keyed), subst (TakesPart kind_of_node.TupleSet) same (value_next (first ∷ (hs ++ n ∷ [])) key (key_next (first ∷ hs) n part_due)), further);
-  led = λ n s e.
-      let item = c.in_ok-parse_part.ensures.led n (due.entries ∷ s) (omega arith) in
-      let due_key = key_due (c.entries.invariant.led n s e) item c.in_ok-token.ensures.takes (differs_not _ _ c.ne.ensures c.if-ne.false) in
-      then_same Colon (then_same c.in_ok-next.next due_key c.in_ok-next.ensures.takes (key_reads c.in_ok-next.next s (text_at c.advance-in-entries.new.self.place) c.in-Some.ensures.0)) c.in_ok-expect.ensures.takes refl;
-}
-
-pub parse_braces-returns-in_err-key-clause-asks : goal.parse_braces-returns-in_err-key-clause-asks
-parse_braces-returns-in_err-key-clause-asks g t c =
-    asks_token c.args.self.now c.advance.new.self c.next_is.new.self c.in_ok-token.token c.in_ok-token.ensures.takes c.advance.ensures.asks (asks_once c.advance.new.self c.next_is.new.self c.next_is.ensures.asks)
-
 pub parse_part-returns-then-levels-eq0-clause-led : goal.parse_part-returns-then-levels-eq0-clause-led
 parse_part-returns-then-levels-eq0-clause-led g t c = λ n s e. refuses_there s c.refuse_depth.result c.refuse_depth.ensures.never c.refuse_depth.ensures.refused
     (λ x says. no_level n s c.args.self.now.place x (omega arith) says)
@@ -711,31 +321,6 @@ parse_part-returns-in_err-made-clause-led g t c = λ n s e. handed s _ _ c.from_
 
 pub parse_part-returns-clause-led : goal.parse_part-returns-clause-led
 parse_part-returns-clause-led g t c = λ n s e. gives_or_memory c.push_part-2.result c.push_part-2.ensures.memory (c.in_ok-made.ensures.led c.args.self.now.place c.in_ok-token.ensures.takes n s e)
-
-pub parse_optional_payload-returns-in_err-front-clause-memory : goal.parse_optional_payload-returns-in_err-front-clause-memory
-parse_optional_payload-returns-in_err-front-clause-memory g t c = error_handed (OnlyOutOfMemory (g.P.Builder.takes_memory c.args.builder) c.args.self.now.place) c.from_residual.result c.in_err-front.field-0.0 c.from_residual.ensures.1 (wants_taken (g.P.Builder.takes_memory c.args.builder) c.args.self.now.place c.in_err-front.field-0.0 (c.in_err-front.ensures.takes (payload_parts c.args.with c.requires.1)))
-
-pub parse_optional_payload-returns-in_err-expect-clause-memory : goal.parse_optional_payload-returns-in_err-expect-clause-memory
-parse_optional_payload-returns-in_err-expect-clause-memory g t c = error_handed (OnlyOutOfMemory (g.P.Builder.takes_memory c.args.builder) c.args.self.now.place) c.from_residual-in_err-expect.result c.in_err-expect.field-0.0 c.from_residual-in_err-expect.ensures.1 (wants_fails (g.P.Builder.takes_memory c.args.builder) c.args.self.now.place c.next_is.new.self.place c.expect.new.self.place (λ k. k ≡ ParenOpen) c.in_err-expect.field-0.0 c.in_err-expect.ensures.takes)
-
-pub parse_optional_payload-returns-clause-memory : goal.parse_optional_payload-returns-clause-memory
-parse_optional_payload-returns-clause-memory g t c =
-    let stays = c.next_is.ensures.stays in
-    let label = label_children c.args.with (span_at c.next_is.new.self.place) in
-    let behind : c.expect.new.self.place.lexer.source ≡ c.next_is.new.self.place.lexer.source = source_item c.next_is.new.self.place c.expect.new.self.place ParenOpen c.in_ok-expect.ensures.takes in
-    answer_token (g.P.Builder.takes_memory c.args.builder) c.args.self.now.place c.expect.new.self.place ParenOpen c.parse_payload.result (subst (λ z. TakesItem z (Some (Ok ParenOpen)) c.expect.new.self.place) stays c.in_ok-expect.ensures.takes)
-    (wants_part (TakesPart c.args.with) (λ front. g.P.Builder.are_parts c.args.builder c.expect.new.self.place.lexer.source c.args.with front c.in_ok-front.front) c.parse_payload.result (OnlyOutOfMemory (g.P.Builder.takes_memory c.args.builder) c.expect.new.self.place) c.parse_payload.ensures.memory label (payload_due c.args.with (span_at c.next_is.new.self.place) c.requires.1)
-    (subst (λ (s : List ℕ). g.P.Builder.are_parts c.args.builder s c.args.with label c.in_ok-front.front) (sym behind) (c.in_ok-front.ensures.made (payload_parts c.args.with c.requires.1))))
-
-pub parse_payload-returns-in_err-parse_part-clause-memory : goal.parse_payload-returns-in_err-parse_part-clause-memory
-parse_payload-returns-in_err-parse_part-clause-memory g t c =
-    error_handed (λ e. (front : List NodeTree) → TakesPart c.args.ty front → g.P.Builder.are_parts c.args.builder c.args.self.now.place.lexer.source c.args.ty front c.args.parts → OnlyOutOfMemory (g.P.Builder.takes_memory c.args.builder) c.args.self.now.place e) c.from_residual.result c.in_err-parse_part.field-0.0 c.from_residual.ensures.1
-    (λ front part_due first. c.in_err-parse_part.ensures.memory c.args.self.now.place.lexer.source c.args.ty front first)
-
-pub parse_payload-returns-in_err-expect-clause-memory : goal.parse_payload-returns-in_err-expect-clause-memory
-parse_payload-returns-in_err-expect-clause-memory g t c =
-    error_handed (λ e. (front : List NodeTree) → TakesPart c.args.ty front → g.P.Builder.are_parts c.args.builder c.args.self.now.place.lexer.source c.args.ty front c.args.parts → OnlyOutOfMemory (g.P.Builder.takes_memory c.args.builder) c.args.self.now.place e) c.from_residual-in_err-expect.result c.in_err-expect.field-0.0 c.from_residual-in_err-expect.ensures.1 (λ front part_due first.
-    wants_fails (g.P.Builder.takes_memory c.args.builder) c.args.self.now.place c.parse_part.new.self.place c.expect.new.self.place (λ k. k ≡ ParenClose) c.in_err-expect.field-0.0 c.in_err-expect.ensures.takes)
 
 pub parse_items-returns-in_err-expect-clause-memory : goal.parse_items-returns-in_err-expect-clause-memory
 parse_items-returns-in_err-expect-clause-memory g t c = error_handed (OnlyOutOfMemory (g.P.Builder.takes_memory c.args.builder) c.args.self.now.place) c.from_residual.result c.in_err-expect.field-0.0 c.from_residual.ensures.1 (wants_fails (g.P.Builder.takes_memory c.args.builder) c.args.self.now.place c.next_is.new.self.place c.expect.new.self.place (λ k. k ≡ c.args.close) c.in_err-expect.field-0.0 c.in_err-expect.ensures.takes)
@@ -797,38 +382,8 @@ parse_part-returns-clause-asks g t c = asks_token c.args.self.now c.advance.new.
 
 -- ---- parts that a value is made of are those of its node's children
 
-pub parse_some-parse_payload-requires : goal.parse_some-parse_payload-requires
-parse_some-parse_payload-requires g t c κs within = (omega arith, (within.0, (within.1.0, (within.1.1, ([], refl, c.parts-parts.ensures c.expect.new.self.place.lexer.source tt)))))
-
-pub parse_optional_payload-parse_payload-requires : goal.parse_optional_payload-parse_payload-requires
-parse_optional_payload-parse_payload-requires g t c κs within =
-    let label = label_children c.args.with (span_at c.next_is.new.self.place) in
-    let behind : c.expect.new.self.place.lexer.source ≡ c.next_is.new.self.place.lexer.source = source_item c.next_is.new.self.place c.expect.new.self.place ParenOpen c.in_ok-expect.ensures.takes in
-    (omega arith, (within.0, (within.1.0, (within.1.1, (label, payload_due c.args.with (span_at c.next_is.new.self.place) c.requires.1, subst (λ (s : List ℕ). g.P.Builder.are_parts c.args.builder s c.args.with label c.in_ok-front.front) (sym behind) (c.in_ok-front.ensures.made (payload_parts c.args.with c.requires.1)))))))
-
-pub parse_braces-parse_entries-requires : goal.parse_braces-parse_entries-requires
-parse_braces-parse_entries-requires g t c κs within =
-    let key = node kind_of_node.Label (span_at c.next_is.new.self.place) no_nodes in
-    let behind : c.expect-then-next_is.new.self.place.lexer.source ≡ c.next_is.new.self.place.lexer.source = source_item c.next_is.new.self.place c.expect-then-next_is.new.self.place Colon c.in_ok-expect-2.ensures.takes in
-    (omega arith, (within.0, (within.1.0, (within.1.1, (key, subst (λ (s : List ℕ). g.P.Builder.are_parts c.args.builder s kind_of_node.TupleSet (key ∷ []) c.in_ok-key.key) (sym behind) c.in_ok-key.ensures.made)))))
-
-pub parse_braces-parse_entries-requires-2 : goal.parse_braces-parse_entries-requires-2
-parse_braces-parse_entries-requires-2 g t c κs within =
-    let key = node c.in-Some.ty (span_at c.advance.new.self.place) no_nodes in
-    let behind : c.expect-2.new.self.place.lexer.source ≡ c.advance.new.self.place.lexer.source = source_item c.advance.new.self.place c.expect-2.new.self.place Colon c.in_ok-expect-3.ensures.takes in
-    (omega arith, (within.0, (within.1.0, (within.1.1, (key, subst (λ (s : List ℕ). g.P.Builder.are_parts c.args.builder s kind_of_node.TupleSet (key ∷ []) c.in_ok-key-2.key) (sym behind) c.in_ok-key-2.ensures.made)))))
-
-pub parse_payload-whole-requires : goal.parse_payload-whole-requires
-parse_payload-whole-requires g t c =
-    let (front, part_due, first) = c.requires in
-    let (n, is, grown) = c.in_ok-parse_part.ensures.kept c.args.ty front part_due first in
-    (c.args.self.now.place.lexer.source, front ++ n ∷ [], grown)
-
 pub parse_items-whole-requires : goal.parse_items-whole-requires
-parse_items-whole-requires g t c = (c.args.self.now.place.lexer.source, [], c.parts-none.ensures c.args.self.now.place.lexer.source tt)
-
-pub parse_items-whole-requires-then-eq-3 : goal.parse_items-whole-requires-then-eq-3
-parse_items-whole-requires-then-eq-3 g t c =
+parse_items-whole-requires g t c =
     let (children, first, go) = c.items.invariant.tree in
     let (d, i, r) = c.items.invariant.reached (c.args.levels + 1) [] (omega arith) in
     let here : c.items.self.place.lexer.source ≡ c.args.self.now.place.lexer.source = source_reached r in
@@ -851,24 +406,367 @@ parse_items-whole-requires-then-next_is-2 g t c =
     let (n, is, grown) = part_added (λ (s : List ℕ) cs ps. g.P.Builder.are_parts c.args.builder s c.if-eq-2.ty cs ps) c.items.parts c.parse_part.new.parts children (IsParsed c.args.levels c.items.self.place c.parse_part.new.self.place) here (c.in_ok-parse_part.ensures.kept c.if-eq-2.ty children part_due) first in
     (c.args.self.now.place.lexer.source, children ++ n ∷ [], grown)
 
-pub parse_braces-whole-requires : goal.parse_braces-whole-requires
-parse_braces-whole-requires g t c = (c.args.self.now.place.lexer.source, [], c.parts-none.ensures c.args.self.now.place.lexer.source tt)
+pub parse_after_token-returns-in-Some-clause-led : goal.parse_after_token-returns-in-Some-clause-led
+parse_after_token-returns-in-Some-clause-led g t c = λ first there n s e.
+    let front = subst (IsValueStart c.args.token (text_at c.args.self.now.place)) c.in-Some.is c.requires.front in
+    gives_then s _ c.parse_payload.result (value_read n due.paren s s _ _ _ LabelOrKeyword (omega arith) there front.0 (ap (λ w. reads (due_behind w) s) front.1)) (c.parse_payload.ensures.led n s (omega arith))
 
-pub parse_braces-whole-requires-then-eq-2 : goal.parse_braces-whole-requires-then-eq-2
-parse_braces-whole-requires-then-eq-2 g t c = (c.args.self.now.place.lexer.source, [], c.parts-none-then-eq-2.ensures c.args.self.now.place.lexer.source tt)
+pub parse_after_token-returns-in-Some-clause-tree : goal.parse_after_token-returns-in-Some-clause-tree
+parse_after_token-returns-in-Some-clause-tree g t c = 
+    let front = subst (IsValueStart c.args.token (text_at c.args.self.now.place)) c.in-Some.is c.requires.front in
+    built (g.P.Builder.is_made c.args.builder) c.args.self.now.place c.args.self.now.place (IsInParens (c.args.levels - 1) kind_of_node.OptionSome c.args.self.now.place c.parse_payload.new.self.place) (IsParsedBehind c.args.token c.args.levels c.args.self.now.place c.parse_payload.new.self.place) c.parse_payload.result refl
+    (λ n is first there. label_tied c.args.levels first c.args.self.now.place c.parse_payload.new.self.place c.args.token (as_ok n) c.requires.levels there front.0 (some_tied (c.args.levels - 1) c.args.self.now.place c.parse_payload.new.self.place n front.1 is)) c.parse_payload.ensures.tree
+
+pub parse_after_token-returns-in-Some-clause-memory : goal.parse_after_token-returns-in-Some-clause-memory
+parse_after_token-returns-in-Some-clause-memory g t c = λ first there. answer_token (g.P.Builder.takes_memory c.args.builder) first c.args.self.now.place c.args.token c.parse_payload.result there c.parse_payload.ensures.memory
+
+pub parse_after_token-returns-in-Label-clause-led : goal.parse_after_token-returns-in-Label-clause-led
+parse_after_token-returns-in-Label-clause-led g t c = λ first there n s e.
+    let front = subst (IsValueStart c.args.token (text_at c.args.self.now.place)) c.in-Label.is c.requires.front in
+    gives_then s _ c.parse_optional_payload.result (value_read n due.behind_label s s _ _ _ LabelOrKeyword (omega arith) there front.0 (ap (λ z. reads z s) (label_behind c.in-Label.alone c.in-Label.with _ front.1))) (c.parse_optional_payload.ensures.led n s (omega arith))
+
+pub parse_after_token-returns-in-Label-clause-tree : goal.parse_after_token-returns-in-Label-clause-tree
+parse_after_token-returns-in-Label-clause-tree g t c = 
+    let front = subst (IsValueStart c.args.token (text_at c.args.self.now.place)) c.in-Label.is c.requires.front in
+    built (g.P.Builder.is_made c.args.builder) c.args.self.now.place c.args.self.now.place (IsMaybe (c.args.levels - 1) c.in-Label.alone c.in-Label.with c.args.self.now.place c.parse_optional_payload.new.self.place) (IsParsedBehind c.args.token c.args.levels c.args.self.now.place c.parse_optional_payload.new.self.place) c.parse_optional_payload.result refl
+    (λ n is first there. label_tied c.args.levels first c.args.self.now.place c.parse_optional_payload.new.self.place c.args.token (as_ok n) c.requires.levels there front.0 (word_tied c.in-Label.alone c.in-Label.with (c.args.levels - 1) c.args.self.now.place c.parse_optional_payload.new.self.place n front.1 is)) c.parse_optional_payload.ensures.tree
+
+pub parse_after_token-returns-in-Label-clause-memory : goal.parse_after_token-returns-in-Label-clause-memory
+parse_after_token-returns-in-Label-clause-memory g t c = λ first there. answer_token (g.P.Builder.takes_memory c.args.builder) first c.args.self.now.place c.args.token c.parse_optional_payload.result there c.parse_optional_payload.ensures.memory
+
+pub parse_optional_payload-returns-then-not-next_is-clause-led : goal.parse_optional_payload-returns-then-not-next_is-clause-led
+parse_optional_payload-returns-then-not-next_is-clause-led g t c = λ n s e.
+    read_there (here_is n due.behind_label s _ _ c.next_is.ensures.stays) (subst (λ z. IsBehind due.behind_label z) (sym c.next_is.ensures.stays)
+    (behind_bare c.args.self.now.place (λ next. untrue _ c.if-not-next_is.true (c.next_is.ensures.answer.1 next))))
+
+pub parse_optional_payload-returns-clause-led : goal.parse_optional_payload-returns-clause-led
+parse_optional_payload-returns-clause-led g t c = λ n s e. gives_alike n due.paren due.behind_label s s c.args.self.now.place c.parse_payload.new.self.place c.parse_payload.result (paren_alike n s c.args.self.now.place (c.if-not-next_is.ensures.answer.0 refl))
+    (subst (λ z. Gives c.parse_payload.result n due.paren s z c.parse_payload.new.self.place s) c.next_is.ensures.stays (c.parse_payload.ensures.led n s (omega arith)))
+
+pub parse_optional_payload-returns-then-not-next_is-clause-tree : goal.parse_optional_payload-returns-then-not-next_is-clause-tree
+parse_optional_payload-returns-then-not-next_is-clause-tree g t c =
+    let stays = c.next_is.ensures.stays in
+    (node c.args.alone (span_at c.args.self.now.place) no_nodes, inl (stays, refl), subst (λ (z : Place). g.P.Builder.is_made c.args.builder z.lexer.source (node c.args.alone (span_at z) no_nodes) c.leaf.result) stays c.leaf.ensures)
+
+pub parse_optional_payload-returns-clause-tree : goal.parse_optional_payload-returns-clause-tree
+parse_optional_payload-returns-clause-tree g t c = 
+    let stays = c.next_is.ensures.stays in
+    built (g.P.Builder.is_made c.args.builder) c.args.self.now.place c.next_is.new.self.place (IsInParens c.args.levels c.args.with c.next_is.new.self.place c.parse_payload.new.self.place) (IsMaybe c.args.levels c.args.alone c.args.with c.args.self.now.place c.parse_payload.new.self.place) c.parse_payload.result (ap (λ (z : Place). z.lexer.source) stays)
+    (λ n is. inr (subst (λ z. IsInParens c.args.levels c.args.with z c.parse_payload.new.self.place n) stays is)) c.parse_payload.ensures.tree
+
+pub parse_optional_payload-returns-clause-asks : goal.parse_optional_payload-returns-clause-asks
+parse_optional_payload-returns-clause-asks g t c = asks_looked c.args.self.now c.next_is.new.self c.parse_payload.new.self c.next_is.ensures.stays c.next_is.ensures.asks c.parse_payload.ensures.asks
+
+pub parse_payload-returns-in_err-expect-clause-led : goal.parse_payload-returns-in_err-expect-clause-led
+parse_payload-returns-in_err-expect-clause-led g t c = λ n s e. handed s _ _ c.from_residual-in_err-expect.ensures.1
+    (fails (inl tt) (λ k. k ≡ ParenOpen) c.in_err-expect.field-0.0 (here n due.paren s _) (λ deep. deep.due) (λ k h apart. no_paren n s k (text_at c.expect.new.self.place) apart) c.in_err-expect.ensures.takes)
+
+pub parse_payload-returns-in_err-parse_part-clause-led : goal.parse_payload-returns-in_err-parse_part-clause-led
+parse_payload-returns-in_err-parse_part-clause-led g t c = λ n s e. handed s _ _ c.from_residual-in_err-parse_part.ensures.1
+    (then_refuses c.in_err-parse_part.field-0.0 (open_there c.in_ok-expect.ensures.takes) (c.in_err-parse_part.ensures.led n (due.payload ∷ s) (omega arith)))
+
+pub parse_payload-returns-in_err-expect-2-clause-led : goal.parse_payload-returns-in_err-expect-2-clause-led
+parse_payload-returns-in_err-expect-2-clause-led g t c = λ n s e.
+    let item = c.in_ok-parse_part.ensures.led n (due.payload ∷ s) (omega arith) in
+    handed s _ _ c.from_residual-in_err-expect-2.ensures.1 (fails_behind item.due_there (λ k. k ≡ ParenClose) c.in_err-expect-2.field-0.0 (then_reached (open_there c.in_ok-expect.ensures.takes) (reached item)) item.is_behind (λ k text apart. payload_other k s text apart) c.in_err-expect-2.ensures.takes)
+
+pub parse_payload-returns-clause-led : goal.parse_payload-returns-clause-led
+parse_payload-returns-clause-led g t c = λ n s e.
+    let item = c.in_ok-parse_part.ensures.led n (due.payload ∷ s) (omega arith) in
+    read_there (then_behind item.due_there ParenClose (then_reached (open_there c.in_ok-expect.ensures.takes) (reached item)) item.is_behind c.in_ok-expect-2.ensures.takes refl) (inl refl)
+
+pub parse_payload-returns-in_err-parse_part-clause-asks : goal.parse_payload-returns-in_err-parse_part-clause-asks
+parse_payload-returns-in_err-parse_part-clause-asks g t c = asks_token c.args.self.now c.expect.new.self c.parse_part.new.self ParenOpen c.in_ok-expect.ensures.takes c.expect.ensures.asks c.parse_part.ensures.asks
+
+pub parse_payload-returns-in_err-expect-2-clause-asks : goal.parse_payload-returns-in_err-expect-2-clause-asks
+parse_payload-returns-in_err-expect-2-clause-asks g t c = 
+    asks_token c.args.self.now c.expect.new.self c.expect-2.new.self ParenOpen c.in_ok-expect.ensures.takes c.expect.ensures.asks (asks_value c.args.levels c.expect.new.self c.parse_part.new.self c.expect-2.new.self c.in_ok-parse_part.ensures.led c.parse_part.ensures.asks (asks_once c.parse_part.new.self c.expect-2.new.self c.expect-2.ensures.asks))
+
+pub parse_payload-returns-clause-asks : goal.parse_payload-returns-clause-asks
+parse_payload-returns-clause-asks g t c = 
+    asks_token c.args.self.now c.expect.new.self c.expect-2.new.self ParenOpen c.in_ok-expect.ensures.takes c.expect.ensures.asks (asks_value c.args.levels c.expect.new.self c.parse_part.new.self c.expect-2.new.self c.in_ok-parse_part.ensures.led c.parse_part.ensures.asks (asks_once c.parse_part.new.self c.expect-2.new.self c.expect-2.ensures.asks))
+
+pub parse_payload-returns-in_err-parse_part-clause-memory : goal.parse_payload-returns-in_err-parse_part-clause-memory
+parse_payload-returns-in_err-parse_part-clause-memory g t c = 
+    let label = label_children c.args.ty (span_at c.args.self.now.place) in
+    let first = c.in_ok-push_label.ensures.kept (c.parts-parts.ensures c.args.self.now.place.lexer.source (payload_parts c.args.ty c.requires)) in
+    error_handed (OnlyOutOfMemory (g.P.Builder.takes_memory c.args.builder) c.args.self.now.place) c.from_residual-in_err-parse_part.result c.in_err-parse_part.field-0.0 c.from_residual-in_err-parse_part.ensures.1
+    (wants_token (g.P.Builder.takes_memory c.args.builder) c.args.self.now.place c.expect.new.self.place ParenOpen c.in_err-parse_part.field-0.0 c.in_ok-expect.ensures.takes (c.in_err-parse_part.ensures.memory c.args.self.now.place.lexer.source c.args.ty label first))
+
+pub parse_payload-returns-clause-tree : goal.parse_payload-returns-clause-tree
+parse_payload-returns-clause-tree g t c = 
+    let label = label_children c.args.ty (span_at c.args.self.now.place) in
+    let first = c.in_ok-push_label.ensures.kept (c.parts-parts.ensures c.args.self.now.place.lexer.source (payload_parts c.args.ty c.requires)) in
+    let opened : c.expect.new.self.place.lexer.source ≡ c.args.self.now.place.lexer.source = source_item c.args.self.now.place c.expect.new.self.place ParenOpen c.in_ok-expect.ensures.takes in
+    let (n, is, grown) = part_added (λ (s : List ℕ) cs ps. g.P.Builder.are_parts c.args.builder s c.args.ty cs ps) c.push_label.new.parts c.parse_part.new.parts label (IsParsed c.args.levels c.expect.new.self.place c.parse_part.new.self.place) opened (c.in_ok-parse_part.ensures.kept c.args.ty label (payload_due c.args.ty (span_at c.args.self.now.place) c.requires)) first in
+    let source : c.expect-2.new.self.place.lexer.source ≡ c.args.self.now.place.lexer.source = source_item c.parse_part.new.self.place c.expect-2.new.self.place ParenClose c.in_ok-expect-2.ensures.takes ∙ (source_parsed c.args.levels c.expect.new.self.place c.parse_part.new.self.place n is ∙ opened) in
+    whole_built (g.P.Builder.is_made c.args.builder) (λ (s : List ℕ) cs ps. g.P.Builder.are_parts c.args.builder s c.args.ty cs ps) c.args.self.now.place c.expect-2.new.self.place c.args.ty c.span-start.result.start c.whole.result c.parse_part.new.parts (label ++ n ∷ []) (IsInParens c.args.levels c.args.ty c.args.self.now.place c.expect-2.new.self.place) source grown c.whole.ensures
+    (
+      c.expect.new.self.place,
+      c.in_ok-expect.ensures.takes,
+      record { payload = n; behind = c.parse_part.new.self.place; inner = is; close = c.in_ok-expect-2.ensures.takes; is = ap (λ (z : Range ℕ). node c.args.ty (span z.start c.expect-2.new.self.place.lexer.end) (node_trees (label ++ n ∷ []))) c.span-start.ensures },
+    )
+
+pub parse_payload-whole-requires : goal.parse_payload-whole-requires
+parse_payload-whole-requires g t c = 
+    let label = label_children c.args.ty (span_at c.args.self.now.place) in
+    let first = c.in_ok-push_label.ensures.kept (c.parts-parts.ensures c.args.self.now.place.lexer.source (payload_parts c.args.ty c.requires)) in
+    let opened : c.expect.new.self.place.lexer.source ≡ c.args.self.now.place.lexer.source = source_item c.args.self.now.place c.expect.new.self.place ParenOpen c.in_ok-expect.ensures.takes in
+    let (n, is, grown) = part_added (λ (s : List ℕ) cs ps. g.P.Builder.are_parts c.args.builder s c.args.ty cs ps) c.push_label.new.parts c.parse_part.new.parts label (IsParsed c.args.levels c.expect.new.self.place c.parse_part.new.self.place) opened (c.in_ok-parse_part.ensures.kept c.args.ty label (payload_due c.args.ty (span_at c.args.self.now.place) c.requires)) first in
+    (c.args.self.now.place.lexer.source, label ++ n ∷ [], grown)
+
+pub parse_braces-returns-in_err-token-clause-led : goal.parse_braces-returns-in_err-token-clause-led
+parse_braces-returns-in_err-token-clause-led g t c = λ n s e. handed s _ _ c.from_residual.ensures.1
+    (fails (inl tt) (λ _. Unit {0}) c.in_err-token.field-0.0 (here n due.in_braces s _) (λ deep. deep.due) (any_token n due.in_braces s _ _) c.in_err-token.ensures.takes)
+
+pub parse_braces-returns-then-eq-clause-led : goal.parse_braces-returns-then-eq-clause-led
+parse_braces-returns-then-eq-clause-led g t c = λ n s e. read_there (then_class BraceClose (here n due.in_braces s _) c.in_ok-token.ensures.takes (is_class _ _ c.eq.ensures c.if-eq.true) refl) (inl refl)
+
+pub parse_braces-returns-in_err-expect-clause-led : goal.parse_braces-returns-in_err-expect-clause-led
+parse_braces-returns-in_err-expect-clause-led g t c = λ n s e. handed s _ _ c.from_residual-in_err-expect.ensures.1
+    (fails (inl tt) (λ k. k ≡ BraceClose) c.in_err-expect.field-0.0 (then_class {f = due.no_fields} {v = s} Colon (here n due.in_braces s _) c.in_ok-token.ensures.takes (is_class _ _ c.eq-2.ensures c.if-eq-2.true) refl) (λ deep. deep.due)
+    (λ k h apart. no_brace n s k (text_at c.expect.new.self.place) apart) c.in_err-expect.ensures.takes)
+
+pub parse_braces-returns-then-eq-2-clause-led : goal.parse_braces-returns-then-eq-2-clause-led
+parse_braces-returns-then-eq-2-clause-led g t c = λ n s e.
+    read_there (then_same BraceClose (then_class {f = due.no_fields} {v = s} Colon (here n due.in_braces s _) c.in_ok-token.ensures.takes (is_class _ _ c.eq-2.ensures c.if-eq-2.true) refl) c.in_ok-expect.ensures.takes refl) (inl refl)
+
+pub parse_braces-returns-then-eq-3-clause-led : goal.parse_braces-returns-then-eq-3-clause-led
+parse_braces-returns-then-eq-3-clause-led g t c = λ n s e.
+    let word = then_class {f = due.behind_word (text_at c.advance.new.self.place)} {v = s} LabelOrKeyword (here n due.in_braces s _) c.in_ok-token.ensures.takes (is_class _ _ c.eq-3.ensures c.if-eq-3.true) refl in
+    gives_then s _ c.parse_flags.result (moved c.next_is.ensures.stays word)
+    (subst (λ z. Gives c.parse_flags.result n (due.behind_word (text_at z)) s c.next_is.new.self.place c.parse_flags.new.self.place s) c.next_is.ensures.stays (c.parse_flags.ensures.led n s))
+
+pub parse_braces-returns-in_default-clause-led : goal.parse_braces-returns-in_default-clause-led
+parse_braces-returns-in_default-clause-led g t c = λ n s e. refuses_there s c.refuse_token.result c.refuse_token.ensures.never c.refuse_token.ensures.refused (λ x says. unexpected_there (inl tt) x c.in_ok-token.token (here n due.in_braces s _) c.in_ok-token.ensures.takes
+    (brace_key c.in_ok-token.token s (text_at c.advance.new.self.place) (is_other _ _ c.eq-3.ensures c.if-eq-3.false) (is_other _ _ c.eq-2.ensures c.if-eq-2.false) ∙
+    no_key c.in_ok-token.token s (text_at c.advance.new.self.place) c.in_default.ensures (is_other _ _ c.eq.ensures c.if-eq.false))
+    says)
+
+pub parse_braces-returns-then-next_is-clause-led : goal.parse_braces-returns-then-next_is-clause-led
+parse_braces-returns-then-next_is-clause-led g t c = λ n s e.
+    let text = text_at c.advance.new.self.place in
+    let word = then_class {f = due.behind_word text} {v = s} LabelOrKeyword (here n due.in_braces s _) c.in_ok-token.ensures.takes (is_class _ _ c.eq-3.ensures c.if-eq-3.true) refl in
+    gives_then s _ c.parse_entries.result word
+    (gives_alike n due.behind_key (due.behind_word text) s s c.advance.new.self.place c.parse_entries.new.self.place c.parse_entries.result (colon_alike n s c.advance.new.self.place text (c.if-next_is.ensures.answer.0 refl))
+    (subst (λ z. Gives c.parse_entries.result n due.behind_key s z c.parse_entries.new.self.place s) c.next_is.ensures.stays (c.parse_entries.ensures.led n s e)))
+
+pub parse_braces-returns-clause-led : goal.parse_braces-returns-clause-led
+parse_braces-returns-clause-led g t c = λ n s e.
+    let key_step_there = brace_key c.in_ok-token.token s (text_at c.advance.new.self.place) (is_other _ _ c.eq-3.ensures c.if-eq-3.false) (is_other _ _ c.eq-2.ensures c.if-eq-2.false) ∙ key_reads c.in_ok-token.token s (text_at c.advance.new.self.place) c.in-Some.ensures.0 in
+    gives_then s _ c.parse_entries-2.result (then_same c.in_ok-token.token (here n due.in_braces s _) c.in_ok-token.ensures.takes key_step_there) (c.parse_entries-2.ensures.led n s e)
+
+pub parse_braces-returns-in_err-expect-clause-asks : goal.parse_braces-returns-in_err-expect-clause-asks
+parse_braces-returns-in_err-expect-clause-asks g t c =
+    asks_token c.args.self.now c.advance.new.self c.expect.new.self c.in_ok-token.token c.in_ok-token.ensures.takes c.advance.ensures.asks (asks_once c.advance.new.self c.expect.new.self c.expect.ensures.asks)
+
+pub parse_braces-returns-then-eq-2-clause-asks : goal.parse_braces-returns-then-eq-2-clause-asks
+parse_braces-returns-then-eq-2-clause-asks g t c =
+    asks_token c.args.self.now c.advance.new.self c.expect.new.self c.in_ok-token.token c.in_ok-token.ensures.takes c.advance.ensures.asks (asks_once c.advance.new.self c.expect.new.self c.expect.ensures.asks)
+
+pub parse_braces-returns-then-eq-3-clause-asks : goal.parse_braces-returns-then-eq-3-clause-asks
+parse_braces-returns-then-eq-3-clause-asks g t c =
+    asks_token c.args.self.now c.advance.new.self c.parse_flags.new.self c.in_ok-token.token c.in_ok-token.ensures.takes c.advance.ensures.asks (asks_looked c.advance.new.self c.next_is.new.self c.parse_flags.new.self c.next_is.ensures.stays c.next_is.ensures.asks c.parse_flags.ensures.asks)
+
+pub parse_braces-returns-then-next_is-clause-asks : goal.parse_braces-returns-then-next_is-clause-asks
+parse_braces-returns-then-next_is-clause-asks g t c = 
+    asks_token c.args.self.now c.advance.new.self c.parse_entries.new.self c.in_ok-token.token c.in_ok-token.ensures.takes c.advance.ensures.asks (asks_looked c.advance.new.self c.next_is.new.self c.parse_entries.new.self c.next_is.ensures.stays c.next_is.ensures.asks c.parse_entries.ensures.asks)
+
+pub parse_braces-returns-clause-asks : goal.parse_braces-returns-clause-asks
+parse_braces-returns-clause-asks g t c = 
+    asks_token c.args.self.now c.advance.new.self c.parse_entries-2.new.self c.in_ok-token.token c.in_ok-token.ensures.takes c.advance.ensures.asks c.parse_entries-2.ensures.asks
+
+pub parse_braces-returns-then-eq-clause-tree : goal.parse_braces-returns-then-eq-clause-tree
+parse_braces-returns-then-eq-clause-tree g t c = 
+    none_built (g.P.Builder.is_made c.args.builder) c.args.self.now.place c.advance.new.self.place kind_of_node.EmptySet c.span-start.result.start c.whole_of_none.result (IsParsedBehind BraceOpen (c.args.levels + 1) c.args.self.now.place c.advance.new.self.place) (source_item c.args.self.now.place c.advance.new.self.place c.in_ok-token.token c.in_ok-token.ensures.takes) c.whole_of_none.ensures
+    (empty_tied c.args.levels c.args.self.now.place c.advance.new.self.place c.span-start.result.start [] _ (class_as _ _ _ BraceClose c.in_ok-token.ensures.takes (is_class _ _ c.eq.ensures c.if-eq.true)) (ap (λ (z : Range ℕ). z.start) c.span-start.ensures) refl refl)
+
+pub parse_braces-returns-then-eq-2-clause-tree : goal.parse_braces-returns-then-eq-2-clause-tree
+parse_braces-returns-then-eq-2-clause-tree g t c = 
+    none_built (g.P.Builder.is_made c.args.builder) c.args.self.now.place c.expect.new.self.place kind_of_node.TupleSet c.span-start.result.start c.whole_of_none-then-eq-2.result (IsParsedBehind BraceOpen (c.args.levels + 1) c.args.self.now.place c.expect.new.self.place) (source_item c.advance.new.self.place c.expect.new.self.place BraceClose c.in_ok-expect.ensures.takes ∙ (source_item c.args.self.now.place c.advance.new.self.place c.in_ok-token.token c.in_ok-token.ensures.takes)) c.whole_of_none-then-eq-2.ensures
+    (no_fields_tied c.args.levels c.args.self.now.place c.advance.new.self.place c.expect.new.self.place c.span-start.result.start [] _ (class_as _ _ _ Colon c.in_ok-token.ensures.takes (is_class _ _ c.eq-2.ensures c.if-eq-2.true)) c.in_ok-expect.ensures.takes (ap (λ (z : Range ℕ). z.start) c.span-start.ensures) refl refl)
+
+pub parse_braces-returns-then-next_is-clause-tree : goal.parse_braces-returns-then-next_is-clause-tree
+parse_braces-returns-then-next_is-clause-tree g t c = 
+    let stays = c.next_is.ensures.stays in
+    built (g.P.Builder.is_made c.args.builder) c.args.self.now.place c.next_is.new.self.place (IsOfEntries c.args.levels c.span-start.result.start kind_of_node.Label c.next_is.new.self.place c.parse_entries.new.self.place) (IsParsedBehind BraceOpen (c.args.levels + 1) c.args.self.now.place c.parse_entries.new.self.place) c.parse_entries.result (ap (λ (z : Place). z.lexer.source) stays ∙ (source_item c.args.self.now.place c.advance.new.self.place c.in_ok-token.token c.in_ok-token.ensures.takes))
+    (λ n is. entries_tied c.args.levels c.args.self.now.place c.next_is.new.self.place c.parse_entries.new.self.place LabelOrKeyword kind_of_node.Label c.span-start.result.start n
+    (subst (λ z. TakesClass LabelOrKeyword c.args.self.now.place z) (sym stays) (class_as _ _ _ LabelOrKeyword c.in_ok-token.ensures.takes (is_class _ _ c.eq-3.ensures c.if-eq-3.true))) tt refl (ap (λ (z : Range ℕ). z.start) c.span-start.ensures) is) c.parse_entries.ensures.tree
+
+pub parse_braces-returns-clause-tree : goal.parse_braces-returns-clause-tree
+parse_braces-returns-clause-tree g t c = 
+    built (g.P.Builder.is_made c.args.builder) c.args.self.now.place c.advance.new.self.place (IsOfEntries c.args.levels c.span-start.result.start c.in-Some.ty c.advance.new.self.place c.parse_entries-2.new.self.place) (IsParsedBehind BraceOpen (c.args.levels + 1) c.args.self.now.place c.parse_entries-2.new.self.place) c.parse_entries-2.result (source_item c.args.self.now.place c.advance.new.self.place c.in_ok-token.token c.in_ok-token.ensures.takes)
+    (λ n is. entries_tied c.args.levels c.args.self.now.place c.advance.new.self.place c.parse_entries-2.new.self.place c.in_ok-token.token c.in-Some.ty c.span-start.result.start n c.in_ok-token.ensures.takes c.in-Some.ensures.0 c.in-Some.ensures.1 (ap (λ (z : Range ℕ). z.start) c.span-start.ensures) is) c.parse_entries-2.ensures.tree
+
+pub parse_braces-returns-then-eq-3-clause-tree : goal.parse_braces-returns-then-eq-3-clause-tree
+parse_braces-returns-then-eq-3-clause-tree g t c =
+    let stays = c.next_is.ensures.stays in
+    built (g.P.Builder.is_made c.args.builder) c.args.self.now.place c.next_is.new.self.place (IsOfFlags c.span-start.result.start c.next_is.new.self.place c.parse_flags.new.self.place) (IsParsedBehind BraceOpen (c.args.levels + 1) c.args.self.now.place c.parse_flags.new.self.place) c.parse_flags.result (ap (λ (z : Place). z.lexer.source) stays ∙ (source_item c.args.self.now.place c.advance.new.self.place c.in_ok-token.token c.in_ok-token.ensures.takes))
+    (λ n. flags_tied c.args.levels c.args.self.now.place c.next_is.new.self.place c.parse_flags.new.self.place c.span-start.result.start (as_ok n) (subst (λ z. TakesClass LabelOrKeyword c.args.self.now.place z) (sym stays) (class_as _ _ _ LabelOrKeyword c.in_ok-token.ensures.takes (is_class _ _ c.eq-3.ensures c.if-eq-3.true))) (ap (λ (z : Range ℕ). z.start) c.span-start.ensures)) c.parse_flags.ensures.tree
+
+pub parse_entries-entries-init : goal.parse_entries-entries-init
+parse_entries-entries-init g t c = record { asks = asks_none c.args.self.now c.args.self.now refl; led = λ n s e. here n due.behind_key s c.args.self.now.place; tree = ([], c.parts-parts.ensures c.args.self.now.place.lexer.source tt, (0, refl), λ cs r parts. parts) }
+
+pub parse_entries-returns-in_err-push_key-clause-asks : goal.parse_entries-returns-in_err-push_key-clause-asks
+parse_entries-returns-in_err-push_key-clause-asks g t c = c.entries.invariant.asks
+
+pub parse_entries-returns-in_err-expect-clause-led : goal.parse_entries-returns-in_err-expect-clause-led
+parse_entries-returns-in_err-expect-clause-led g t c = λ n s e. handed s _ _ c.from_residual-in_err-expect.ensures.1
+    (fails (inl tt) (λ k. k ≡ Colon) c.in_err-expect.field-0.0 (c.entries.invariant.led n s e) (λ deep. deep.due) (λ k h apart. no_colon n s k (text_at c.expect.new.self.place) apart) c.in_err-expect.ensures.takes)
+
+pub parse_entries-returns-in_err-parse_part-clause-led : goal.parse_entries-returns-in_err-parse_part-clause-led
+parse_entries-returns-in_err-parse_part-clause-led g t c = λ n s e. handed s _ _ c.from_residual-in_err-parse_part.ensures.1
+    (then_refuses c.in_err-parse_part.field-0.0 (value_there (c.entries.invariant.led n s e) c.in_ok-expect.ensures.takes) (c.in_err-parse_part.ensures.led n (due.entries ∷ s) (omega arith)))
+
+pub parse_entries-returns-in_err-token-clause-led : goal.parse_entries-returns-in_err-token-clause-led
+parse_entries-returns-in_err-token-clause-led g t c = λ n s e.
+    let item = c.in_ok-parse_part.ensures.led n (due.entries ∷ s) (omega arith) in
+    handed s _ _ c.from_residual-in_err-token.ensures.1 (fails_behind item.due_there (λ _. Unit {0}) c.in_err-token.field-0.0 (then_reached (value_there (c.entries.invariant.led n s e) c.in_ok-expect.ensures.takes) (reached item)) item.is_behind (λ k text apart. absurd (apart tt)) c.in_err-token.ensures.takes)
+
+pub parse_entries-returns-then-eq-clause-led : goal.parse_entries-returns-then-eq-clause-led
+parse_entries-returns-then-eq-clause-led g t c = λ n s e.
+    let item = c.in_ok-parse_part.ensures.led n (due.entries ∷ s) (omega arith) in
+    read_there (then_behind_class item.due_there BraceClose (then_reached (value_there (c.entries.invariant.led n s e) c.in_ok-expect.ensures.takes) (reached item)) item.is_behind c.in_ok-token.ensures.takes (is_class _ _ c.eq.ensures c.if-eq.true) refl) (inl refl)
+
+pub parse_entries-returns-then-ne-clause-led : goal.parse_entries-returns-then-ne-clause-led
+parse_entries-returns-then-ne-clause-led g t c = λ n s e.
+    let item = c.in_ok-parse_part.ensures.led n (due.entries ∷ s) (omega arith) in
+    refuses_there s c.refuse_token.result c.refuse_token.ensures.never c.refuse_token.ensures.refused (λ x says. unexpected_behind item.due_there x c.in_ok-token.token (then_reached (value_there (c.entries.invariant.led n s e) c.in_ok-expect.ensures.takes) (reached item)) item.is_behind c.in_ok-token.ensures.takes
+    (entries_other c.in_ok-token.token s (text_at c.advance.new.self.place) (is_other _ _ c.eq.ensures c.if-eq.false) (differs _ _ c.ne.ensures c.if-ne.true))
+    says)
+
+pub parse_entries-returns-in_err-next-clause-led : goal.parse_entries-returns-in_err-next-clause-led
+parse_entries-returns-in_err-next-clause-led g t c = λ n s e.
+    let item = c.in_ok-parse_part.ensures.led n (due.entries ∷ s) (omega arith) in
+    let due_key = key_due (value_there (c.entries.invariant.led n s e) c.in_ok-expect.ensures.takes) item c.in_ok-token.ensures.takes (differs_not _ _ c.ne.ensures c.if-ne.false) in
+    handed s _ _ c.from_residual-in_err-next.ensures.1 (fails (inl tt) (λ _. Unit {0}) c.in_err-next.field-0.0 due_key (λ deep. deep.due) (any_token n due.key s _ _) c.in_err-next.ensures.takes)
+
+pub parse_entries-returns-then-eq-2-clause-led : goal.parse_entries-returns-then-eq-2-clause-led
+parse_entries-returns-then-eq-2-clause-led g t c = λ n s e.
+    let item = c.in_ok-parse_part.ensures.led n (due.entries ∷ s) (omega arith) in
+    let due_key = key_due (value_there (c.entries.invariant.led n s e) c.in_ok-expect.ensures.takes) item c.in_ok-token.ensures.takes (differs_not _ _ c.ne.ensures c.if-ne.false) in
+    read_there (then_class BraceClose due_key c.in_ok-next.ensures.takes (is_class _ _ c.eq-in-entries.ensures c.if-eq-2.true) refl) (inl refl)
+
+pub parse_entries-returns-in_default-clause-led : goal.parse_entries-returns-in_default-clause-led
+parse_entries-returns-in_default-clause-led g t c = λ n s e.
+    let item = c.in_ok-parse_part.ensures.led n (due.entries ∷ s) (omega arith) in
+    let due_key = key_due (value_there (c.entries.invariant.led n s e) c.in_ok-expect.ensures.takes) item c.in_ok-token.ensures.takes (differs_not _ _ c.ne.ensures c.if-ne.false) in
+    refuses_there s c.refuse_token-in_default.result c.refuse_token-in_default.ensures.never c.refuse_token-in_default.ensures.refused (λ x says. unexpected_there (inl tt) x c.in_ok-next.next due_key c.in_ok-next.ensures.takes
+    (no_key c.in_ok-next.next s (text_at c.advance-in-entries.new.self.place) c.in_default.ensures (is_other _ _ c.eq-in-entries.ensures c.if-eq-2.false))
+    says)
+
+pub parse_entries-entries-smaller : goal.parse_entries-entries-smaller
+parse_entries-entries-smaller g t c = 
+    let item = c.in_ok-parse_part.ensures.led (c.args.levels + 1 + 0) (due.entries ∷ []) (omega arith) in
+    let one = token_less _ _ Colon c.in_ok-expect.ensures.takes in
+    let two = tokens_less _ _ item.tokens item.taken in
+    let three = token_less _ _ c.in_ok-token.token c.in_ok-token.ensures.takes in
+    let four = token_less _ _ c.in_ok-next.next c.in_ok-next.ensures.takes in
+    omega arith
+
+pub parse_entries-returns-in_err-expect-clause-asks : goal.parse_entries-returns-in_err-expect-clause-asks
+parse_entries-returns-in_err-expect-clause-asks g t c = 
+    asks_entries c.args.levels c.args.self.now c.entries.self c.expect.new.self c.entries.invariant.led c.entries.invariant.asks (asks_once c.entries.self c.expect.new.self c.expect.ensures.asks)
+
+pub parse_entries-returns-in_err-parse_part-clause-asks : goal.parse_entries-returns-in_err-parse_part-clause-asks
+parse_entries-returns-in_err-parse_part-clause-asks g t c = 
+    asks_entries c.args.levels c.args.self.now c.entries.self c.parse_part.new.self c.entries.invariant.led c.entries.invariant.asks (asks_token c.entries.self c.expect.new.self c.parse_part.new.self Colon c.in_ok-expect.ensures.takes c.expect.ensures.asks c.parse_part.ensures.asks)
+
+pub parse_entries-returns-in_err-token-clause-asks : goal.parse_entries-returns-in_err-token-clause-asks
+parse_entries-returns-in_err-token-clause-asks g t c = 
+    asks_entries c.args.levels c.args.self.now c.entries.self c.advance.new.self c.entries.invariant.led c.entries.invariant.asks (asks_token c.entries.self c.expect.new.self c.advance.new.self Colon c.in_ok-expect.ensures.takes c.expect.ensures.asks (asks_value c.args.levels c.expect.new.self c.parse_part.new.self c.advance.new.self c.in_ok-parse_part.ensures.led c.parse_part.ensures.asks (asks_once c.parse_part.new.self c.advance.new.self c.advance.ensures.asks)))
+
+pub parse_entries-returns-then-eq-clause-asks : goal.parse_entries-returns-then-eq-clause-asks
+parse_entries-returns-then-eq-clause-asks g t c = 
+    asks_entries c.args.levels c.args.self.now c.entries.self c.advance.new.self c.entries.invariant.led c.entries.invariant.asks (asks_token c.entries.self c.expect.new.self c.advance.new.self Colon c.in_ok-expect.ensures.takes c.expect.ensures.asks (asks_value c.args.levels c.expect.new.self c.parse_part.new.self c.advance.new.self c.in_ok-parse_part.ensures.led c.parse_part.ensures.asks (asks_once c.parse_part.new.self c.advance.new.self c.advance.ensures.asks)))
+
+pub parse_entries-returns-then-ne-clause-asks : goal.parse_entries-returns-then-ne-clause-asks
+parse_entries-returns-then-ne-clause-asks g t c = 
+    asks_entries c.args.levels c.args.self.now c.entries.self c.advance.new.self c.entries.invariant.led c.entries.invariant.asks (asks_token c.entries.self c.expect.new.self c.advance.new.self Colon c.in_ok-expect.ensures.takes c.expect.ensures.asks (asks_value c.args.levels c.expect.new.self c.parse_part.new.self c.advance.new.self c.in_ok-parse_part.ensures.led c.parse_part.ensures.asks (asks_once c.parse_part.new.self c.advance.new.self c.advance.ensures.asks)))
+
+pub parse_entries-returns-in_err-next-clause-asks : goal.parse_entries-returns-in_err-next-clause-asks
+parse_entries-returns-in_err-next-clause-asks g t c = 
+    asks_entries c.args.levels c.args.self.now c.entries.self c.advance-in-entries.new.self c.entries.invariant.led c.entries.invariant.asks (asks_token c.entries.self c.expect.new.self c.advance-in-entries.new.self Colon c.in_ok-expect.ensures.takes c.expect.ensures.asks (asks_value c.args.levels c.expect.new.self c.parse_part.new.self c.advance-in-entries.new.self c.in_ok-parse_part.ensures.led c.parse_part.ensures.asks (asks_token c.parse_part.new.self c.advance.new.self c.advance-in-entries.new.self c.in_ok-token.token c.in_ok-token.ensures.takes c.advance.ensures.asks (asks_once c.advance.new.self c.advance-in-entries.new.self c.advance-in-entries.ensures.asks))))
+
+pub parse_entries-returns-then-eq-2-clause-asks : goal.parse_entries-returns-then-eq-2-clause-asks
+parse_entries-returns-then-eq-2-clause-asks g t c = 
+    asks_entries c.args.levels c.args.self.now c.entries.self c.advance-in-entries.new.self c.entries.invariant.led c.entries.invariant.asks (asks_token c.entries.self c.expect.new.self c.advance-in-entries.new.self Colon c.in_ok-expect.ensures.takes c.expect.ensures.asks (asks_value c.args.levels c.expect.new.self c.parse_part.new.self c.advance-in-entries.new.self c.in_ok-parse_part.ensures.led c.parse_part.ensures.asks (asks_token c.parse_part.new.self c.advance.new.self c.advance-in-entries.new.self c.in_ok-token.token c.in_ok-token.ensures.takes c.advance.ensures.asks (asks_once c.advance.new.self c.advance-in-entries.new.self c.advance-in-entries.ensures.asks))))
+
+pub parse_entries-returns-in_default-clause-asks : goal.parse_entries-returns-in_default-clause-asks
+parse_entries-returns-in_default-clause-asks g t c = 
+    asks_entries c.args.levels c.args.self.now c.entries.self c.advance-in-entries.new.self c.entries.invariant.led c.entries.invariant.asks (asks_token c.entries.self c.expect.new.self c.advance-in-entries.new.self Colon c.in_ok-expect.ensures.takes c.expect.ensures.asks (asks_value c.args.levels c.expect.new.self c.parse_part.new.self c.advance-in-entries.new.self c.in_ok-parse_part.ensures.led c.parse_part.ensures.asks (asks_token c.parse_part.new.self c.advance.new.self c.advance-in-entries.new.self c.in_ok-token.token c.in_ok-token.ensures.takes c.advance.ensures.asks (asks_once c.advance.new.self c.advance-in-entries.new.self c.advance-in-entries.ensures.asks))))
+
+pub parse_entries-returns-then-eq-clause-tree : goal.parse_entries-returns-then-eq-clause-tree
+parse_entries-returns-then-eq-clause-tree g t c = 
+    let (children, so_far, even, go) = c.entries.invariant.tree in
+    let here : c.entries.self.place.lexer.source ≡ c.args.self.now.place.lexer.source = source_reached (c.entries.invariant.led (c.args.levels + 1) [] (omega arith)) in
+    let key = node c.entries.key (span_at c.entries.self.place) no_nodes in
+    let value_due = value_next children key even in
+    let (n, is, grown) = entry_added (λ (s : List ℕ) cs ps. g.P.Builder.are_parts c.args.builder s kind_of_node.TupleSet cs ps) c.args.levels c.args.self.now.place c.entries.self.place c.expect.new.self.place c.parse_part.new.self.place c.entries.key children c.entries.parts c.push_key.new.parts c.parse_part.new.parts here c.in_ok-expect.ensures.takes so_far
+    (c.in_ok-push_key.ensures.kept kind_of_node.TupleSet children even) (c.in_ok-parse_part.ensures.kept kind_of_node.TupleSet (children ++ key ∷ []) value_due) in
+    let token : c.advance.new.self.place.lexer.source ≡ c.args.self.now.place.lexer.source = source_item c.parse_part.new.self.place c.advance.new.self.place c.in_ok-token.token c.in_ok-token.ensures.takes ∙ (source_parsed c.args.levels c.expect.new.self.place c.parse_part.new.self.place n is ∙ (source_item c.entries.self.place c.expect.new.self.place Colon c.in_ok-expect.ensures.takes ∙ here)) in
+    whole_built (g.P.Builder.is_made c.args.builder) (λ (s : List ℕ) cs ps. g.P.Builder.are_parts c.args.builder s kind_of_node.TupleSet cs ps) c.args.self.now.place c.advance.new.self.place kind_of_node.TupleSet c.args.start c.whole.result c.parse_part.new.parts ((children ++ key ∷ []) ++ n ∷ []) (IsOfEntries c.args.levels c.args.start c.args.first c.args.self.now.place c.advance.new.self.place) token grown c.whole.ensures
+    (record { children = (children ++ key ∷ []) ++ n ∷ []; are = keyed_close c.args.levels c.args.self.now.place c.entries.self.place c.expect.new.self.place c.parse_part.new.self.place c.advance.new.self.place c.args.first c.entries.key children n go c.in_ok-expect.ensures.takes is (inl (class_as _ _ _ BraceClose c.in_ok-token.ensures.takes (is_class _ _ c.eq.ensures c.if-eq.true))); is = refl })
+
+pub parse_entries-returns-then-eq-2-clause-tree : goal.parse_entries-returns-then-eq-2-clause-tree
+parse_entries-returns-then-eq-2-clause-tree g t c = 
+    let (children, so_far, even, go) = c.entries.invariant.tree in
+    let here : c.entries.self.place.lexer.source ≡ c.args.self.now.place.lexer.source = source_reached (c.entries.invariant.led (c.args.levels + 1) [] (omega arith)) in
+    let key = node c.entries.key (span_at c.entries.self.place) no_nodes in
+    let value_due = value_next children key even in
+    let (n, is, grown) = entry_added (λ (s : List ℕ) cs ps. g.P.Builder.are_parts c.args.builder s kind_of_node.TupleSet cs ps) c.args.levels c.args.self.now.place c.entries.self.place c.expect.new.self.place c.parse_part.new.self.place c.entries.key children c.entries.parts c.push_key.new.parts c.parse_part.new.parts here c.in_ok-expect.ensures.takes so_far
+    (c.in_ok-push_key.ensures.kept kind_of_node.TupleSet children even) (c.in_ok-parse_part.ensures.kept kind_of_node.TupleSet (children ++ key ∷ []) value_due) in
+    let token : c.advance.new.self.place.lexer.source ≡ c.args.self.now.place.lexer.source = source_item c.parse_part.new.self.place c.advance.new.self.place c.in_ok-token.token c.in_ok-token.ensures.takes ∙ (source_parsed c.args.levels c.expect.new.self.place c.parse_part.new.self.place n is ∙ (source_item c.entries.self.place c.expect.new.self.place Colon c.in_ok-expect.ensures.takes ∙ here)) in
+    let close : c.advance-in-entries.new.self.place.lexer.source ≡ c.args.self.now.place.lexer.source = source_item c.advance.new.self.place c.advance-in-entries.new.self.place c.in_ok-next.next c.in_ok-next.ensures.takes ∙ token in
+    whole_built (g.P.Builder.is_made c.args.builder) (λ (s : List ℕ) cs ps. g.P.Builder.are_parts c.args.builder s kind_of_node.TupleSet cs ps) c.args.self.now.place c.advance-in-entries.new.self.place kind_of_node.TupleSet c.args.start c.whole-then-eq-2.result c.parse_part.new.parts ((children ++ key ∷ []) ++ n ∷ []) (IsOfEntries c.args.levels c.args.start c.args.first c.args.self.now.place c.advance-in-entries.new.self.place) close grown c.whole-then-eq-2.ensures
+    (record { children = (children ++ key ∷ []) ++ n ∷ []; are = keyed_close c.args.levels c.args.self.now.place c.entries.self.place c.expect.new.self.place c.parse_part.new.self.place c.advance-in-entries.new.self.place c.args.first c.entries.key children n go c.in_ok-expect.ensures.takes is (inr (c.advance.new.self.place, (class_as _ _ _ Comma c.in_ok-token.ensures.takes (differs_not _ _ c.ne.ensures c.if-ne.false)), class_as _ _ _ BraceClose c.in_ok-next.ensures.takes (is_class _ _ c.eq-in-entries.ensures c.if-eq-2.true))); is = refl })
 
 pub parse_entries-whole-requires : goal.parse_entries-whole-requires
-parse_entries-whole-requires g t c =
-    let (first, given) = c.requires in
-    let (hs, so_far, part_due, go) = c.entries.invariant.tree first given in
+parse_entries-whole-requires g t c = 
+    let (children, so_far, even, go) = c.entries.invariant.tree in
     let here : c.entries.self.place.lexer.source ≡ c.args.self.now.place.lexer.source = source_reached (c.entries.invariant.led (c.args.levels + 1) [] (omega arith)) in
-    let (n, is, grown) = part_added (λ (s : List ℕ) cs ps. g.P.Builder.are_parts c.args.builder s kind_of_node.TupleSet cs ps) c.entries.parts c.parse_part.new.parts (first ∷ hs) (IsParsed c.args.levels c.entries.self.place c.parse_part.new.self.place) here (c.in_ok-parse_part.ensures.kept kind_of_node.TupleSet (first ∷ hs) part_due) so_far in
-    (c.args.self.now.place.lexer.source, first ∷ (hs ++ n ∷ []), grown)
+    let key = node c.entries.key (span_at c.entries.self.place) no_nodes in
+    let value_due = value_next children key even in
+    let (n, is, grown) = entry_added (λ (s : List ℕ) cs ps. g.P.Builder.are_parts c.args.builder s kind_of_node.TupleSet cs ps) c.args.levels c.args.self.now.place c.entries.self.place c.expect.new.self.place c.parse_part.new.self.place c.entries.key children c.entries.parts c.push_key.new.parts c.parse_part.new.parts here c.in_ok-expect.ensures.takes so_far
+    (c.in_ok-push_key.ensures.kept kind_of_node.TupleSet children even) (c.in_ok-parse_part.ensures.kept kind_of_node.TupleSet (children ++ key ∷ []) value_due) in
+    (c.args.self.now.place.lexer.source, (children ++ key ∷ []) ++ n ∷ [], grown)
 
 pub parse_entries-whole-requires-then-eq-2 : goal.parse_entries-whole-requires-then-eq-2
-parse_entries-whole-requires-then-eq-2 g t c =
-    let (first, given) = c.requires in
-    let (hs, so_far, part_due, go) = c.entries.invariant.tree first given in
+parse_entries-whole-requires-then-eq-2 g t c = 
+    let (children, so_far, even, go) = c.entries.invariant.tree in
     let here : c.entries.self.place.lexer.source ≡ c.args.self.now.place.lexer.source = source_reached (c.entries.invariant.led (c.args.levels + 1) [] (omega arith)) in
-    let (n, is, grown) = part_added (λ (s : List ℕ) cs ps. g.P.Builder.are_parts c.args.builder s kind_of_node.TupleSet cs ps) c.entries.parts c.parse_part.new.parts (first ∷ hs) (IsParsed c.args.levels c.entries.self.place c.parse_part.new.self.place) here (c.in_ok-parse_part.ensures.kept kind_of_node.TupleSet (first ∷ hs) part_due) so_far in
-    (c.args.self.now.place.lexer.source, first ∷ (hs ++ n ∷ []), grown)
+    let key = node c.entries.key (span_at c.entries.self.place) no_nodes in
+    let value_due = value_next children key even in
+    let (n, is, grown) = entry_added (λ (s : List ℕ) cs ps. g.P.Builder.are_parts c.args.builder s kind_of_node.TupleSet cs ps) c.args.levels c.args.self.now.place c.entries.self.place c.expect.new.self.place c.parse_part.new.self.place c.entries.key children c.entries.parts c.push_key.new.parts c.parse_part.new.parts here c.in_ok-expect.ensures.takes so_far
+    (c.in_ok-push_key.ensures.kept kind_of_node.TupleSet children even) (c.in_ok-parse_part.ensures.kept kind_of_node.TupleSet (children ++ key ∷ []) value_due) in
+    (c.args.self.now.place.lexer.source, (children ++ key ∷ []) ++ n ∷ [], grown)
+
+pub parse_entries-entries-preserved : goal.parse_entries-entries-preserved
+parse_entries-entries-preserved g t c = record {
+  asks =
+    asks_entries c.args.levels c.args.self.now c.entries.self c.advance-in-entries.new.self c.entries.invariant.led c.entries.invariant.asks (asks_token c.entries.self c.expect.new.self c.advance-in-entries.new.self Colon c.in_ok-expect.ensures.takes c.expect.ensures.asks (asks_value c.args.levels c.expect.new.self c.parse_part.new.self c.advance-in-entries.new.self c.in_ok-parse_part.ensures.led c.parse_part.ensures.asks (asks_token c.parse_part.new.self c.advance.new.self c.advance-in-entries.new.self c.in_ok-token.token c.in_ok-token.ensures.takes c.advance.ensures.asks (asks_once c.advance.new.self c.advance-in-entries.new.self c.advance-in-entries.ensures.asks))));
+  led = λ n s e.
+    let item = c.in_ok-parse_part.ensures.led n (due.entries ∷ s) (omega arith) in
+    let due_key = key_due (value_there (c.entries.invariant.led n s e) c.in_ok-expect.ensures.takes) item c.in_ok-token.ensures.takes (differs_not _ _ c.ne.ensures c.if-ne.false) in
+    then_same c.in_ok-next.next due_key c.in_ok-next.ensures.takes (key_reads c.in_ok-next.next s (text_at c.advance-in-entries.new.self.place) c.in-Some.ensures.0);
+  tree =
+    let (children, so_far, even, go) = c.entries.invariant.tree in
+    let here : c.entries.self.place.lexer.source ≡ c.args.self.now.place.lexer.source = source_reached (c.entries.invariant.led (c.args.levels + 1) [] (omega arith)) in
+    let key = node c.entries.key (span_at c.entries.self.place) no_nodes in
+    let value_due = value_next children key even in
+    let (n, is, grown) = entry_added (λ (s : List ℕ) cs ps. g.P.Builder.are_parts c.args.builder s kind_of_node.TupleSet cs ps) c.args.levels c.args.self.now.place c.entries.self.place c.expect.new.self.place c.parse_part.new.self.place c.entries.key children c.entries.parts c.push_key.new.parts c.parse_part.new.parts here c.in_ok-expect.ensures.takes so_far
+    (c.in_ok-push_key.ensures.kept kind_of_node.TupleSet children even) (c.in_ok-parse_part.ensures.kept kind_of_node.TupleSet (children ++ key ∷ []) value_due) in
+    (
+      (children ++ key ∷ []) ++ n ∷ [],
+      grown,
+      key_next (children ++ key ∷ []) n value_due,
+      keyed_next c.args.levels c.args.self.now.place c.entries.self.place c.expect.new.self.place c.parse_part.new.self.place c.advance-in-entries.new.self.place c.args.first c.entries.key children n go c.in_ok-expect.ensures.takes is c.advance.new.self.place c.in_ok-next.next c.in-Some.ty (class_as _ _ _ Comma c.in_ok-token.ensures.takes (differs_not _ _ c.ne.ensures c.if-ne.false)) c.in_ok-next.ensures.takes c.in-Some.ensures.0 c.in-Some.ensures.1,
+    );
+}
+
+pub parse_items-returns-then-next_is-clause-tree : goal.parse_items-returns-then-next_is-clause-tree
+parse_items-returns-then-next_is-clause-tree g t c = 
+    let stays = c.next_is.ensures.stays in
+    let source : c.expect.new.self.place.lexer.source ≡ c.args.self.now.place.lexer.source = source_item c.next_is.new.self.place c.expect.new.self.place c.args.close c.in_ok-expect.ensures.takes ∙ ap (λ (z : Place). z.lexer.source) stays in
+    none_built (g.P.Builder.is_made c.args.builder) c.args.self.now.place c.expect.new.self.place kind_of_node.List c.span-start.result.start c.whole_of_none.result (IsOfItems c.args.levels c.args.close c.args.self.now.place c.expect.new.self.place) source c.whole_of_none.ensures
+    (items_none c.args.levels c.args.close c.args.self.now.place c.next_is.new.self.place c.expect.new.self.place c.span-start.result.start [] _ refl refl c.requires (is_other _ _ c.eq.ensures c.if-eq.false) (ap (λ (z : Range ℕ). z.start) c.span-start.ensures) stays c.in_ok-expect.ensures.takes)

@@ -4,10 +4,10 @@ use Rattle.wave_grammar.specs.PrefixAutomaton.{Expectation, StackSymbol, first_i
 use Rattle.wave_grammar.specs.PrefixAutomaton as due
 use Rattle.wave_tree.specs.Private.TokenRoles.{form_of}
 use Rattle.wave_grammar.specs.NodeTree.{NodeTree}
-use Rattle.wave_grammar.specs.NodeParts.{TakesPart}
+use Rattle.wave_grammar.specs.NodeParts.{TakesKey}
 use Rattle.wave_grammar.specs.declared.form.NodeType.TheVariants as kind
 use Rattle.wave_tree.specs.ParsedNodes.{IsParsed}
-use Rattle.wave_tree.specs.Private.ParsedNodes.{AreFurther, AreClosedItems, ArePairs}
+use Rattle.wave_tree.specs.Private.ParsedNodes.{AreFurther, AreClosedItems, AreKeyedParts}
 use Rattle.wave_tree.proofs.ParserCorrectness.Steps.{Reached, IsItemDue, left_at}
 use Rattle.wave_tree.specs.Private.ParserState.{AsksFor}
 use Rattle.wave_tree.proofs.tokens.Tokens.+parser.Given as goal
@@ -26,9 +26,6 @@ decreases-parse_items g l = 5 * l.levels + 1
 
 abbrev pub decreases-parse_optional_payload : goal.decreases-parse_optional_payload
 decreases-parse_optional_payload g l = 5 * l.levels + 2
-
-abbrev pub decreases-parse_some : goal.decreases-parse_some
-decreases-parse_some g l = 5 * l.levels + 2
 
 abbrev pub invariant-parse_items-items : goal.invariant-parse_items-items
 invariant-parse_items-items g l = record {
@@ -52,9 +49,9 @@ decreases-parse_braces g l = 5 * l.levels + 2
 abbrev pub invariant-parse_entries-entries : goal.invariant-parse_entries-entries
 invariant-parse_entries-entries g l = record {
   asks : AsksFor l.fn.self l.self;
-  led : (n : ℕ) (s : List StackSymbol) → n ≡ l.levels + 1 + length s → Reached n due.value (due.entries ∷ s) l.fn.self.place due.value (due.entries ∷ s) l.self.place;
-  tree : (first : NodeTree) → g.P.Builder.are_parts l.builder l.fn.self.place.lexer.source kind.TupleSet (first ∷ []) l.fn.key
-      → (ys : List NodeTree) × g.P.Builder.are_parts l.builder l.fn.self.place.lexer.source kind.TupleSet (first ∷ ys) l.parts × TakesPart kind.TupleSet (first ∷ ys) × ((cs : List NodeTree) (r : Place) → ArePairs l.levels l.self.place cs r → ArePairs l.levels l.fn.self.place (ys ++ cs) r);
+  led : (n : ℕ) (s : List StackSymbol) → n ≡ l.levels + 1 + length s → Reached n due.behind_key s l.fn.self.place due.behind_key s l.self.place;
+  tree : (children : List NodeTree) × g.P.Builder.are_parts l.builder l.fn.self.place.lexer.source kind.TupleSet children l.parts × TakesKey kind.TupleSet children
+      × ((cs : List NodeTree) (r : Place) → AreKeyedParts l.levels l.key l.self.place cs r → AreKeyedParts l.levels l.fn.first l.fn.self.place (children ++ cs) r);
 }
 
 abbrev pub decreases-parse_entries-entries : goal.decreases-parse_entries-entries
