@@ -23,6 +23,7 @@ use std::alloc::Global;
 use std::collections::BTreeMap;
 use wave_grammar::builder::Builder;
 use wave_grammar::label::label_name;
+use wave_lex::found::Found;
 use wave_lex::lex::{Span, Token};
 use wave_read::error::ReadError;
 
@@ -70,7 +71,10 @@ impl<'source> Tokens<'source> {
         if levels == 0 {
             return self.refuse_depth();
         }
-        let token = self.advance()?;
+        let item = self.take();
+        let Found::Token(token) = item else {
+            return self.refuse_item(item);
+        };
         let front = value_start(token, self.slice());
         let part = builder.part(parts);
         if let ValueStart::Alone(ty) = front {
@@ -103,7 +107,12 @@ impl<'source> Tokens<'source> {
     {
         match front {
             ValueStart::Alone(ty) => Ok(self.leaf(alloc, builder, ty)),
-            ValueStart::Some => self.parse_payload(alloc, builder, levels - 1, NodeType::OptionSome),
+            ValueStart::Some => self.parse_payload(
+                alloc,
+                builder,
+                levels - 1,
+                NodeType::OptionSome,
+            ),
             ValueStart::Label(alone, with) => {
                 self.parse_optional_payload(alloc, builder, levels - 1, alone, with)
             }
@@ -221,7 +230,10 @@ impl<'source> Tokens<'source> {
         let mut parts = builder.parts(alloc, ty);
         'items: loop {
             self.parse_part(alloc, builder, &mut parts, levels)?;
-            let token = self.advance()?;
+            let item = self.take();
+            let Found::Token(token) = item else {
+                return self.refuse_item(item);
+            };
             if token == close {
                 return Ok(self.whole(alloc, builder, ty, start, parts));
             }
@@ -291,14 +303,20 @@ impl<'source> Tokens<'source> {
             self.push_key(alloc, builder, &mut parts, key)?;
             self.expect(Token::Colon)?;
             self.parse_part(alloc, builder, &mut parts, levels)?;
-            let token = self.advance()?;
+            let item = self.take();
+            let Found::Token(token) = item else {
+                return self.refuse_item(item);
+            };
             if token == Token::BraceClose {
                 return Ok(self.whole(alloc, builder, NodeType::TupleSet, start, parts));
             }
             if token != Token::Comma {
                 return self.refuse_token(token);
             }
-            let next = self.advance()?;
+            let item = self.take();
+            let Found::Token(next) = item else {
+                return self.refuse_item(item);
+            };
             if next == Token::BraceClose {
                 return Ok(self.whole(alloc, builder, NodeType::TupleSet, start, parts));
             }

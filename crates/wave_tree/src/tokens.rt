@@ -134,7 +134,7 @@ impl<'source> Tokens<'source> {
 
     /// Takes the next item.
     #[inline(always)]
-    fn take(&mut self) -> Found
+    pub(crate) fn take(&mut self) -> Found
         ensures takes { TakesItem self.old.place (item_of result self.new.place.lexer) self.new.place }
         ensures asks { asked_of self.new ≡ self.old.place.taken + 1 }
     {
@@ -199,7 +199,7 @@ impl<'source> Tokens<'source> {
 
     /// Refuses this item, which was taken last.
     #[inline(always)]
-    fn refuse_item<T>(&self, item: Found) -> Result<T, ReadError>
+    pub(crate) fn refuse_item<T>(&self, item: Found) -> Result<T, ReadError>
         ensures never { IfOk result (λ _. ⊥) }
         ensures refused { IfErr result (λ e. IsRefused e (item_of item self.now.place.lexer) self.now.place) }
     {

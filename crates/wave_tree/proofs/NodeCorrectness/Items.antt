@@ -129,7 +129,7 @@ module _ (n : ℕ) (p0 p b m q : Place) (ty0 ty : NodeType) (children : List Nod
   keyed_next w c next comma_there key_there is_key same cs r (behind, pairs, then_colon, are, cs_are) =
       let further = subst (λ z. AreFurtherPairs n m z r) (sym cs_are) (w, q, behind, comma_there, (c, key_there, is_key, ap (λ z. node z (span_at q) no_nodes) same), then_colon, are) in
       subst (λ z. AreKeyedParts n ty0 p0 z r) (sym (append_assoc (children ++ key_here ∷ []) (value ∷ []) cs ∙ append_assoc children (key_here ∷ []) (value ∷ cs)))
-          (go (key_here ∷ value ∷ cs) r (b, value ∷ cs, colon_there, (m, h, further), refl))
+      (go (key_here ∷ value ∷ cs) r (b, value ∷ cs, colon_there, (m, h, further), refl))
 
   -- the close after a value
   pub keyed_close : IsClosed BraceClose m q → AreKeyedParts n ty0 p0 ((children ++ key_here ∷ []) ++ value ∷ []) q

@@ -73,3 +73,8 @@ entry_added Are levels p0 p b m ty children old keyed new here colon_there are p
     let key = node ty (span_at p) no_nodes in
     let with_key = subst (λ (s : List ℕ). Are s (children ++ key ∷ []) keyed) here (push (subst (λ (s : List ℕ). Are s children old) (sym here) are)) in
     part_added Are keyed new (children ++ key ∷ []) (IsParsed levels b m) (source_item p b Colon colon_there ∙ here) add with_key
+
+-- what is never made has whatever is wanted
+pub never_made : {M E : Type 0} (Is : M → Type 0) (r : Result M E) → IfOk r (λ _. ⊥) → IfOk r Is
+never_made Is (Ok made) none = absurd none
+never_made Is (Err e) none = tt

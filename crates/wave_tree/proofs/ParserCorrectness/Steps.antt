@@ -7,7 +7,9 @@ use Rattle.wave_lex.specs.declared.lex.Token.TheVariants.{BraceClose, ParenOpen,
 use Rattle.wave_lex.specs.declared.error.ParserErrorKind.{ParserErrorKind}
 use Rattle.wave_lex.specs.declared.error.ParserErrorKind.TheVariants as kind
 use Rattle.wave_lex.specs.Errors.{Diagnostic, class_name, repeated_name, Says}
-use Rattle.wave_lex.specs.Tokenization.{NextIs, remainder_of, span}
+use Rattle.wave_lex.specs.declared.found.Found.{Found}
+use Rattle.wave_lex.specs.declared.found.Found.TheVariants as found
+use Rattle.wave_lex.specs.Tokenization.{NextIs, remainder_of, span, item_of as item_of_found}
 use Rattle.wave_lex.proofs.Tokenization.NextToken.{next_one, next_less}
 use Rattle.wave_grammar.specs.Token.{Token, paren_open}
 use Rattle.wave_grammar.specs.ParserPosition.{Place, TakesItem, TakesToken, TakesTokens, token_of, text_at, span_at}
@@ -15,6 +17,7 @@ use Rattle.wave_grammar.specs.PrefixAutomaton as due
 use Rattle.wave_grammar.specs.PrefixAutomaton.{Expectation, StackSymbol, value, first_item, next_item, behind_value, behind_label, reads, unexpected, empty_tuple, repeated_flag, too_deep, step, Shifts, IsValueDue, closes, is_paren, is_colon, is_brace_close, behind_step, value_step, key_step, brace_step, behind_flag_step, flag_step}
 use Rattle.wave_grammar.specs.SyntaxErrors.{IsTooDeep, StandsAt, IsSyntaxError, FailsBySyntax, IsBehind, LeadsBehindValue, Gives, IsWithin, IsUnfinished}
 use Rattle.wave_tree.specs.ParserState.{Fails}
+use Rattle.wave_tree.specs.Private.ParserState.{IsRefused}
 use Rattle.wave_tree.specs.Private.TokenRoles.{form_of, IsClose, IsKeyClass}
 use Rattle.wave_grammar.specs.LeafTokens.{name_of}
 use Rattle.wave_grammar.proofs.Automaton.Sound.{leads_join, if_false}
@@ -92,6 +95,12 @@ fails_stands n d s p q Wanted x shallow others (inr (inr (c, h, no_such, says)))
 pub fails : {n : ℕ} {d e : Expectation} {s v : List StackSymbol} {p q w : Place} (u : IsUnfinished e v) (Wanted : lex.Token → Type 0) (x : Diagnostic) → Reached n d s p e v q → (IsTooDeep n e v q → ⊥) →
     ((c : lex.Token) → TakesItem q (Some (Ok c)) w → (Wanted c → ⊥) → step n e v (token_of c (text_at w)) ≡ unexpected) → Fails Wanted x q w → FailsBySyntax x n d s p w
 fails {n} {d} {e} {s} {v} {p} {q} {w} u Wanted x h shallow others f = λ apart. refused_there u x h (fails_stands n e v q w Wanted x shallow others f)
+
+-- an item that is no token is none of those that are wanted
+pub item_fails : (Wanted : lex.Token → Type 0) (item : Found) (p q : Place) (x : Diagnostic) → ((k : lex.Token) → item ≡ found.Token k → ⊥) → TakesItem p (item_of_found item q.lexer) q → IsRefused x (item_of_found item q.lexer) q → Fails Wanted x p q
+item_fails Wanted (found.Token k) p q x none h says = absurd (none k refl)
+item_fails Wanted found.Invalid p q x none h says = inl (span q.lexer.start q.lexer.end, h, says)
+item_fails Wanted found.End p q x none h says = inr (inl (h, says))
 
 pub any_token : (n : ℕ) (d : Expectation) (s : List StackSymbol) (p q : Place) → (c : lex.Token) → TakesItem p (Some (Ok c)) q → (Unit {0} → ⊥) → step n d s (token_of c (text_at q)) ≡ unexpected
 any_token n d s p q c h no_such = absurd (no_such tt)

@@ -9,7 +9,7 @@ use Rattle.std.specs.declared.ops.Range.{Range}
 use Rattle.wave_lex.specs.Tokenization.{span}
 use Rattle.wave_tree.specs.Private.TokenRoles.{form_of, IsClose}
 use Rattle.wave_lex.specs.declared.error.ParserErrorKind.TheVariants as because
-use Rattle.wave_tree.proofs.ParserCorrectness.Steps.{gives_or_memory, no_level, refuses_there, kind_is, here, here_is, handed, gives_then, fails, any_token, shallow, value_read, level_open, read_there, unexpected_there, no_paren, then_token, token_there, behind_bare, reached, fails_behind, then_behind, payload_other, unexpected_behind, expected, untrue, moved, then_class, then_behind_class, range_path, close_first, close_empty, close_next, then_same, then_refuses, item_refuses, item_read, then_reached, Reached, IsItemDue, no_close, empty_there, key_reads, no_key, brace_key, entries_other, close_behind, comma_behind, other_behind, token_less, tokens_less, left_at, no_colon, no_brace, gives_alike, paren_alike, colon_alike}
+use Rattle.wave_tree.proofs.ParserCorrectness.Steps.{gives_or_memory, no_level, refuses_there, kind_is, here, here_is, handed, gives_then, fails, any_token, shallow, value_read, level_open, read_there, unexpected_there, no_paren, then_token, token_there, behind_bare, reached, fails_behind, then_behind, payload_other, unexpected_behind, expected, untrue, moved, then_class, then_behind_class, range_path, close_first, close_empty, close_next, then_same, then_refuses, item_refuses, item_read, then_reached, Reached, IsItemDue, no_close, empty_there, key_reads, no_key, brace_key, entries_other, close_behind, comma_behind, other_behind, token_less, tokens_less, left_at, no_colon, no_brace, gives_alike, paren_alike, colon_alike, item_fails}
 use Rattle.wave_tree.specs.declared.role.ValueStart.{ValueStart}
 use Rattle.wave_tree.specs.declared.role.ValueStart.TheVariants as front
 use Rattle.wave_tree.specs.Private.ParserState.{Stream, AsksFor, IsAlone, IsValueStart}
@@ -24,7 +24,7 @@ use Rattle.wave_tree.specs.Private.ParserState.{OnlyOutOfMemory}
 use Rattle.wave_tree.proofs.ParserCorrectness.AloneTokens.{alone_parsed, alone_led, label_behind, nothing_begins}
 use Rattle.wave_tree.proofs.ParserCorrectness.OutOfMemory.{wants_token, whatever_parts, wants_any, wants_refused, wants_reached, wants_less, answer_token, answer_brace, wants_other, wants_fails, wants_taken}
 use Rattle.wave_tree.proofs.ParserCorrectness.PartsDue.{key_next, value_next, payload_due, payload_parts}
-use Rattle.wave_tree.proofs.ParserCorrectness.BuiltNodes.{as_added, part_added, entry_added, built, whole_built, none_built, as_ok, source_item, source_parsed, source_reached}
+use Rattle.wave_tree.proofs.ParserCorrectness.BuiltNodes.{as_added, part_added, entry_added, built, whole_built, none_built, as_ok, never_made, source_item, source_parsed, source_reached}
 use Rattle.wave_grammar.specs.NodeParts.{IsOfParts, TakesPart}
 use Rattle.wave_tree.proofs.ParserCorrectness.ClassTests.{is_class, is_other, differs, differs_not}
 use Rattle.wave_tree.proofs.ParserCorrectness.LexerCalls.{asks_none, asks_once, asks_token, asks_looked, asks_read, asks_reached}
@@ -62,10 +62,6 @@ asks_items levels close old at new led first more =
 -- after the entries so far
 asks_entries : (levels : ℕ) (old at new : Stream) → ((n : ℕ) (s : List StackSymbol) → n ≡ levels + 1 + length s → Reached n due.behind_key s old.place due.behind_key s at.place) → AsksFor old at → AsksFor at new → AsksFor old new
 asks_entries levels old at new led first more = asks_reached (levels + 1) due.behind_key due.behind_key [] [] old at new (led (levels + 1) [] (omega arith)) first more
-
-pub parse_part-returns-in_err-token-clause-led : goal.parse_part-returns-in_err-token-clause-led
-parse_part-returns-in_err-token-clause-led g t c = λ n s e. handed s _ _ c.from_residual.ensures.1
-    (fails (inl tt) (λ _. Unit {0}) c.in_err-token.field-0.0 (here n due.value s _) (shallow n due.value s _ (omega arith)) (any_token n due.value s _ _) c.in_err-token.ensures.takes)
 
 pub parse_after_token-returns-in-Alone-clause-led : goal.parse_after_token-returns-in-Alone-clause-led
 parse_after_token-returns-in-Alone-clause-led g t c = λ first there n s e. alone_led n s first c.args.self.now.place c.args.token c.in-Alone.ty (omega arith) there (subst (IsValueStart c.args.token (text_at c.args.self.now.place)) c.in-Alone.is c.requires.front)
@@ -162,48 +158,42 @@ behind_item : {n : ℕ} {d e : Expectation} {s : List StackSymbol} {p q w : Plac
     Reached n d (form_of close ∷ s) p e (form_of close ∷ s) q → (h : LeadsBehindValue n due.value (form_of close ∷ s) q w (form_of close ∷ s)) → Reached n d (form_of close ∷ s) p h.due_there (form_of close ∷ s) w
 behind_item {e = e} {s = s} {q = q} close is_close none i r h = then_reached r (item_read e i (no_close close s q is_close none) h)
 
-pub parse_items-returns-in_err-token-clause-led : goal.parse_items-returns-in_err-token-clause-led
-parse_items-returns-in_err-token-clause-led g t c = λ n s e.
-    let (d, i, r) = c.items.invariant.reached n s e in
-    let item = c.in_ok-parse_part.ensures.led n (form_of c.args.close ∷ s) (omega arith) in
-    handed s _ _ c.from_residual-in_err-token.ensures.1 (fails_behind item.due_there (λ _. Unit {0}) c.in_err-token.field-0.0 (behind_item c.args.close c.requires c.items.invariant.no_close i r item) item.is_behind (λ k text apart. absurd (apart tt)) c.in_err-token.ensures.takes)
-
 pub parse_items-returns-then-eq-3-clause-led : goal.parse_items-returns-then-eq-3-clause-led
 parse_items-returns-then-eq-3-clause-led g t c = λ n s e.
     let (d, i, r) = c.items.invariant.reached n s e in
     let item = c.in_ok-parse_part.ensures.led n (form_of c.args.close ∷ s) (omega arith) in
     let behind = behind_item c.args.close c.requires c.items.invariant.no_close i r item in
-    let step_there = close_behind c.args.close s (text_at c.advance.new.self.place) c.requires in
-    read_there (then_behind item.due_there c.in_ok-token.token behind item.is_behind c.in_ok-token.ensures.takes
-    (subst (λ z. behind_step (form_of c.args.close ∷ s) (token_of z (text_at c.advance.new.self.place)) ≡ reads due.behind_value s) (sym (is_class c.in_ok-token.token c.args.close c.eq-in-items.ensures c.if-eq-3.true)) step_there)) (inl refl)
+    let step_there = close_behind c.args.close s (text_at c.take-item.new.self.place) c.requires in
+    read_there (then_behind item.due_there c.in-Token.token behind item.is_behind c.in-Token.ensures.takes
+    (subst (λ z. behind_step (form_of c.args.close ∷ s) (token_of z (text_at c.take-item.new.self.place)) ≡ reads due.behind_value s) (sym (is_class c.in-Token.token c.args.close c.eq-in-items.ensures c.if-eq-3.true)) step_there)) (inl refl)
 
 pub parse_items-returns-then-ne-clause-led : goal.parse_items-returns-then-ne-clause-led
 parse_items-returns-then-ne-clause-led g t c = λ n s e.
     let (d, i, r) = c.items.invariant.reached n s e in
     let item = c.in_ok-parse_part.ensures.led n (form_of c.args.close ∷ s) (omega arith) in
     let behind = behind_item c.args.close c.requires c.items.invariant.no_close i r item in
-    refuses_there s c.refuse_token.result c.refuse_token.ensures.never c.refuse_token.ensures.refused (λ x says. unexpected_behind item.due_there x c.in_ok-token.token behind item.is_behind c.in_ok-token.ensures.takes
-    (other_behind c.args.close c.in_ok-token.token s (text_at c.advance.new.self.place) c.requires (is_other _ _ c.eq-in-items.ensures c.if-eq-3.false) (differs _ _ c.ne.ensures c.if-ne.true))
+    refuses_there s c.refuse_token.result c.refuse_token.ensures.never c.refuse_token.ensures.refused (λ x says. unexpected_behind item.due_there x c.in-Token.token behind item.is_behind c.in-Token.ensures.takes
+    (other_behind c.args.close c.in-Token.token s (text_at c.take-item.new.self.place) c.requires (is_other _ _ c.eq-in-items.ensures c.if-eq-3.false) (differs _ _ c.ne.ensures c.if-ne.true))
     says)
 
 pub parse_items-returns-in_err-expect-2-clause-led : goal.parse_items-returns-in_err-expect-2-clause-led
 parse_items-returns-in_err-expect-2-clause-led g t c = λ n s e. handed s _ _ c.from_residual-in_err-expect-2.ensures.1
-    (expected c.advance.new.self.place c.next_is-in-items.new.self.place c.expect-then-next_is-2.new.self.place c.args.close c.in_err-expect-2.field-0.0 c.next_is-in-items.ensures.stays (c.if-next_is-2.ensures.answer.0 refl) c.in_err-expect-2.ensures.takes)
+    (expected c.take-item.new.self.place c.next_is-in-items.new.self.place c.expect-then-next_is-2.new.self.place c.args.close c.in_err-expect-2.field-0.0 c.next_is-in-items.ensures.stays (c.if-next_is-2.ensures.answer.0 refl) c.in_err-expect-2.ensures.takes)
 
 pub parse_items-returns-then-next_is-2-clause-led : goal.parse_items-returns-then-next_is-2-clause-led
 parse_items-returns-then-next_is-2-clause-led g t c = λ n s e.
     let (d, i, r) = c.items.invariant.reached n s e in
     let item = c.in_ok-parse_part.ensures.led n (form_of c.args.close ∷ s) (omega arith) in
     let behind = behind_item c.args.close c.requires c.items.invariant.no_close i r item in
-    let comma_step = subst (λ z. behind_step (form_of c.args.close ∷ s) (token_of z (text_at c.advance.new.self.place)) ≡ reads due.next_item (form_of c.args.close ∷ s)) (sym (differs_not c.in_ok-token.token Comma c.ne.ensures c.if-ne.false)) (comma_behind c.args.close s (text_at c.advance.new.self.place) c.requires) in
-    let next = then_behind item.due_there c.in_ok-token.token behind item.is_behind c.in_ok-token.ensures.takes comma_step in
+    let comma_step = subst (λ z. behind_step (form_of c.args.close ∷ s) (token_of z (text_at c.take-item.new.self.place)) ≡ reads due.next_item (form_of c.args.close ∷ s)) (sym (differs_not c.in-Token.token Comma c.ne.ensures c.if-ne.false)) (comma_behind c.args.close s (text_at c.take-item.new.self.place) c.requires) in
+    let next = then_behind item.due_there c.in-Token.token behind item.is_behind c.in-Token.ensures.takes comma_step in
     read_there (then_same c.args.close (moved c.next_is-in-items.ensures.stays next) c.in_ok-expect-2.ensures.takes (close_next n c.args.close s (text_at c.expect-then-next_is-2.new.self.place) c.requires)) (inl refl)
 
 pub parse_items-items-smaller : goal.parse_items-items-smaller
 parse_items-items-smaller g t c =
     let item = c.in_ok-parse_part.ensures.led (c.args.levels + 1 + 0) (form_of c.args.close ∷ []) (omega arith) in
     let one = tokens_less _ _ item.tokens item.taken in
-    let two = token_less _ _ c.in_ok-token.token c.in_ok-token.ensures.takes in
+    let two = token_less _ _ c.in-Token.token c.in-Token.ensures.takes in
     let three = ap left_at c.next_is-in-items.ensures.stays in
     omega arith
 
@@ -211,25 +201,21 @@ pub parse_items-returns-in_err-parse_part-clause-asks : goal.parse_items-returns
 parse_items-returns-in_err-parse_part-clause-asks g t c =
     asks_items c.args.levels c.args.close c.args.self.now c.items.self c.parse_part.new.self c.items.invariant.reached c.items.invariant.asks c.parse_part.ensures.asks
 
-pub parse_items-returns-in_err-token-clause-asks : goal.parse_items-returns-in_err-token-clause-asks
-parse_items-returns-in_err-token-clause-asks g t c =
-    asks_items c.args.levels c.args.close c.args.self.now c.items.self c.advance.new.self c.items.invariant.reached c.items.invariant.asks (asks_value c.args.levels c.items.self c.parse_part.new.self c.advance.new.self c.in_ok-parse_part.ensures.led c.parse_part.ensures.asks (asks_once c.parse_part.new.self c.advance.new.self c.advance.ensures.asks))
-
 pub parse_items-returns-then-eq-3-clause-asks : goal.parse_items-returns-then-eq-3-clause-asks
 parse_items-returns-then-eq-3-clause-asks g t c =
-    asks_items c.args.levels c.args.close c.args.self.now c.items.self c.advance.new.self c.items.invariant.reached c.items.invariant.asks (asks_value c.args.levels c.items.self c.parse_part.new.self c.advance.new.self c.in_ok-parse_part.ensures.led c.parse_part.ensures.asks (asks_once c.parse_part.new.self c.advance.new.self c.advance.ensures.asks))
+    asks_items c.args.levels c.args.close c.args.self.now c.items.self c.take-item.new.self c.items.invariant.reached c.items.invariant.asks (asks_value c.args.levels c.items.self c.parse_part.new.self c.take-item.new.self c.in_ok-parse_part.ensures.led c.parse_part.ensures.asks (asks_once c.parse_part.new.self c.take-item.new.self c.take-item.ensures.asks))
 
 pub parse_items-returns-then-ne-clause-asks : goal.parse_items-returns-then-ne-clause-asks
 parse_items-returns-then-ne-clause-asks g t c =
-    asks_items c.args.levels c.args.close c.args.self.now c.items.self c.advance.new.self c.items.invariant.reached c.items.invariant.asks (asks_value c.args.levels c.items.self c.parse_part.new.self c.advance.new.self c.in_ok-parse_part.ensures.led c.parse_part.ensures.asks (asks_once c.parse_part.new.self c.advance.new.self c.advance.ensures.asks))
+    asks_items c.args.levels c.args.close c.args.self.now c.items.self c.take-item.new.self c.items.invariant.reached c.items.invariant.asks (asks_value c.args.levels c.items.self c.parse_part.new.self c.take-item.new.self c.in_ok-parse_part.ensures.led c.parse_part.ensures.asks (asks_once c.parse_part.new.self c.take-item.new.self c.take-item.ensures.asks))
 
 pub parse_items-returns-in_err-expect-2-clause-asks : goal.parse_items-returns-in_err-expect-2-clause-asks
 parse_items-returns-in_err-expect-2-clause-asks g t c =
-    asks_items c.args.levels c.args.close c.args.self.now c.items.self c.expect-then-next_is-2.new.self c.items.invariant.reached c.items.invariant.asks (asks_value c.args.levels c.items.self c.parse_part.new.self c.expect-then-next_is-2.new.self c.in_ok-parse_part.ensures.led c.parse_part.ensures.asks (asks_token c.parse_part.new.self c.advance.new.self c.expect-then-next_is-2.new.self c.in_ok-token.token c.in_ok-token.ensures.takes c.advance.ensures.asks (asks_looked c.advance.new.self c.next_is-in-items.new.self c.expect-then-next_is-2.new.self c.next_is-in-items.ensures.stays c.next_is-in-items.ensures.asks (asks_once c.next_is-in-items.new.self c.expect-then-next_is-2.new.self c.expect-then-next_is-2.ensures.asks))))
+    asks_items c.args.levels c.args.close c.args.self.now c.items.self c.expect-then-next_is-2.new.self c.items.invariant.reached c.items.invariant.asks (asks_value c.args.levels c.items.self c.parse_part.new.self c.expect-then-next_is-2.new.self c.in_ok-parse_part.ensures.led c.parse_part.ensures.asks (asks_token c.parse_part.new.self c.take-item.new.self c.expect-then-next_is-2.new.self c.in-Token.token c.in-Token.ensures.takes c.take-item.ensures.asks (asks_looked c.take-item.new.self c.next_is-in-items.new.self c.expect-then-next_is-2.new.self c.next_is-in-items.ensures.stays c.next_is-in-items.ensures.asks (asks_once c.next_is-in-items.new.self c.expect-then-next_is-2.new.self c.expect-then-next_is-2.ensures.asks))))
 
 pub parse_items-returns-then-next_is-2-clause-asks : goal.parse_items-returns-then-next_is-2-clause-asks
 parse_items-returns-then-next_is-2-clause-asks g t c =
-    asks_items c.args.levels c.args.close c.args.self.now c.items.self c.expect-then-next_is-2.new.self c.items.invariant.reached c.items.invariant.asks (asks_value c.args.levels c.items.self c.parse_part.new.self c.expect-then-next_is-2.new.self c.in_ok-parse_part.ensures.led c.parse_part.ensures.asks (asks_token c.parse_part.new.self c.advance.new.self c.expect-then-next_is-2.new.self c.in_ok-token.token c.in_ok-token.ensures.takes c.advance.ensures.asks (asks_looked c.advance.new.self c.next_is-in-items.new.self c.expect-then-next_is-2.new.self c.next_is-in-items.ensures.stays c.next_is-in-items.ensures.asks (asks_once c.next_is-in-items.new.self c.expect-then-next_is-2.new.self c.expect-then-next_is-2.ensures.asks))))
+    asks_items c.args.levels c.args.close c.args.self.now c.items.self c.expect-then-next_is-2.new.self c.items.invariant.reached c.items.invariant.asks (asks_value c.args.levels c.items.self c.parse_part.new.self c.expect-then-next_is-2.new.self c.in_ok-parse_part.ensures.led c.parse_part.ensures.asks (asks_token c.parse_part.new.self c.take-item.new.self c.expect-then-next_is-2.new.self c.in-Token.token c.in-Token.ensures.takes c.take-item.ensures.asks (asks_looked c.take-item.new.self c.next_is-in-items.new.self c.expect-then-next_is-2.new.self c.next_is-in-items.ensures.stays c.next_is-in-items.ensures.asks (asks_once c.next_is-in-items.new.self c.expect-then-next_is-2.new.self c.expect-then-next_is-2.ensures.asks))))
 
 pub parse_items-returns-then-eq-3-clause-tree : goal.parse_items-returns-then-eq-3-clause-tree
 parse_items-returns-then-eq-3-clause-tree g t c =
@@ -242,12 +228,12 @@ parse_items-returns-then-eq-3-clause-tree g t c =
     ] in
     let (n, is, grown) = part_added (λ (s : List ℕ) cs ps. g.P.Builder.are_parts c.args.builder s c.if-eq-2.ty cs ps) c.items.parts c.parse_part.new.parts children (IsParsed c.args.levels c.items.self.place c.parse_part.new.self.place) here (c.in_ok-parse_part.ensures.kept c.if-eq-2.ty children part_due) first in
     let behind : c.parse_part.new.self.place.lexer.source ≡ c.args.self.now.place.lexer.source = source_parsed c.args.levels c.items.self.place c.parse_part.new.self.place n is ∙ here in
-    let token : c.advance.new.self.place.lexer.source ≡ c.args.self.now.place.lexer.source = source_item c.parse_part.new.self.place c.advance.new.self.place c.in_ok-token.token c.in_ok-token.ensures.takes ∙ behind in
-    whole_built (g.P.Builder.is_made c.args.builder) (λ (s : List ℕ) cs ps. g.P.Builder.are_parts c.args.builder s c.if-eq-2.ty cs ps) c.args.self.now.place c.advance.new.self.place c.if-eq-2.ty c.span-start.result.start c.whole.result c.parse_part.new.parts (children ++ n ∷ []) (IsOfItems c.args.levels c.args.close c.args.self.now.place c.advance.new.self.place) token grown c.whole.ensures
-    (items_made c.args.levels c.args.close c.args.self.now.place c.advance.new.self.place c.if-eq-2.ty c.span-start.result.start (children ++ n ∷ []) _ refl (elim c.if-eq-2.branch [
+    let token : c.take-item.new.self.place.lexer.source ≡ c.args.self.now.place.lexer.source = source_item c.parse_part.new.self.place c.take-item.new.self.place c.in-Token.token c.in-Token.ensures.takes ∙ behind in
+    whole_built (g.P.Builder.is_made c.args.builder) (λ (s : List ℕ) cs ps. g.P.Builder.are_parts c.args.builder s c.if-eq-2.ty cs ps) c.args.self.now.place c.take-item.new.self.place c.if-eq-2.ty c.span-start.result.start c.whole.result c.parse_part.new.parts (children ++ n ∷ []) (IsOfItems c.args.levels c.args.close c.args.self.now.place c.take-item.new.self.place) token grown c.whole.ensures
+    (items_made c.args.levels c.args.close c.args.self.now.place c.take-item.new.self.place c.if-eq-2.ty c.span-start.result.start (children ++ n ∷ []) _ refl (elim c.if-eq-2.branch [
       | parse_items-then-eq-2 w ↦ w.ty-is ∙ sym (ap items_type (is_class c.args.close ParenClose c.eq-2.ensures w.if-eq-2.true))
       | parse_items-else-eq-2 w ↦ w.ty-is ∙ sym (type_of_items c.args.close c.requires (is_other _ _ c.eq-2.ensures w.if-eq-2.false))
-    ]) (ap (λ (z : Range ℕ). z.start) c.span-start.ensures) (go n c.parse_part.new.self.place c.advance.new.self.place [] is (inl (class_as _ _ _ c.args.close c.in_ok-token.ensures.takes (is_class _ _ c.eq-in-items.ensures c.if-eq-3.true)))) (λ k. some_there children _ n refl))
+    ]) (ap (λ (z : Range ℕ). z.start) c.span-start.ensures) (go n c.parse_part.new.self.place c.take-item.new.self.place [] is (inl (class_as _ _ _ c.args.close c.in-Token.ensures.takes (is_class _ _ c.eq-in-items.ensures c.if-eq-3.true)))) (λ k. some_there children _ n refl))
 
 pub parse_items-returns-then-next_is-2-clause-tree : goal.parse_items-returns-then-next_is-2-clause-tree
 parse_items-returns-then-next_is-2-clause-tree g t c =
@@ -260,7 +246,7 @@ parse_items-returns-then-next_is-2-clause-tree g t c =
     ] in
     let (n, is, grown) = part_added (λ (s : List ℕ) cs ps. g.P.Builder.are_parts c.args.builder s c.if-eq-2.ty cs ps) c.items.parts c.parse_part.new.parts children (IsParsed c.args.levels c.items.self.place c.parse_part.new.self.place) here (c.in_ok-parse_part.ensures.kept c.if-eq-2.ty children part_due) first in
     let behind : c.parse_part.new.self.place.lexer.source ≡ c.args.self.now.place.lexer.source = source_parsed c.args.levels c.items.self.place c.parse_part.new.self.place n is ∙ here in
-    let token : c.advance.new.self.place.lexer.source ≡ c.args.self.now.place.lexer.source = source_item c.parse_part.new.self.place c.advance.new.self.place c.in_ok-token.token c.in_ok-token.ensures.takes ∙ behind in
+    let token : c.take-item.new.self.place.lexer.source ≡ c.args.self.now.place.lexer.source = source_item c.parse_part.new.self.place c.take-item.new.self.place c.in-Token.token c.in-Token.ensures.takes ∙ behind in
     let stays = c.next_is-in-items.ensures.stays in
     let close : c.expect-then-next_is-2.new.self.place.lexer.source ≡ c.args.self.now.place.lexer.source = source_item c.next_is-in-items.new.self.place c.expect-then-next_is-2.new.self.place c.args.close c.in_ok-expect-2.ensures.takes ∙ (ap (λ (z : Place). z.lexer.source) stays ∙ token) in
     whole_built (g.P.Builder.is_made c.args.builder) (λ (s : List ℕ) cs ps. g.P.Builder.are_parts c.args.builder s c.if-eq-2.ty cs ps) c.args.self.now.place c.expect-then-next_is-2.new.self.place c.if-eq-2.ty c.span-start.result.start c.whole-then-next_is-2.result c.parse_part.new.parts (children ++ n ∷ []) (IsOfItems c.args.levels c.args.close c.args.self.now.place c.expect-then-next_is-2.new.self.place) close grown c.whole-then-next_is-2.ensures
@@ -268,22 +254,22 @@ parse_items-returns-then-next_is-2-clause-tree g t c =
       | parse_items-then-eq-2 w ↦ w.ty-is ∙ sym (ap items_type (is_class c.args.close ParenClose c.eq-2.ensures w.if-eq-2.true))
       | parse_items-else-eq-2 w ↦ w.ty-is ∙ sym (type_of_items c.args.close c.requires (is_other _ _ c.eq-2.ensures w.if-eq-2.false))
     ]) (ap (λ (z : Range ℕ). z.start) c.span-start.ensures) (go n c.parse_part.new.self.place c.expect-then-next_is-2.new.self.place [] is (inr (
-      c.advance.new.self.place,
-      class_as _ _ _ Comma c.in_ok-token.ensures.takes (differs_not _ _ c.ne.ensures c.if-ne.false),
+      c.take-item.new.self.place,
+      class_as _ _ _ Comma c.in-Token.ensures.takes (differs_not _ _ c.ne.ensures c.if-ne.false),
       subst (λ z. TakesClass c.args.close z c.expect-then-next_is-2.new.self.place) stays c.in_ok-expect-2.ensures.takes,
     ))) (λ k. some_there children _ n refl))
 
 pub parse_items-items-preserved : goal.parse_items-items-preserved
 parse_items-items-preserved g t c = record {
   asks =
-      asks_items c.args.levels c.args.close c.args.self.now c.items.self c.next_is-in-items.new.self c.items.invariant.reached c.items.invariant.asks (asks_value c.args.levels c.items.self c.parse_part.new.self c.next_is-in-items.new.self c.in_ok-parse_part.ensures.led c.parse_part.ensures.asks (asks_token c.parse_part.new.self c.advance.new.self c.next_is-in-items.new.self c.in_ok-token.token c.in_ok-token.ensures.takes c.advance.ensures.asks (asks_once c.advance.new.self c.next_is-in-items.new.self c.next_is-in-items.ensures.asks)));
+      asks_items c.args.levels c.args.close c.args.self.now c.items.self c.next_is-in-items.new.self c.items.invariant.reached c.items.invariant.asks (asks_value c.args.levels c.items.self c.parse_part.new.self c.next_is-in-items.new.self c.in_ok-parse_part.ensures.led c.parse_part.ensures.asks (asks_token c.parse_part.new.self c.take-item.new.self c.next_is-in-items.new.self c.in-Token.token c.in-Token.ensures.takes c.take-item.ensures.asks (asks_once c.take-item.new.self c.next_is-in-items.new.self c.next_is-in-items.ensures.asks)));
   no_close = subst (λ z. (next : Place) × TakesItem z (Some (Ok c.args.close)) next → ⊥) (sym c.next_is-in-items.ensures.stays) (λ next. untrue _ c.if-next_is-2.false (c.next_is-in-items.ensures.answer.1 next));
   reached = λ n s e.
       let (d, i, r) = c.items.invariant.reached n s e in
       let item = c.in_ok-parse_part.ensures.led n (form_of c.args.close ∷ s) (omega arith) in
       let behind = behind_item c.args.close c.requires c.items.invariant.no_close i r item in
-      let comma_step = subst (λ z. behind_step (form_of c.args.close ∷ s) (token_of z (text_at c.advance.new.self.place)) ≡ reads due.next_item (form_of c.args.close ∷ s)) (sym (differs_not c.in_ok-token.token Comma c.ne.ensures c.if-ne.false)) (comma_behind c.args.close s (text_at c.advance.new.self.place) c.requires) in
-      let next = then_behind item.due_there c.in_ok-token.token behind item.is_behind c.in_ok-token.ensures.takes comma_step in
+      let comma_step = subst (λ z. behind_step (form_of c.args.close ∷ s) (token_of z (text_at c.take-item.new.self.place)) ≡ reads due.next_item (form_of c.args.close ∷ s)) (sym (differs_not c.in-Token.token Comma c.ne.ensures c.if-ne.false)) (comma_behind c.args.close s (text_at c.take-item.new.self.place) c.requires) in
+      let next = then_behind item.due_there c.in-Token.token behind item.is_behind c.in-Token.ensures.takes comma_step in
       (due.next_item, inr refl, moved c.next_is-in-items.ensures.stays next);
   tree =
       let (children, first, go) = c.items.invariant.tree in
@@ -295,8 +281,8 @@ parse_items-items-preserved g t c = record {
       ] in
       let (n, is, grown) = part_added (λ (s : List ℕ) cs ps. g.P.Builder.are_parts c.args.builder s c.if-eq-2.ty cs ps) c.items.parts c.parse_part.new.parts children (IsParsed c.args.levels c.items.self.place c.parse_part.new.self.place) here (c.in_ok-parse_part.ensures.kept c.if-eq-2.ty children part_due) first in
       let behind : c.parse_part.new.self.place.lexer.source ≡ c.args.self.now.place.lexer.source = source_parsed c.args.levels c.items.self.place c.parse_part.new.self.place n is ∙ here in
-      let token : c.advance.new.self.place.lexer.source ≡ c.args.self.now.place.lexer.source = source_item c.parse_part.new.self.place c.advance.new.self.place c.in_ok-token.token c.in_ok-token.ensures.takes ∙ behind in
-      (children ++ n ∷ [], grown, items_next c.args.levels c.args.close c.args.self.now.place c.items.self.place c.parse_part.new.self.place c.advance.new.self.place c.next_is-in-items.new.self.place children (children ++ n ∷ []) n go is (class_as _ _ _ Comma c.in_ok-token.ensures.takes (differs_not _ _ c.ne.ensures c.if-ne.false)) c.next_is-in-items.ensures.stays refl);
+      let token : c.take-item.new.self.place.lexer.source ≡ c.args.self.now.place.lexer.source = source_item c.parse_part.new.self.place c.take-item.new.self.place c.in-Token.token c.in-Token.ensures.takes ∙ behind in
+      (children ++ n ∷ [], grown, items_next c.args.levels c.args.close c.args.self.now.place c.items.self.place c.parse_part.new.self.place c.take-item.new.self.place c.next_is-in-items.new.self.place children (children ++ n ∷ []) n go is (class_as _ _ _ Comma c.in-Token.ensures.takes (differs_not _ _ c.ne.ensures c.if-ne.false)) c.next_is-in-items.ensures.stays refl);
 }
 
 pub parse_part-returns-then-levels-eq0-clause-led : goal.parse_part-returns-then-levels-eq0-clause-led
@@ -308,19 +294,11 @@ parse_part-returns-then-levels-eq0-clause-memory g t c = whatever_parts (λ (sou
     (wants_refused (g.P.Builder.takes_memory c.args.builder) c.args.self.now.place c.refuse_depth.result c.refuse_depth.ensures.refused
     (λ x says. wants_other (g.P.Builder.takes_memory c.args.builder) c.args.self.now.place x because.NestingTooDeep (kind_is says) (λ z. cc)))
 
-pub parse_part-returns-in_err-token-clause-memory : goal.parse_part-returns-in_err-token-clause-memory
-parse_part-returns-in_err-token-clause-memory g t c = error_handed (λ e. (source : List ℕ) (of : NodeType) (children : List NodeTree) → g.P.Builder.are_parts c.args.builder source of children c.args.parts.now → OnlyOutOfMemory (g.P.Builder.takes_memory c.args.builder) c.args.self.now.place e) c.from_residual.result c.in_err-token.field-0.0 c.from_residual.ensures.1
-    (λ source of children are. wants_fails (g.P.Builder.takes_memory c.args.builder) c.args.self.now.place c.args.self.now.place c.advance.new.self.place (λ _. Unit {0}) c.in_err-token.field-0.0 c.in_err-token.ensures.takes)
-
-pub parse_part-returns-in-Alone-clause-led : goal.parse_part-returns-in-Alone-clause-led
-parse_part-returns-in-Alone-clause-led g t c = λ n s e. gives_or_memory c.push_part.result c.push_part.ensures.memory
-    (alone_led n s c.args.self.now.place c.advance.new.self.place c.in_ok-token.token c.in-Alone.ty (omega arith) c.in_ok-token.ensures.takes (front_alone c.in_ok-token.token (text_at c.advance.new.self.place) c.slice.result.now c.value_start-front.result c.in-Alone.ty c.slice.ensures c.value_start-front.ensures c.in-Alone.is))
-
 pub parse_part-returns-in_err-made-clause-led : goal.parse_part-returns-in_err-made-clause-led
-parse_part-returns-in_err-made-clause-led g t c = λ n s e. handed s _ _ c.from_residual-in_err-made.ensures.1 (c.in_err-made.ensures.led c.args.self.now.place c.in_ok-token.ensures.takes n s e)
+parse_part-returns-in_err-made-clause-led g t c = λ n s e. handed s _ _ c.from_residual.ensures.1 (c.in_err-made.ensures.led c.args.self.now.place c.in-Token.ensures.takes n s e)
 
 pub parse_part-returns-clause-led : goal.parse_part-returns-clause-led
-parse_part-returns-clause-led g t c = λ n s e. gives_or_memory c.push_part-2.result c.push_part-2.ensures.memory (c.in_ok-made.ensures.led c.args.self.now.place c.in_ok-token.ensures.takes n s e)
+parse_part-returns-clause-led g t c = λ n s e. gives_or_memory c.push_part-2.result c.push_part-2.ensures.memory (c.in_ok-made.ensures.led c.args.self.now.place c.in-Token.ensures.takes n s e)
 
 pub parse_items-returns-in_err-expect-clause-memory : goal.parse_items-returns-in_err-expect-clause-memory
 parse_items-returns-in_err-expect-clause-memory g t c = error_handed (OnlyOutOfMemory (g.P.Builder.takes_memory c.args.builder) c.args.self.now.place) c.from_residual.result c.in_err-expect.field-0.0 c.from_residual.ensures.1 (wants_fails (g.P.Builder.takes_memory c.args.builder) c.args.self.now.place c.next_is.new.self.place c.expect.new.self.place (λ k. k ≡ c.args.close) c.in_err-expect.field-0.0 c.in_err-expect.ensures.takes)
@@ -334,9 +312,6 @@ parse_items-returns-in_err-parse_part-clause-memory g t c = error_handed (OnlyOu
     let (children, first, go) = c.items.invariant.tree in
     wants_reached (g.P.Builder.takes_memory c.args.builder) c.in_err-parse_part.field-0.0 r (c.in_err-parse_part.ensures.memory c.args.self.now.place.lexer.source c.if-eq-2.ty children first))
 
-pub parse_items-returns-in_err-token-clause-memory : goal.parse_items-returns-in_err-token-clause-memory
-parse_items-returns-in_err-token-clause-memory g t c = error_handed (OnlyOutOfMemory (g.P.Builder.takes_memory c.args.builder) c.args.self.now.place) c.from_residual-in_err-token.result c.in_err-token.field-0.0 c.from_residual-in_err-token.ensures.1 (wants_fails (g.P.Builder.takes_memory c.args.builder) c.args.self.now.place c.parse_part.new.self.place c.advance.new.self.place (λ _. Unit {0}) c.in_err-token.field-0.0 c.in_err-token.ensures.takes)
-
 pub parse_items-returns-then-ne-clause-memory : goal.parse_items-returns-then-ne-clause-memory
 parse_items-returns-then-ne-clause-memory g t c = wants_refused (g.P.Builder.takes_memory c.args.builder) c.args.self.now.place c.refuse_token.result c.refuse_token.ensures.refused (λ x says. wants_other (g.P.Builder.takes_memory c.args.builder) c.args.self.now.place x because.UnexpectedToken (kind_is says) (λ z. cc))
 
@@ -345,40 +320,40 @@ parse_items-returns-in_err-expect-2-clause-memory g t c = error_handed (OnlyOutO
 
 pub parse_part-returns-in-Alone-clause-kept : goal.parse_part-returns-in-Alone-clause-kept
 parse_part-returns-in-Alone-clause-kept g t c =
-    let n = node c.in-Alone.ty (span_at c.advance.new.self.place) no_nodes in
-    let alone : IsAlone c.in_ok-token.token (text_at c.advance.new.self.place) c.in-Alone.ty = front_alone c.in_ok-token.token (text_at c.advance.new.self.place) c.slice.result.now c.value_start-front.result c.in-Alone.ty c.slice.ensures c.value_start-front.ensures c.in-Alone.is in
-    let source : c.advance.new.self.place.lexer.source ≡ c.args.self.now.place.lexer.source = source_item c.args.self.now.place c.advance.new.self.place c.in_ok-token.token c.in_ok-token.ensures.takes in
-    let of = subst (λ z. g.P.Builder.is_made z c.advance.new.self.place.lexer.source n c.leaf_here-made.result) c.part-part.ensures c.leaf_here-made.ensures in
+    let n = node c.in-Alone.ty (span_at c.take-item.new.self.place) no_nodes in
+    let alone : IsAlone c.in-Token.token (text_at c.take-item.new.self.place) c.in-Alone.ty = front_alone c.in-Token.token (text_at c.take-item.new.self.place) c.slice.result.now c.value_start-front.result c.in-Alone.ty c.slice.ensures c.value_start-front.ensures c.in-Alone.is in
+    let source : c.take-item.new.self.place.lexer.source ≡ c.args.self.now.place.lexer.source = source_item c.args.self.now.place c.take-item.new.self.place c.in-Token.token c.in-Token.ensures.takes in
+    let of = subst (λ z. g.P.Builder.is_made z c.take-item.new.self.place.lexer.source n c.leaf_here-made.result) c.part-part.ensures c.leaf_here-made.ensures in
     as_added c.push_part.result c.push_part.ensures.kept (λ kept whole children due are.
-    (n, alone_parsed c.args.levels c.args.self.now.place c.advance.new.self.place c.in_ok-token.token c.in-Alone.ty (omega arith) c.in_ok-token.ensures.takes alone, kept c.args.self.now.place.lexer.source whole children n due are (subst (λ (s : List ℕ). g.P.Builder.is_made (g.P.Builder.next c.args.builder c.args.parts.now) s n c.leaf_here-made.result) source of)))
+    (n, alone_parsed c.args.levels c.args.self.now.place c.take-item.new.self.place c.in-Token.token c.in-Alone.ty (omega arith) c.in-Token.ensures.takes alone, kept c.args.self.now.place.lexer.source whole children n due are (subst (λ (s : List ℕ). g.P.Builder.is_made (g.P.Builder.next c.args.builder c.args.parts.now) s n c.leaf_here-made.result) source of)))
 
 pub parse_part-returns-in-Alone-clause-memory : goal.parse_part-returns-in-Alone-clause-memory
 parse_part-returns-in-Alone-clause-memory g t c = wants_any (λ (source : List ℕ) (of : NodeType) (children : List NodeTree). g.P.Builder.are_parts c.args.builder source of children c.args.parts.now) (g.P.Builder.takes_memory c.args.builder) (OnlyOutOfMemory (g.P.Builder.takes_memory c.args.builder) c.args.self.now.place) c.push_part.result c.push_part.ensures.takes (λ e takes. wants_taken (g.P.Builder.takes_memory c.args.builder) c.args.self.now.place e takes)
 
 pub parse_part-returns-in-Alone-clause-asks : goal.parse_part-returns-in-Alone-clause-asks
-parse_part-returns-in-Alone-clause-asks g t c = asks_once c.args.self.now c.advance.new.self c.advance.ensures.asks
+parse_part-returns-in-Alone-clause-asks g t c = asks_once c.args.self.now c.take-item.new.self c.take-item.ensures.asks
 
 pub parse_part-returns-in_err-made-clause-memory : goal.parse_part-returns-in_err-made-clause-memory
-parse_part-returns-in_err-made-clause-memory g t c = error_handed (λ e. (source : List ℕ) (of : NodeType) (children : List NodeTree) → g.P.Builder.are_parts c.args.builder source of children c.args.parts.now → OnlyOutOfMemory (g.P.Builder.takes_memory c.args.builder) c.args.self.now.place e) c.from_residual-in_err-made.result c.in_err-made.field-0.0 c.from_residual-in_err-made.ensures.1
+parse_part-returns-in_err-made-clause-memory g t c = error_handed (λ e. (source : List ℕ) (of : NodeType) (children : List NodeTree) → g.P.Builder.are_parts c.args.builder source of children c.args.parts.now → OnlyOutOfMemory (g.P.Builder.takes_memory c.args.builder) c.args.self.now.place e) c.from_residual.result c.in_err-made.field-0.0 c.from_residual.ensures.1
     (λ source of children are. wants_less (g.P.Builder.takes_memory c.part-part.result) (g.P.Builder.takes_memory c.args.builder) c.args.self.now.place c.in_err-made.field-0.0
-    (λ takes. g.met.P.Builder.next_takes c.args.builder source of children c.args.parts.now are (subst (λ z. g.P.Builder.takes_memory z) c.part-part.ensures takes)) (c.in_err-made.ensures.memory c.args.self.now.place c.in_ok-token.ensures.takes))
+    (λ takes. g.met.P.Builder.next_takes c.args.builder source of children c.args.parts.now are (subst (λ z. g.P.Builder.takes_memory z) c.part-part.ensures takes)) (c.in_err-made.ensures.memory c.args.self.now.place c.in-Token.ensures.takes))
 
 pub parse_part-returns-in_err-made-clause-asks : goal.parse_part-returns-in_err-made-clause-asks
-parse_part-returns-in_err-made-clause-asks g t c = asks_token c.args.self.now c.advance.new.self c.parse_after_token.new.self c.in_ok-token.token c.in_ok-token.ensures.takes c.advance.ensures.asks c.parse_after_token.ensures.asks
+parse_part-returns-in_err-made-clause-asks g t c = asks_token c.args.self.now c.take-item.new.self c.parse_after_token.new.self c.in-Token.token c.in-Token.ensures.takes c.take-item.ensures.asks c.parse_after_token.ensures.asks
 
 pub parse_part-returns-clause-kept : goal.parse_part-returns-clause-kept
 parse_part-returns-clause-kept g t c =
     let (n, is, of) = c.in_ok-made.ensures.tree in
-    let source : c.advance.new.self.place.lexer.source ≡ c.args.self.now.place.lexer.source = source_item c.args.self.now.place c.advance.new.self.place c.in_ok-token.token c.in_ok-token.ensures.takes in
-    let made = subst (λ z. g.P.Builder.is_made z c.advance.new.self.place.lexer.source n c.in_ok-made.made) c.part-part.ensures of in
+    let source : c.take-item.new.self.place.lexer.source ≡ c.args.self.now.place.lexer.source = source_item c.args.self.now.place c.take-item.new.self.place c.in-Token.token c.in-Token.ensures.takes in
+    let made = subst (λ z. g.P.Builder.is_made z c.take-item.new.self.place.lexer.source n c.in_ok-made.made) c.part-part.ensures of in
     as_added c.push_part-2.result c.push_part-2.ensures.kept (λ kept whole children due are.
-    (n, is c.args.self.now.place c.in_ok-token.ensures.takes, (kept c.args.self.now.place.lexer.source whole children n due are (subst (λ (s : List ℕ). g.P.Builder.is_made (g.P.Builder.next c.args.builder c.args.parts.now) s n c.in_ok-made.made) source made))))
+    (n, is c.args.self.now.place c.in-Token.ensures.takes, (kept c.args.self.now.place.lexer.source whole children n due are (subst (λ (s : List ℕ). g.P.Builder.is_made (g.P.Builder.next c.args.builder c.args.parts.now) s n c.in_ok-made.made) source made))))
 
 pub parse_part-returns-clause-memory : goal.parse_part-returns-clause-memory
 parse_part-returns-clause-memory g t c = wants_any (λ (source : List ℕ) (of : NodeType) (children : List NodeTree). g.P.Builder.are_parts c.args.builder source of children c.args.parts.now) (g.P.Builder.takes_memory c.args.builder) (OnlyOutOfMemory (g.P.Builder.takes_memory c.args.builder) c.args.self.now.place) c.push_part-2.result c.push_part-2.ensures.takes (λ e takes. wants_taken (g.P.Builder.takes_memory c.args.builder) c.args.self.now.place e takes)
 
 pub parse_part-returns-clause-asks : goal.parse_part-returns-clause-asks
-parse_part-returns-clause-asks g t c = asks_token c.args.self.now c.advance.new.self c.parse_after_token.new.self c.in_ok-token.token c.in_ok-token.ensures.takes c.advance.ensures.asks c.parse_after_token.ensures.asks
+parse_part-returns-clause-asks g t c = asks_token c.args.self.now c.take-item.new.self c.parse_after_token.new.self c.in-Token.token c.in-Token.ensures.takes c.take-item.ensures.asks c.parse_after_token.ensures.asks
 
 -- ---- parts that a value is made of are those of its node's children
 
@@ -412,7 +387,7 @@ parse_after_token-returns-in-Some-clause-led g t c = λ first there n s e.
     gives_then s _ c.parse_payload.result (value_read n due.paren s s _ _ _ LabelOrKeyword (omega arith) there front.0 (ap (λ w. reads (due_behind w) s) front.1)) (c.parse_payload.ensures.led n s (omega arith))
 
 pub parse_after_token-returns-in-Some-clause-tree : goal.parse_after_token-returns-in-Some-clause-tree
-parse_after_token-returns-in-Some-clause-tree g t c = 
+parse_after_token-returns-in-Some-clause-tree g t c =
     let front = subst (IsValueStart c.args.token (text_at c.args.self.now.place)) c.in-Some.is c.requires.front in
     built (g.P.Builder.is_made c.args.builder) c.args.self.now.place c.args.self.now.place (IsInParens (c.args.levels - 1) kind_of_node.OptionSome c.args.self.now.place c.parse_payload.new.self.place) (IsParsedBehind c.args.token c.args.levels c.args.self.now.place c.parse_payload.new.self.place) c.parse_payload.result refl
     (λ n is first there. label_tied c.args.levels first c.args.self.now.place c.parse_payload.new.self.place c.args.token (as_ok n) c.requires.levels there front.0 (some_tied (c.args.levels - 1) c.args.self.now.place c.parse_payload.new.self.place n front.1 is)) c.parse_payload.ensures.tree
@@ -426,7 +401,7 @@ parse_after_token-returns-in-Label-clause-led g t c = λ first there n s e.
     gives_then s _ c.parse_optional_payload.result (value_read n due.behind_label s s _ _ _ LabelOrKeyword (omega arith) there front.0 (ap (λ z. reads z s) (label_behind c.in-Label.alone c.in-Label.with _ front.1))) (c.parse_optional_payload.ensures.led n s (omega arith))
 
 pub parse_after_token-returns-in-Label-clause-tree : goal.parse_after_token-returns-in-Label-clause-tree
-parse_after_token-returns-in-Label-clause-tree g t c = 
+parse_after_token-returns-in-Label-clause-tree g t c =
     let front = subst (IsValueStart c.args.token (text_at c.args.self.now.place)) c.in-Label.is c.requires.front in
     built (g.P.Builder.is_made c.args.builder) c.args.self.now.place c.args.self.now.place (IsMaybe (c.args.levels - 1) c.in-Label.alone c.in-Label.with c.args.self.now.place c.parse_optional_payload.new.self.place) (IsParsedBehind c.args.token c.args.levels c.args.self.now.place c.parse_optional_payload.new.self.place) c.parse_optional_payload.result refl
     (λ n is first there. label_tied c.args.levels first c.args.self.now.place c.parse_optional_payload.new.self.place c.args.token (as_ok n) c.requires.levels there front.0 (word_tied c.in-Label.alone c.in-Label.with (c.args.levels - 1) c.args.self.now.place c.parse_optional_payload.new.self.place n front.1 is)) c.parse_optional_payload.ensures.tree
@@ -449,7 +424,7 @@ parse_optional_payload-returns-then-not-next_is-clause-tree g t c =
     (node c.args.alone (span_at c.args.self.now.place) no_nodes, inl (stays, refl), subst (λ (z : Place). g.P.Builder.is_made c.args.builder z.lexer.source (node c.args.alone (span_at z) no_nodes) c.leaf.result) stays c.leaf.ensures)
 
 pub parse_optional_payload-returns-clause-tree : goal.parse_optional_payload-returns-clause-tree
-parse_optional_payload-returns-clause-tree g t c = 
+parse_optional_payload-returns-clause-tree g t c =
     let stays = c.next_is.ensures.stays in
     built (g.P.Builder.is_made c.args.builder) c.args.self.now.place c.next_is.new.self.place (IsInParens c.args.levels c.args.with c.next_is.new.self.place c.parse_payload.new.self.place) (IsMaybe c.args.levels c.args.alone c.args.with c.args.self.now.place c.parse_payload.new.self.place) c.parse_payload.result (ap (λ (z : Place). z.lexer.source) stays)
     (λ n is. inr (subst (λ z. IsInParens c.args.levels c.args.with z c.parse_payload.new.self.place n) stays is)) c.parse_payload.ensures.tree
@@ -479,36 +454,35 @@ pub parse_payload-returns-in_err-parse_part-clause-asks : goal.parse_payload-ret
 parse_payload-returns-in_err-parse_part-clause-asks g t c = asks_token c.args.self.now c.expect.new.self c.parse_part.new.self ParenOpen c.in_ok-expect.ensures.takes c.expect.ensures.asks c.parse_part.ensures.asks
 
 pub parse_payload-returns-in_err-expect-2-clause-asks : goal.parse_payload-returns-in_err-expect-2-clause-asks
-parse_payload-returns-in_err-expect-2-clause-asks g t c = 
+parse_payload-returns-in_err-expect-2-clause-asks g t c =
     asks_token c.args.self.now c.expect.new.self c.expect-2.new.self ParenOpen c.in_ok-expect.ensures.takes c.expect.ensures.asks (asks_value c.args.levels c.expect.new.self c.parse_part.new.self c.expect-2.new.self c.in_ok-parse_part.ensures.led c.parse_part.ensures.asks (asks_once c.parse_part.new.self c.expect-2.new.self c.expect-2.ensures.asks))
 
 pub parse_payload-returns-clause-asks : goal.parse_payload-returns-clause-asks
-parse_payload-returns-clause-asks g t c = 
+parse_payload-returns-clause-asks g t c =
     asks_token c.args.self.now c.expect.new.self c.expect-2.new.self ParenOpen c.in_ok-expect.ensures.takes c.expect.ensures.asks (asks_value c.args.levels c.expect.new.self c.parse_part.new.self c.expect-2.new.self c.in_ok-parse_part.ensures.led c.parse_part.ensures.asks (asks_once c.parse_part.new.self c.expect-2.new.self c.expect-2.ensures.asks))
 
 pub parse_payload-returns-in_err-parse_part-clause-memory : goal.parse_payload-returns-in_err-parse_part-clause-memory
-parse_payload-returns-in_err-parse_part-clause-memory g t c = 
+parse_payload-returns-in_err-parse_part-clause-memory g t c =
     let label = label_children c.args.ty (span_at c.args.self.now.place) in
     let first = c.in_ok-push_label.ensures.kept (c.parts-parts.ensures c.args.self.now.place.lexer.source (payload_parts c.args.ty c.requires)) in
     error_handed (OnlyOutOfMemory (g.P.Builder.takes_memory c.args.builder) c.args.self.now.place) c.from_residual-in_err-parse_part.result c.in_err-parse_part.field-0.0 c.from_residual-in_err-parse_part.ensures.1
     (wants_token (g.P.Builder.takes_memory c.args.builder) c.args.self.now.place c.expect.new.self.place ParenOpen c.in_err-parse_part.field-0.0 c.in_ok-expect.ensures.takes (c.in_err-parse_part.ensures.memory c.args.self.now.place.lexer.source c.args.ty label first))
 
 pub parse_payload-returns-clause-tree : goal.parse_payload-returns-clause-tree
-parse_payload-returns-clause-tree g t c = 
+parse_payload-returns-clause-tree g t c =
     let label = label_children c.args.ty (span_at c.args.self.now.place) in
     let first = c.in_ok-push_label.ensures.kept (c.parts-parts.ensures c.args.self.now.place.lexer.source (payload_parts c.args.ty c.requires)) in
     let opened : c.expect.new.self.place.lexer.source ≡ c.args.self.now.place.lexer.source = source_item c.args.self.now.place c.expect.new.self.place ParenOpen c.in_ok-expect.ensures.takes in
     let (n, is, grown) = part_added (λ (s : List ℕ) cs ps. g.P.Builder.are_parts c.args.builder s c.args.ty cs ps) c.push_label.new.parts c.parse_part.new.parts label (IsParsed c.args.levels c.expect.new.self.place c.parse_part.new.self.place) opened (c.in_ok-parse_part.ensures.kept c.args.ty label (payload_due c.args.ty (span_at c.args.self.now.place) c.requires)) first in
     let source : c.expect-2.new.self.place.lexer.source ≡ c.args.self.now.place.lexer.source = source_item c.parse_part.new.self.place c.expect-2.new.self.place ParenClose c.in_ok-expect-2.ensures.takes ∙ (source_parsed c.args.levels c.expect.new.self.place c.parse_part.new.self.place n is ∙ opened) in
-    whole_built (g.P.Builder.is_made c.args.builder) (λ (s : List ℕ) cs ps. g.P.Builder.are_parts c.args.builder s c.args.ty cs ps) c.args.self.now.place c.expect-2.new.self.place c.args.ty c.span-start.result.start c.whole.result c.parse_part.new.parts (label ++ n ∷ []) (IsInParens c.args.levels c.args.ty c.args.self.now.place c.expect-2.new.self.place) source grown c.whole.ensures
-    (
+    whole_built (g.P.Builder.is_made c.args.builder) (λ (s : List ℕ) cs ps. g.P.Builder.are_parts c.args.builder s c.args.ty cs ps) c.args.self.now.place c.expect-2.new.self.place c.args.ty c.span-start.result.start c.whole.result c.parse_part.new.parts (label ++ n ∷ []) (IsInParens c.args.levels c.args.ty c.args.self.now.place c.expect-2.new.self.place) source grown c.whole.ensures (
       c.expect.new.self.place,
       c.in_ok-expect.ensures.takes,
       record { payload = n; behind = c.parse_part.new.self.place; inner = is; close = c.in_ok-expect-2.ensures.takes; is = ap (λ (z : Range ℕ). node c.args.ty (span z.start c.expect-2.new.self.place.lexer.end) (node_trees (label ++ n ∷ []))) c.span-start.ensures },
     )
 
 pub parse_payload-whole-requires : goal.parse_payload-whole-requires
-parse_payload-whole-requires g t c = 
+parse_payload-whole-requires g t c =
     let label = label_children c.args.ty (span_at c.args.self.now.place) in
     let first = c.in_ok-push_label.ensures.kept (c.parts-parts.ensures c.args.self.now.place.lexer.source (payload_parts c.args.ty c.requires)) in
     let opened : c.expect.new.self.place.lexer.source ≡ c.args.self.now.place.lexer.source = source_item c.args.self.now.place c.expect.new.self.place ParenOpen c.in_ok-expect.ensures.takes in
@@ -569,32 +543,32 @@ parse_braces-returns-then-eq-3-clause-asks g t c =
     asks_token c.args.self.now c.advance.new.self c.parse_flags.new.self c.in_ok-token.token c.in_ok-token.ensures.takes c.advance.ensures.asks (asks_looked c.advance.new.self c.next_is.new.self c.parse_flags.new.self c.next_is.ensures.stays c.next_is.ensures.asks c.parse_flags.ensures.asks)
 
 pub parse_braces-returns-then-next_is-clause-asks : goal.parse_braces-returns-then-next_is-clause-asks
-parse_braces-returns-then-next_is-clause-asks g t c = 
+parse_braces-returns-then-next_is-clause-asks g t c =
     asks_token c.args.self.now c.advance.new.self c.parse_entries.new.self c.in_ok-token.token c.in_ok-token.ensures.takes c.advance.ensures.asks (asks_looked c.advance.new.self c.next_is.new.self c.parse_entries.new.self c.next_is.ensures.stays c.next_is.ensures.asks c.parse_entries.ensures.asks)
 
 pub parse_braces-returns-clause-asks : goal.parse_braces-returns-clause-asks
-parse_braces-returns-clause-asks g t c = 
+parse_braces-returns-clause-asks g t c =
     asks_token c.args.self.now c.advance.new.self c.parse_entries-2.new.self c.in_ok-token.token c.in_ok-token.ensures.takes c.advance.ensures.asks c.parse_entries-2.ensures.asks
 
 pub parse_braces-returns-then-eq-clause-tree : goal.parse_braces-returns-then-eq-clause-tree
-parse_braces-returns-then-eq-clause-tree g t c = 
+parse_braces-returns-then-eq-clause-tree g t c =
     none_built (g.P.Builder.is_made c.args.builder) c.args.self.now.place c.advance.new.self.place kind_of_node.EmptySet c.span-start.result.start c.whole_of_none.result (IsParsedBehind BraceOpen (c.args.levels + 1) c.args.self.now.place c.advance.new.self.place) (source_item c.args.self.now.place c.advance.new.self.place c.in_ok-token.token c.in_ok-token.ensures.takes) c.whole_of_none.ensures
     (empty_tied c.args.levels c.args.self.now.place c.advance.new.self.place c.span-start.result.start [] _ (class_as _ _ _ BraceClose c.in_ok-token.ensures.takes (is_class _ _ c.eq.ensures c.if-eq.true)) (ap (λ (z : Range ℕ). z.start) c.span-start.ensures) refl refl)
 
 pub parse_braces-returns-then-eq-2-clause-tree : goal.parse_braces-returns-then-eq-2-clause-tree
-parse_braces-returns-then-eq-2-clause-tree g t c = 
+parse_braces-returns-then-eq-2-clause-tree g t c =
     none_built (g.P.Builder.is_made c.args.builder) c.args.self.now.place c.expect.new.self.place kind_of_node.TupleSet c.span-start.result.start c.whole_of_none-then-eq-2.result (IsParsedBehind BraceOpen (c.args.levels + 1) c.args.self.now.place c.expect.new.self.place) (source_item c.advance.new.self.place c.expect.new.self.place BraceClose c.in_ok-expect.ensures.takes ∙ (source_item c.args.self.now.place c.advance.new.self.place c.in_ok-token.token c.in_ok-token.ensures.takes)) c.whole_of_none-then-eq-2.ensures
     (no_fields_tied c.args.levels c.args.self.now.place c.advance.new.self.place c.expect.new.self.place c.span-start.result.start [] _ (class_as _ _ _ Colon c.in_ok-token.ensures.takes (is_class _ _ c.eq-2.ensures c.if-eq-2.true)) c.in_ok-expect.ensures.takes (ap (λ (z : Range ℕ). z.start) c.span-start.ensures) refl refl)
 
 pub parse_braces-returns-then-next_is-clause-tree : goal.parse_braces-returns-then-next_is-clause-tree
-parse_braces-returns-then-next_is-clause-tree g t c = 
+parse_braces-returns-then-next_is-clause-tree g t c =
     let stays = c.next_is.ensures.stays in
     built (g.P.Builder.is_made c.args.builder) c.args.self.now.place c.next_is.new.self.place (IsOfEntries c.args.levels c.span-start.result.start kind_of_node.Label c.next_is.new.self.place c.parse_entries.new.self.place) (IsParsedBehind BraceOpen (c.args.levels + 1) c.args.self.now.place c.parse_entries.new.self.place) c.parse_entries.result (ap (λ (z : Place). z.lexer.source) stays ∙ (source_item c.args.self.now.place c.advance.new.self.place c.in_ok-token.token c.in_ok-token.ensures.takes))
     (λ n is. entries_tied c.args.levels c.args.self.now.place c.next_is.new.self.place c.parse_entries.new.self.place LabelOrKeyword kind_of_node.Label c.span-start.result.start n
     (subst (λ z. TakesClass LabelOrKeyword c.args.self.now.place z) (sym stays) (class_as _ _ _ LabelOrKeyword c.in_ok-token.ensures.takes (is_class _ _ c.eq-3.ensures c.if-eq-3.true))) tt refl (ap (λ (z : Range ℕ). z.start) c.span-start.ensures) is) c.parse_entries.ensures.tree
 
 pub parse_braces-returns-clause-tree : goal.parse_braces-returns-clause-tree
-parse_braces-returns-clause-tree g t c = 
+parse_braces-returns-clause-tree g t c =
     built (g.P.Builder.is_made c.args.builder) c.args.self.now.place c.advance.new.self.place (IsOfEntries c.args.levels c.span-start.result.start c.in-Some.ty c.advance.new.self.place c.parse_entries-2.new.self.place) (IsParsedBehind BraceOpen (c.args.levels + 1) c.args.self.now.place c.parse_entries-2.new.self.place) c.parse_entries-2.result (source_item c.args.self.now.place c.advance.new.self.place c.in_ok-token.token c.in_ok-token.ensures.takes)
     (λ n is. entries_tied c.args.levels c.args.self.now.place c.advance.new.self.place c.parse_entries-2.new.self.place c.in_ok-token.token c.in-Some.ty c.span-start.result.start n c.in_ok-token.ensures.takes c.in-Some.ensures.0 c.in-Some.ensures.1 (ap (λ (z : Range ℕ). z.start) c.span-start.ensures) is) c.parse_entries-2.ensures.tree
 
@@ -618,111 +592,92 @@ pub parse_entries-returns-in_err-parse_part-clause-led : goal.parse_entries-retu
 parse_entries-returns-in_err-parse_part-clause-led g t c = λ n s e. handed s _ _ c.from_residual-in_err-parse_part.ensures.1
     (then_refuses c.in_err-parse_part.field-0.0 (value_there (c.entries.invariant.led n s e) c.in_ok-expect.ensures.takes) (c.in_err-parse_part.ensures.led n (due.entries ∷ s) (omega arith)))
 
-pub parse_entries-returns-in_err-token-clause-led : goal.parse_entries-returns-in_err-token-clause-led
-parse_entries-returns-in_err-token-clause-led g t c = λ n s e.
-    let item = c.in_ok-parse_part.ensures.led n (due.entries ∷ s) (omega arith) in
-    handed s _ _ c.from_residual-in_err-token.ensures.1 (fails_behind item.due_there (λ _. Unit {0}) c.in_err-token.field-0.0 (then_reached (value_there (c.entries.invariant.led n s e) c.in_ok-expect.ensures.takes) (reached item)) item.is_behind (λ k text apart. absurd (apart tt)) c.in_err-token.ensures.takes)
-
 pub parse_entries-returns-then-eq-clause-led : goal.parse_entries-returns-then-eq-clause-led
 parse_entries-returns-then-eq-clause-led g t c = λ n s e.
     let item = c.in_ok-parse_part.ensures.led n (due.entries ∷ s) (omega arith) in
-    read_there (then_behind_class item.due_there BraceClose (then_reached (value_there (c.entries.invariant.led n s e) c.in_ok-expect.ensures.takes) (reached item)) item.is_behind c.in_ok-token.ensures.takes (is_class _ _ c.eq.ensures c.if-eq.true) refl) (inl refl)
+    read_there (then_behind_class item.due_there BraceClose (then_reached (value_there (c.entries.invariant.led n s e) c.in_ok-expect.ensures.takes) (reached item)) item.is_behind c.in-Token.ensures.takes (is_class _ _ c.eq.ensures c.if-eq.true) refl) (inl refl)
 
 pub parse_entries-returns-then-ne-clause-led : goal.parse_entries-returns-then-ne-clause-led
 parse_entries-returns-then-ne-clause-led g t c = λ n s e.
     let item = c.in_ok-parse_part.ensures.led n (due.entries ∷ s) (omega arith) in
-    refuses_there s c.refuse_token.result c.refuse_token.ensures.never c.refuse_token.ensures.refused (λ x says. unexpected_behind item.due_there x c.in_ok-token.token (then_reached (value_there (c.entries.invariant.led n s e) c.in_ok-expect.ensures.takes) (reached item)) item.is_behind c.in_ok-token.ensures.takes
-    (entries_other c.in_ok-token.token s (text_at c.advance.new.self.place) (is_other _ _ c.eq.ensures c.if-eq.false) (differs _ _ c.ne.ensures c.if-ne.true))
+    refuses_there s c.refuse_token.result c.refuse_token.ensures.never c.refuse_token.ensures.refused (λ x says. unexpected_behind item.due_there x c.in-Token.token (then_reached (value_there (c.entries.invariant.led n s e) c.in_ok-expect.ensures.takes) (reached item)) item.is_behind c.in-Token.ensures.takes
+    (entries_other c.in-Token.token s (text_at c.take-item.new.self.place) (is_other _ _ c.eq.ensures c.if-eq.false) (differs _ _ c.ne.ensures c.if-ne.true))
     says)
-
-pub parse_entries-returns-in_err-next-clause-led : goal.parse_entries-returns-in_err-next-clause-led
-parse_entries-returns-in_err-next-clause-led g t c = λ n s e.
-    let item = c.in_ok-parse_part.ensures.led n (due.entries ∷ s) (omega arith) in
-    let due_key = key_due (value_there (c.entries.invariant.led n s e) c.in_ok-expect.ensures.takes) item c.in_ok-token.ensures.takes (differs_not _ _ c.ne.ensures c.if-ne.false) in
-    handed s _ _ c.from_residual-in_err-next.ensures.1 (fails (inl tt) (λ _. Unit {0}) c.in_err-next.field-0.0 due_key (λ deep. deep.due) (any_token n due.key s _ _) c.in_err-next.ensures.takes)
 
 pub parse_entries-returns-then-eq-2-clause-led : goal.parse_entries-returns-then-eq-2-clause-led
 parse_entries-returns-then-eq-2-clause-led g t c = λ n s e.
     let item = c.in_ok-parse_part.ensures.led n (due.entries ∷ s) (omega arith) in
-    let due_key = key_due (value_there (c.entries.invariant.led n s e) c.in_ok-expect.ensures.takes) item c.in_ok-token.ensures.takes (differs_not _ _ c.ne.ensures c.if-ne.false) in
-    read_there (then_class BraceClose due_key c.in_ok-next.ensures.takes (is_class _ _ c.eq-in-entries.ensures c.if-eq-2.true) refl) (inl refl)
+    let due_key = key_due (value_there (c.entries.invariant.led n s e) c.in_ok-expect.ensures.takes) item c.in-Token.ensures.takes (differs_not _ _ c.ne.ensures c.if-ne.false) in
+    read_there (then_class BraceClose due_key c.in-Token-item.ensures.takes (is_class _ _ c.eq-in-entries.ensures c.if-eq-2.true) refl) (inl refl)
 
-pub parse_entries-returns-in_default-clause-led : goal.parse_entries-returns-in_default-clause-led
-parse_entries-returns-in_default-clause-led g t c = λ n s e.
+pub parse_entries-returns-in_default-key_type-clause-led : goal.parse_entries-returns-in_default-key_type-clause-led
+parse_entries-returns-in_default-key_type-clause-led g t c = λ n s e.
     let item = c.in_ok-parse_part.ensures.led n (due.entries ∷ s) (omega arith) in
-    let due_key = key_due (value_there (c.entries.invariant.led n s e) c.in_ok-expect.ensures.takes) item c.in_ok-token.ensures.takes (differs_not _ _ c.ne.ensures c.if-ne.false) in
-    refuses_there s c.refuse_token-in_default.result c.refuse_token-in_default.ensures.never c.refuse_token-in_default.ensures.refused (λ x says. unexpected_there (inl tt) x c.in_ok-next.next due_key c.in_ok-next.ensures.takes
-    (no_key c.in_ok-next.next s (text_at c.advance-in-entries.new.self.place) c.in_default.ensures (is_other _ _ c.eq-in-entries.ensures c.if-eq-2.false))
+    let due_key = key_due (value_there (c.entries.invariant.led n s e) c.in_ok-expect.ensures.takes) item c.in-Token.ensures.takes (differs_not _ _ c.ne.ensures c.if-ne.false) in
+    refuses_there s c.refuse_token-in_default-key_type.result c.refuse_token-in_default-key_type.ensures.never c.refuse_token-in_default-key_type.ensures.refused (λ x says. unexpected_there (inl tt) x c.in-Token-item.next due_key c.in-Token-item.ensures.takes
+    (no_key c.in-Token-item.next s (text_at c.take-item-in-entries.new.self.place) c.in_default-key_type.ensures (is_other _ _ c.eq-in-entries.ensures c.if-eq-2.false))
     says)
 
 pub parse_entries-entries-smaller : goal.parse_entries-entries-smaller
-parse_entries-entries-smaller g t c = 
+parse_entries-entries-smaller g t c =
     let item = c.in_ok-parse_part.ensures.led (c.args.levels + 1 + 0) (due.entries ∷ []) (omega arith) in
     let one = token_less _ _ Colon c.in_ok-expect.ensures.takes in
     let two = tokens_less _ _ item.tokens item.taken in
-    let three = token_less _ _ c.in_ok-token.token c.in_ok-token.ensures.takes in
-    let four = token_less _ _ c.in_ok-next.next c.in_ok-next.ensures.takes in
+    let three = token_less _ _ c.in-Token.token c.in-Token.ensures.takes in
+    let four = token_less _ _ c.in-Token-item.next c.in-Token-item.ensures.takes in
     omega arith
 
 pub parse_entries-returns-in_err-expect-clause-asks : goal.parse_entries-returns-in_err-expect-clause-asks
-parse_entries-returns-in_err-expect-clause-asks g t c = 
+parse_entries-returns-in_err-expect-clause-asks g t c =
     asks_entries c.args.levels c.args.self.now c.entries.self c.expect.new.self c.entries.invariant.led c.entries.invariant.asks (asks_once c.entries.self c.expect.new.self c.expect.ensures.asks)
 
 pub parse_entries-returns-in_err-parse_part-clause-asks : goal.parse_entries-returns-in_err-parse_part-clause-asks
-parse_entries-returns-in_err-parse_part-clause-asks g t c = 
+parse_entries-returns-in_err-parse_part-clause-asks g t c =
     asks_entries c.args.levels c.args.self.now c.entries.self c.parse_part.new.self c.entries.invariant.led c.entries.invariant.asks (asks_token c.entries.self c.expect.new.self c.parse_part.new.self Colon c.in_ok-expect.ensures.takes c.expect.ensures.asks c.parse_part.ensures.asks)
 
-pub parse_entries-returns-in_err-token-clause-asks : goal.parse_entries-returns-in_err-token-clause-asks
-parse_entries-returns-in_err-token-clause-asks g t c = 
-    asks_entries c.args.levels c.args.self.now c.entries.self c.advance.new.self c.entries.invariant.led c.entries.invariant.asks (asks_token c.entries.self c.expect.new.self c.advance.new.self Colon c.in_ok-expect.ensures.takes c.expect.ensures.asks (asks_value c.args.levels c.expect.new.self c.parse_part.new.self c.advance.new.self c.in_ok-parse_part.ensures.led c.parse_part.ensures.asks (asks_once c.parse_part.new.self c.advance.new.self c.advance.ensures.asks)))
-
 pub parse_entries-returns-then-eq-clause-asks : goal.parse_entries-returns-then-eq-clause-asks
-parse_entries-returns-then-eq-clause-asks g t c = 
-    asks_entries c.args.levels c.args.self.now c.entries.self c.advance.new.self c.entries.invariant.led c.entries.invariant.asks (asks_token c.entries.self c.expect.new.self c.advance.new.self Colon c.in_ok-expect.ensures.takes c.expect.ensures.asks (asks_value c.args.levels c.expect.new.self c.parse_part.new.self c.advance.new.self c.in_ok-parse_part.ensures.led c.parse_part.ensures.asks (asks_once c.parse_part.new.self c.advance.new.self c.advance.ensures.asks)))
+parse_entries-returns-then-eq-clause-asks g t c =
+    asks_entries c.args.levels c.args.self.now c.entries.self c.take-item.new.self c.entries.invariant.led c.entries.invariant.asks (asks_token c.entries.self c.expect.new.self c.take-item.new.self Colon c.in_ok-expect.ensures.takes c.expect.ensures.asks (asks_value c.args.levels c.expect.new.self c.parse_part.new.self c.take-item.new.self c.in_ok-parse_part.ensures.led c.parse_part.ensures.asks (asks_once c.parse_part.new.self c.take-item.new.self c.take-item.ensures.asks)))
 
 pub parse_entries-returns-then-ne-clause-asks : goal.parse_entries-returns-then-ne-clause-asks
-parse_entries-returns-then-ne-clause-asks g t c = 
-    asks_entries c.args.levels c.args.self.now c.entries.self c.advance.new.self c.entries.invariant.led c.entries.invariant.asks (asks_token c.entries.self c.expect.new.self c.advance.new.self Colon c.in_ok-expect.ensures.takes c.expect.ensures.asks (asks_value c.args.levels c.expect.new.self c.parse_part.new.self c.advance.new.self c.in_ok-parse_part.ensures.led c.parse_part.ensures.asks (asks_once c.parse_part.new.self c.advance.new.self c.advance.ensures.asks)))
-
-pub parse_entries-returns-in_err-next-clause-asks : goal.parse_entries-returns-in_err-next-clause-asks
-parse_entries-returns-in_err-next-clause-asks g t c = 
-    asks_entries c.args.levels c.args.self.now c.entries.self c.advance-in-entries.new.self c.entries.invariant.led c.entries.invariant.asks (asks_token c.entries.self c.expect.new.self c.advance-in-entries.new.self Colon c.in_ok-expect.ensures.takes c.expect.ensures.asks (asks_value c.args.levels c.expect.new.self c.parse_part.new.self c.advance-in-entries.new.self c.in_ok-parse_part.ensures.led c.parse_part.ensures.asks (asks_token c.parse_part.new.self c.advance.new.self c.advance-in-entries.new.self c.in_ok-token.token c.in_ok-token.ensures.takes c.advance.ensures.asks (asks_once c.advance.new.self c.advance-in-entries.new.self c.advance-in-entries.ensures.asks))))
+parse_entries-returns-then-ne-clause-asks g t c =
+    asks_entries c.args.levels c.args.self.now c.entries.self c.take-item.new.self c.entries.invariant.led c.entries.invariant.asks (asks_token c.entries.self c.expect.new.self c.take-item.new.self Colon c.in_ok-expect.ensures.takes c.expect.ensures.asks (asks_value c.args.levels c.expect.new.self c.parse_part.new.self c.take-item.new.self c.in_ok-parse_part.ensures.led c.parse_part.ensures.asks (asks_once c.parse_part.new.self c.take-item.new.self c.take-item.ensures.asks)))
 
 pub parse_entries-returns-then-eq-2-clause-asks : goal.parse_entries-returns-then-eq-2-clause-asks
-parse_entries-returns-then-eq-2-clause-asks g t c = 
-    asks_entries c.args.levels c.args.self.now c.entries.self c.advance-in-entries.new.self c.entries.invariant.led c.entries.invariant.asks (asks_token c.entries.self c.expect.new.self c.advance-in-entries.new.self Colon c.in_ok-expect.ensures.takes c.expect.ensures.asks (asks_value c.args.levels c.expect.new.self c.parse_part.new.self c.advance-in-entries.new.self c.in_ok-parse_part.ensures.led c.parse_part.ensures.asks (asks_token c.parse_part.new.self c.advance.new.self c.advance-in-entries.new.self c.in_ok-token.token c.in_ok-token.ensures.takes c.advance.ensures.asks (asks_once c.advance.new.self c.advance-in-entries.new.self c.advance-in-entries.ensures.asks))))
+parse_entries-returns-then-eq-2-clause-asks g t c =
+    asks_entries c.args.levels c.args.self.now c.entries.self c.take-item-in-entries.new.self c.entries.invariant.led c.entries.invariant.asks (asks_token c.entries.self c.expect.new.self c.take-item-in-entries.new.self Colon c.in_ok-expect.ensures.takes c.expect.ensures.asks (asks_value c.args.levels c.expect.new.self c.parse_part.new.self c.take-item-in-entries.new.self c.in_ok-parse_part.ensures.led c.parse_part.ensures.asks (asks_token c.parse_part.new.self c.take-item.new.self c.take-item-in-entries.new.self c.in-Token.token c.in-Token.ensures.takes c.take-item.ensures.asks (asks_once c.take-item.new.self c.take-item-in-entries.new.self c.take-item-in-entries.ensures.asks))))
 
-pub parse_entries-returns-in_default-clause-asks : goal.parse_entries-returns-in_default-clause-asks
-parse_entries-returns-in_default-clause-asks g t c = 
-    asks_entries c.args.levels c.args.self.now c.entries.self c.advance-in-entries.new.self c.entries.invariant.led c.entries.invariant.asks (asks_token c.entries.self c.expect.new.self c.advance-in-entries.new.self Colon c.in_ok-expect.ensures.takes c.expect.ensures.asks (asks_value c.args.levels c.expect.new.self c.parse_part.new.self c.advance-in-entries.new.self c.in_ok-parse_part.ensures.led c.parse_part.ensures.asks (asks_token c.parse_part.new.self c.advance.new.self c.advance-in-entries.new.self c.in_ok-token.token c.in_ok-token.ensures.takes c.advance.ensures.asks (asks_once c.advance.new.self c.advance-in-entries.new.self c.advance-in-entries.ensures.asks))))
+pub parse_entries-returns-in_default-key_type-clause-asks : goal.parse_entries-returns-in_default-key_type-clause-asks
+parse_entries-returns-in_default-key_type-clause-asks g t c =
+    asks_entries c.args.levels c.args.self.now c.entries.self c.take-item-in-entries.new.self c.entries.invariant.led c.entries.invariant.asks (asks_token c.entries.self c.expect.new.self c.take-item-in-entries.new.self Colon c.in_ok-expect.ensures.takes c.expect.ensures.asks (asks_value c.args.levels c.expect.new.self c.parse_part.new.self c.take-item-in-entries.new.self c.in_ok-parse_part.ensures.led c.parse_part.ensures.asks (asks_token c.parse_part.new.self c.take-item.new.self c.take-item-in-entries.new.self c.in-Token.token c.in-Token.ensures.takes c.take-item.ensures.asks (asks_once c.take-item.new.self c.take-item-in-entries.new.self c.take-item-in-entries.ensures.asks))))
 
 pub parse_entries-returns-then-eq-clause-tree : goal.parse_entries-returns-then-eq-clause-tree
-parse_entries-returns-then-eq-clause-tree g t c = 
+parse_entries-returns-then-eq-clause-tree g t c =
     let (children, so_far, even, go) = c.entries.invariant.tree in
     let here : c.entries.self.place.lexer.source ≡ c.args.self.now.place.lexer.source = source_reached (c.entries.invariant.led (c.args.levels + 1) [] (omega arith)) in
     let key = node c.entries.key (span_at c.entries.self.place) no_nodes in
     let value_due = value_next children key even in
     let (n, is, grown) = entry_added (λ (s : List ℕ) cs ps. g.P.Builder.are_parts c.args.builder s kind_of_node.TupleSet cs ps) c.args.levels c.args.self.now.place c.entries.self.place c.expect.new.self.place c.parse_part.new.self.place c.entries.key children c.entries.parts c.push_key.new.parts c.parse_part.new.parts here c.in_ok-expect.ensures.takes so_far
     (c.in_ok-push_key.ensures.kept kind_of_node.TupleSet children even) (c.in_ok-parse_part.ensures.kept kind_of_node.TupleSet (children ++ key ∷ []) value_due) in
-    let token : c.advance.new.self.place.lexer.source ≡ c.args.self.now.place.lexer.source = source_item c.parse_part.new.self.place c.advance.new.self.place c.in_ok-token.token c.in_ok-token.ensures.takes ∙ (source_parsed c.args.levels c.expect.new.self.place c.parse_part.new.self.place n is ∙ (source_item c.entries.self.place c.expect.new.self.place Colon c.in_ok-expect.ensures.takes ∙ here)) in
-    whole_built (g.P.Builder.is_made c.args.builder) (λ (s : List ℕ) cs ps. g.P.Builder.are_parts c.args.builder s kind_of_node.TupleSet cs ps) c.args.self.now.place c.advance.new.self.place kind_of_node.TupleSet c.args.start c.whole.result c.parse_part.new.parts ((children ++ key ∷ []) ++ n ∷ []) (IsOfEntries c.args.levels c.args.start c.args.first c.args.self.now.place c.advance.new.self.place) token grown c.whole.ensures
-    (record { children = (children ++ key ∷ []) ++ n ∷ []; are = keyed_close c.args.levels c.args.self.now.place c.entries.self.place c.expect.new.self.place c.parse_part.new.self.place c.advance.new.self.place c.args.first c.entries.key children n go c.in_ok-expect.ensures.takes is (inl (class_as _ _ _ BraceClose c.in_ok-token.ensures.takes (is_class _ _ c.eq.ensures c.if-eq.true))); is = refl })
+    let token : c.take-item.new.self.place.lexer.source ≡ c.args.self.now.place.lexer.source = source_item c.parse_part.new.self.place c.take-item.new.self.place c.in-Token.token c.in-Token.ensures.takes ∙ (source_parsed c.args.levels c.expect.new.self.place c.parse_part.new.self.place n is ∙ (source_item c.entries.self.place c.expect.new.self.place Colon c.in_ok-expect.ensures.takes ∙ here)) in
+    whole_built (g.P.Builder.is_made c.args.builder) (λ (s : List ℕ) cs ps. g.P.Builder.are_parts c.args.builder s kind_of_node.TupleSet cs ps) c.args.self.now.place c.take-item.new.self.place kind_of_node.TupleSet c.args.start c.whole.result c.parse_part.new.parts ((children ++ key ∷ []) ++ n ∷ []) (IsOfEntries c.args.levels c.args.start c.args.first c.args.self.now.place c.take-item.new.self.place) token grown c.whole.ensures
+    (record { children = (children ++ key ∷ []) ++ n ∷ []; are = keyed_close c.args.levels c.args.self.now.place c.entries.self.place c.expect.new.self.place c.parse_part.new.self.place c.take-item.new.self.place c.args.first c.entries.key children n go c.in_ok-expect.ensures.takes is (inl (class_as _ _ _ BraceClose c.in-Token.ensures.takes (is_class _ _ c.eq.ensures c.if-eq.true))); is = refl })
 
 pub parse_entries-returns-then-eq-2-clause-tree : goal.parse_entries-returns-then-eq-2-clause-tree
-parse_entries-returns-then-eq-2-clause-tree g t c = 
+parse_entries-returns-then-eq-2-clause-tree g t c =
     let (children, so_far, even, go) = c.entries.invariant.tree in
     let here : c.entries.self.place.lexer.source ≡ c.args.self.now.place.lexer.source = source_reached (c.entries.invariant.led (c.args.levels + 1) [] (omega arith)) in
     let key = node c.entries.key (span_at c.entries.self.place) no_nodes in
     let value_due = value_next children key even in
     let (n, is, grown) = entry_added (λ (s : List ℕ) cs ps. g.P.Builder.are_parts c.args.builder s kind_of_node.TupleSet cs ps) c.args.levels c.args.self.now.place c.entries.self.place c.expect.new.self.place c.parse_part.new.self.place c.entries.key children c.entries.parts c.push_key.new.parts c.parse_part.new.parts here c.in_ok-expect.ensures.takes so_far
     (c.in_ok-push_key.ensures.kept kind_of_node.TupleSet children even) (c.in_ok-parse_part.ensures.kept kind_of_node.TupleSet (children ++ key ∷ []) value_due) in
-    let token : c.advance.new.self.place.lexer.source ≡ c.args.self.now.place.lexer.source = source_item c.parse_part.new.self.place c.advance.new.self.place c.in_ok-token.token c.in_ok-token.ensures.takes ∙ (source_parsed c.args.levels c.expect.new.self.place c.parse_part.new.self.place n is ∙ (source_item c.entries.self.place c.expect.new.self.place Colon c.in_ok-expect.ensures.takes ∙ here)) in
-    let close : c.advance-in-entries.new.self.place.lexer.source ≡ c.args.self.now.place.lexer.source = source_item c.advance.new.self.place c.advance-in-entries.new.self.place c.in_ok-next.next c.in_ok-next.ensures.takes ∙ token in
-    whole_built (g.P.Builder.is_made c.args.builder) (λ (s : List ℕ) cs ps. g.P.Builder.are_parts c.args.builder s kind_of_node.TupleSet cs ps) c.args.self.now.place c.advance-in-entries.new.self.place kind_of_node.TupleSet c.args.start c.whole-then-eq-2.result c.parse_part.new.parts ((children ++ key ∷ []) ++ n ∷ []) (IsOfEntries c.args.levels c.args.start c.args.first c.args.self.now.place c.advance-in-entries.new.self.place) close grown c.whole-then-eq-2.ensures
-    (record { children = (children ++ key ∷ []) ++ n ∷ []; are = keyed_close c.args.levels c.args.self.now.place c.entries.self.place c.expect.new.self.place c.parse_part.new.self.place c.advance-in-entries.new.self.place c.args.first c.entries.key children n go c.in_ok-expect.ensures.takes is (inr (c.advance.new.self.place, (class_as _ _ _ Comma c.in_ok-token.ensures.takes (differs_not _ _ c.ne.ensures c.if-ne.false)), class_as _ _ _ BraceClose c.in_ok-next.ensures.takes (is_class _ _ c.eq-in-entries.ensures c.if-eq-2.true))); is = refl })
+    let token : c.take-item.new.self.place.lexer.source ≡ c.args.self.now.place.lexer.source = source_item c.parse_part.new.self.place c.take-item.new.self.place c.in-Token.token c.in-Token.ensures.takes ∙ (source_parsed c.args.levels c.expect.new.self.place c.parse_part.new.self.place n is ∙ (source_item c.entries.self.place c.expect.new.self.place Colon c.in_ok-expect.ensures.takes ∙ here)) in
+    let close : c.take-item-in-entries.new.self.place.lexer.source ≡ c.args.self.now.place.lexer.source = source_item c.take-item.new.self.place c.take-item-in-entries.new.self.place c.in-Token-item.next c.in-Token-item.ensures.takes ∙ token in
+    whole_built (g.P.Builder.is_made c.args.builder) (λ (s : List ℕ) cs ps. g.P.Builder.are_parts c.args.builder s kind_of_node.TupleSet cs ps) c.args.self.now.place c.take-item-in-entries.new.self.place kind_of_node.TupleSet c.args.start c.whole-then-eq-2.result c.parse_part.new.parts ((children ++ key ∷ []) ++ n ∷ []) (IsOfEntries c.args.levels c.args.start c.args.first c.args.self.now.place c.take-item-in-entries.new.self.place) close grown c.whole-then-eq-2.ensures
+    (record { children = (children ++ key ∷ []) ++ n ∷ []; are = keyed_close c.args.levels c.args.self.now.place c.entries.self.place c.expect.new.self.place c.parse_part.new.self.place c.take-item-in-entries.new.self.place c.args.first c.entries.key children n go c.in_ok-expect.ensures.takes is (inr (c.take-item.new.self.place, (class_as _ _ _ Comma c.in-Token.ensures.takes (differs_not _ _ c.ne.ensures c.if-ne.false)), class_as _ _ _ BraceClose c.in-Token-item.ensures.takes (is_class _ _ c.eq-in-entries.ensures c.if-eq-2.true))); is = refl })
 
 pub parse_entries-whole-requires : goal.parse_entries-whole-requires
-parse_entries-whole-requires g t c = 
+parse_entries-whole-requires g t c =
     let (children, so_far, even, go) = c.entries.invariant.tree in
     let here : c.entries.self.place.lexer.source ≡ c.args.self.now.place.lexer.source = source_reached (c.entries.invariant.led (c.args.levels + 1) [] (omega arith)) in
     let key = node c.entries.key (span_at c.entries.self.place) no_nodes in
@@ -732,7 +687,7 @@ parse_entries-whole-requires g t c =
     (c.args.self.now.place.lexer.source, (children ++ key ∷ []) ++ n ∷ [], grown)
 
 pub parse_entries-whole-requires-then-eq-2 : goal.parse_entries-whole-requires-then-eq-2
-parse_entries-whole-requires-then-eq-2 g t c = 
+parse_entries-whole-requires-then-eq-2 g t c =
     let (children, so_far, even, go) = c.entries.invariant.tree in
     let here : c.entries.self.place.lexer.source ≡ c.args.self.now.place.lexer.source = source_reached (c.entries.invariant.led (c.args.levels + 1) [] (omega arith)) in
     let key = node c.entries.key (span_at c.entries.self.place) no_nodes in
@@ -744,29 +699,75 @@ parse_entries-whole-requires-then-eq-2 g t c =
 pub parse_entries-entries-preserved : goal.parse_entries-entries-preserved
 parse_entries-entries-preserved g t c = record {
   asks =
-    asks_entries c.args.levels c.args.self.now c.entries.self c.advance-in-entries.new.self c.entries.invariant.led c.entries.invariant.asks (asks_token c.entries.self c.expect.new.self c.advance-in-entries.new.self Colon c.in_ok-expect.ensures.takes c.expect.ensures.asks (asks_value c.args.levels c.expect.new.self c.parse_part.new.self c.advance-in-entries.new.self c.in_ok-parse_part.ensures.led c.parse_part.ensures.asks (asks_token c.parse_part.new.self c.advance.new.self c.advance-in-entries.new.self c.in_ok-token.token c.in_ok-token.ensures.takes c.advance.ensures.asks (asks_once c.advance.new.self c.advance-in-entries.new.self c.advance-in-entries.ensures.asks))));
+      asks_entries c.args.levels c.args.self.now c.entries.self c.take-item-in-entries.new.self c.entries.invariant.led c.entries.invariant.asks (asks_token c.entries.self c.expect.new.self c.take-item-in-entries.new.self Colon c.in_ok-expect.ensures.takes c.expect.ensures.asks (asks_value c.args.levels c.expect.new.self c.parse_part.new.self c.take-item-in-entries.new.self c.in_ok-parse_part.ensures.led c.parse_part.ensures.asks (asks_token c.parse_part.new.self c.take-item.new.self c.take-item-in-entries.new.self c.in-Token.token c.in-Token.ensures.takes c.take-item.ensures.asks (asks_once c.take-item.new.self c.take-item-in-entries.new.self c.take-item-in-entries.ensures.asks))));
   led = λ n s e.
-    let item = c.in_ok-parse_part.ensures.led n (due.entries ∷ s) (omega arith) in
-    let due_key = key_due (value_there (c.entries.invariant.led n s e) c.in_ok-expect.ensures.takes) item c.in_ok-token.ensures.takes (differs_not _ _ c.ne.ensures c.if-ne.false) in
-    then_same c.in_ok-next.next due_key c.in_ok-next.ensures.takes (key_reads c.in_ok-next.next s (text_at c.advance-in-entries.new.self.place) c.in-Some.ensures.0);
+      let item = c.in_ok-parse_part.ensures.led n (due.entries ∷ s) (omega arith) in
+      let due_key = key_due (value_there (c.entries.invariant.led n s e) c.in_ok-expect.ensures.takes) item c.in-Token.ensures.takes (differs_not _ _ c.ne.ensures c.if-ne.false) in
+      then_same c.in-Token-item.next due_key c.in-Token-item.ensures.takes (key_reads c.in-Token-item.next s (text_at c.take-item-in-entries.new.self.place) c.in-Some.ensures.0);
   tree =
-    let (children, so_far, even, go) = c.entries.invariant.tree in
-    let here : c.entries.self.place.lexer.source ≡ c.args.self.now.place.lexer.source = source_reached (c.entries.invariant.led (c.args.levels + 1) [] (omega arith)) in
-    let key = node c.entries.key (span_at c.entries.self.place) no_nodes in
-    let value_due = value_next children key even in
-    let (n, is, grown) = entry_added (λ (s : List ℕ) cs ps. g.P.Builder.are_parts c.args.builder s kind_of_node.TupleSet cs ps) c.args.levels c.args.self.now.place c.entries.self.place c.expect.new.self.place c.parse_part.new.self.place c.entries.key children c.entries.parts c.push_key.new.parts c.parse_part.new.parts here c.in_ok-expect.ensures.takes so_far
-    (c.in_ok-push_key.ensures.kept kind_of_node.TupleSet children even) (c.in_ok-parse_part.ensures.kept kind_of_node.TupleSet (children ++ key ∷ []) value_due) in
-    (
-      (children ++ key ∷ []) ++ n ∷ [],
-      grown,
-      key_next (children ++ key ∷ []) n value_due,
-      keyed_next c.args.levels c.args.self.now.place c.entries.self.place c.expect.new.self.place c.parse_part.new.self.place c.advance-in-entries.new.self.place c.args.first c.entries.key children n go c.in_ok-expect.ensures.takes is c.advance.new.self.place c.in_ok-next.next c.in-Some.ty (class_as _ _ _ Comma c.in_ok-token.ensures.takes (differs_not _ _ c.ne.ensures c.if-ne.false)) c.in_ok-next.ensures.takes c.in-Some.ensures.0 c.in-Some.ensures.1,
-    );
+      let (children, so_far, even, go) = c.entries.invariant.tree in
+      let here : c.entries.self.place.lexer.source ≡ c.args.self.now.place.lexer.source = source_reached (c.entries.invariant.led (c.args.levels + 1) [] (omega arith)) in
+      let key = node c.entries.key (span_at c.entries.self.place) no_nodes in
+      let value_due = value_next children key even in
+      let (n, is, grown) = entry_added (λ (s : List ℕ) cs ps. g.P.Builder.are_parts c.args.builder s kind_of_node.TupleSet cs ps) c.args.levels c.args.self.now.place c.entries.self.place c.expect.new.self.place c.parse_part.new.self.place c.entries.key children c.entries.parts c.push_key.new.parts c.parse_part.new.parts here c.in_ok-expect.ensures.takes so_far
+      (c.in_ok-push_key.ensures.kept kind_of_node.TupleSet children even) (c.in_ok-parse_part.ensures.kept kind_of_node.TupleSet (children ++ key ∷ []) value_due) in (
+        (children ++ key ∷ []) ++ n ∷ [],
+        grown,
+        key_next (children ++ key ∷ []) n value_due,
+        keyed_next c.args.levels c.args.self.now.place c.entries.self.place c.expect.new.self.place c.parse_part.new.self.place c.take-item-in-entries.new.self.place c.args.first c.entries.key children n go c.in_ok-expect.ensures.takes is c.take-item.new.self.place c.in-Token-item.next c.in-Some.ty (class_as _ _ _ Comma c.in-Token.ensures.takes (differs_not _ _ c.ne.ensures c.if-ne.false)) c.in-Token-item.ensures.takes c.in-Some.ensures.0 c.in-Some.ensures.1,
+      );
 }
 
 pub parse_items-returns-then-next_is-clause-tree : goal.parse_items-returns-then-next_is-clause-tree
-parse_items-returns-then-next_is-clause-tree g t c = 
+parse_items-returns-then-next_is-clause-tree g t c =
     let stays = c.next_is.ensures.stays in
     let source : c.expect.new.self.place.lexer.source ≡ c.args.self.now.place.lexer.source = source_item c.next_is.new.self.place c.expect.new.self.place c.args.close c.in_ok-expect.ensures.takes ∙ ap (λ (z : Place). z.lexer.source) stays in
     none_built (g.P.Builder.is_made c.args.builder) c.args.self.now.place c.expect.new.self.place kind_of_node.List c.span-start.result.start c.whole_of_none.result (IsOfItems c.args.levels c.args.close c.args.self.now.place c.expect.new.self.place) source c.whole_of_none.ensures
     (items_none c.args.levels c.args.close c.args.self.now.place c.next_is.new.self.place c.expect.new.self.place c.span-start.result.start [] _ refl refl c.requires (is_other _ _ c.eq.ensures c.if-eq.false) (ap (λ (z : Range ℕ). z.start) c.span-start.ensures) stays c.in_ok-expect.ensures.takes)
+
+pub parse_part-returns-in-Alone-clause-led : goal.parse_part-returns-in-Alone-clause-led
+parse_part-returns-in-Alone-clause-led g t c = λ n s e. gives_or_memory c.push_part.result c.push_part.ensures.memory
+    (alone_led n s c.args.self.now.place c.take-item.new.self.place c.in-Token.token c.in-Alone.ty (omega arith) c.in-Token.ensures.takes (front_alone c.in-Token.token (text_at c.take-item.new.self.place) c.slice.result.now c.value_start-front.result c.in-Alone.ty c.slice.ensures c.value_start-front.ensures c.in-Alone.is))
+
+pub parse_part-returns-in_default : goal.parse_part-returns-in_default
+parse_part-returns-in_default g t c = record {
+  led = λ n s e. refuses_there s c.refuse_item.result c.refuse_item.ensures.never c.refuse_item.ensures.refused
+      (λ x says. fails (inl tt) (λ _. Unit {0}) x (here n due.value s _) (shallow n due.value s _ (omega arith)) (any_token n due.value s _ _) (item_fails (λ _. Unit {0}) c.take-item.result c.args.self.now.place c.take-item.new.self.place x c.in_default.not-Token c.take-item.ensures.takes says));
+  kept = as_added c.refuse_item.result c.refuse_item.ensures.never (λ none. absurd none);
+  memory = whatever_parts (λ (source : List ℕ) (of : NodeType) (children : List NodeTree). g.P.Builder.are_parts c.args.builder source of children c.args.parts.now) (OnlyOutOfMemory (g.P.Builder.takes_memory c.args.builder) c.args.self.now.place) c.refuse_item.result
+      (wants_refused (g.P.Builder.takes_memory c.args.builder) c.args.self.now.place c.refuse_item.result c.refuse_item.ensures.refused (λ x says. wants_fails (g.P.Builder.takes_memory c.args.builder) c.args.self.now.place c.args.self.now.place c.take-item.new.self.place (λ _. Unit {0}) x (item_fails (λ _. Unit {0}) c.take-item.result c.args.self.now.place c.take-item.new.self.place x c.in_default.not-Token c.take-item.ensures.takes says)));
+  asks = asks_once c.args.self.now c.take-item.new.self c.take-item.ensures.asks;
+}
+
+pub parse_items-returns-in_default : goal.parse_items-returns-in_default
+parse_items-returns-in_default g t c = record {
+  led = λ n s e.
+      let (d, i, r) = c.items.invariant.reached n s e in
+      let item = c.in_ok-parse_part.ensures.led n (form_of c.args.close ∷ s) (omega arith) in
+      refuses_there s c.refuse_item.result c.refuse_item.ensures.never c.refuse_item.ensures.refused
+      (λ x says. fails_behind item.due_there (λ _. Unit {0}) x (behind_item c.args.close c.requires c.items.invariant.no_close i r item) item.is_behind (λ k text apart. absurd (apart tt)) (item_fails (λ _. Unit {0}) c.take-item.result c.parse_part.new.self.place c.take-item.new.self.place x c.in_default.not-Token c.take-item.ensures.takes says));
+  tree = never_made _ c.refuse_item.result c.refuse_item.ensures.never;
+  memory = wants_refused (g.P.Builder.takes_memory c.args.builder) c.args.self.now.place c.refuse_item.result c.refuse_item.ensures.refused (λ x says. wants_fails (g.P.Builder.takes_memory c.args.builder) c.args.self.now.place c.parse_part.new.self.place c.take-item.new.self.place (λ _. Unit {0}) x (item_fails (λ _. Unit {0}) c.take-item.result c.parse_part.new.self.place c.take-item.new.self.place x c.in_default.not-Token c.take-item.ensures.takes says));
+  asks = asks_items c.args.levels c.args.close c.args.self.now c.items.self c.take-item.new.self c.items.invariant.reached c.items.invariant.asks (asks_value c.args.levels c.items.self c.parse_part.new.self c.take-item.new.self c.in_ok-parse_part.ensures.led c.parse_part.ensures.asks (asks_once c.parse_part.new.self c.take-item.new.self c.take-item.ensures.asks));
+}
+
+pub parse_entries-returns-in_default : goal.parse_entries-returns-in_default
+parse_entries-returns-in_default g t c = record {
+  led = λ n s e.
+      let item = c.in_ok-parse_part.ensures.led n (due.entries ∷ s) (omega arith) in
+      refuses_there s c.refuse_item.result c.refuse_item.ensures.never c.refuse_item.ensures.refused
+      (λ x says. fails_behind item.due_there (λ _. Unit {0}) x (then_reached (value_there (c.entries.invariant.led n s e) c.in_ok-expect.ensures.takes) (reached item)) item.is_behind (λ k text apart. absurd (apart tt)) (item_fails (λ _. Unit {0}) c.take-item.result c.parse_part.new.self.place c.take-item.new.self.place x c.in_default.not-Token c.take-item.ensures.takes says));
+  tree = never_made _ c.refuse_item.result c.refuse_item.ensures.never;
+  asks = asks_entries c.args.levels c.args.self.now c.entries.self c.take-item.new.self c.entries.invariant.led c.entries.invariant.asks (asks_token c.entries.self c.expect.new.self c.take-item.new.self Colon c.in_ok-expect.ensures.takes c.expect.ensures.asks (asks_value c.args.levels c.expect.new.self c.parse_part.new.self c.take-item.new.self c.in_ok-parse_part.ensures.led c.parse_part.ensures.asks (asks_once c.parse_part.new.self c.take-item.new.self c.take-item.ensures.asks)));
+}
+
+pub parse_entries-returns-in_default-item : goal.parse_entries-returns-in_default-item
+parse_entries-returns-in_default-item g t c = record {
+  led = λ n s e.
+      let item = c.in_ok-parse_part.ensures.led n (due.entries ∷ s) (omega arith) in
+      let due_key = key_due (value_there (c.entries.invariant.led n s e) c.in_ok-expect.ensures.takes) item c.in-Token.ensures.takes (differs_not _ _ c.ne.ensures c.if-ne.false) in
+      refuses_there s c.refuse_item-in_default-item.result c.refuse_item-in_default-item.ensures.never c.refuse_item-in_default-item.ensures.refused
+      (λ x says. fails (inl tt) (λ _. Unit {0}) x due_key (λ deep. deep.due) (any_token n due.key s _ _) (item_fails (λ _. Unit {0}) c.take-item-in-entries.result c.take-item.new.self.place c.take-item-in-entries.new.self.place x c.in_default-item.not-Token c.take-item-in-entries.ensures.takes says));
+  tree = never_made _ c.refuse_item-in_default-item.result c.refuse_item-in_default-item.ensures.never;
+  asks = asks_entries c.args.levels c.args.self.now c.entries.self c.take-item-in-entries.new.self c.entries.invariant.led c.entries.invariant.asks (asks_token c.entries.self c.expect.new.self c.take-item-in-entries.new.self Colon c.in_ok-expect.ensures.takes c.expect.ensures.asks (asks_value c.args.levels c.expect.new.self c.parse_part.new.self c.take-item-in-entries.new.self c.in_ok-parse_part.ensures.led c.parse_part.ensures.asks (asks_token c.parse_part.new.self c.take-item.new.self c.take-item-in-entries.new.self c.in-Token.token c.in-Token.ensures.takes c.take-item.ensures.asks (asks_once c.take-item.new.self c.take-item-in-entries.new.self c.take-item-in-entries.ensures.asks))));
+}
