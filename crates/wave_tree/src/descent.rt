@@ -27,6 +27,15 @@ use wave_lex::found::Found;
 use wave_lex::lex::{Span, Token};
 use wave_read::error::ReadError;
 
+/// No parts yet of a node of this type. They are begun in a frame of their own, since each level of a
+/// value has one of those below.
+#[inline(never)]
+fn no_parts<P: Builder>(alloc: Global, builder: P, ty: NodeType) -> P::Parts
+    ensures { (source : List ℕ) → IsOfParts ty → P.are_parts builder source ty [] result }
+{
+    builder.parts(alloc, ty)
+}
+
 impl<'source> Tokens<'source> {
     /// Reads a value.
     pub(crate) fn parse_node<P: Builder>(
@@ -169,7 +178,7 @@ impl<'source> Tokens<'source> {
         ensures asks { AsksFor self.old self.new }
     {
         let start = self.span().start;
-        let mut parts = builder.parts(alloc, ty);
+        let mut parts = no_parts(alloc, builder, ty);
         self.push_label(alloc, builder, &mut parts, ty)?;
         self.expect(Token::ParenOpen)?;
         self.parse_part(alloc, builder, &mut parts, levels)?;
@@ -227,7 +236,7 @@ impl<'source> Tokens<'source> {
         } else {
             NodeType::List
         };
-        let mut parts = builder.parts(alloc, ty);
+        let mut parts = no_parts(alloc, builder, ty);
         'items: loop {
             self.parse_part(alloc, builder, &mut parts, levels)?;
             let item = self.take();
@@ -297,7 +306,7 @@ impl<'source> Tokens<'source> {
         ensures tree { IfOk result (IsBuilt (P.is_made builder) self.old.place (IsOfEntries levels start first self.old.place self.new.place)) }
         ensures asks { AsksFor self.old self.new }
     {
-        let mut parts = builder.parts(alloc, NodeType::TupleSet);
+        let mut parts = no_parts(alloc, builder, NodeType::TupleSet);
         let mut key = first;
         'entries: loop {
             self.push_key(alloc, builder, &mut parts, key)?;

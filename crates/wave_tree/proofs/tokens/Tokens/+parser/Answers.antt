@@ -139,7 +139,7 @@ parse_items-items-init g t c = record {
   reached = λ n s e. (due.first_item, inl refl, here_is n due.first_item (form_of c.args.close ∷ s) _ _ c.next_is.ensures.stays);
   tree = (
     [],
-    c.parts-parts.ensures _ (elim c.if-eq-2.branch [
+    c.no_parts-parts.ensures _ (elim c.if-eq-2.branch [
       | parse_items-then-eq-2 w ↦ subst IsOfParts (sym w.ty-is) tt
       | parse_items-else-eq-2 w ↦ subst IsOfParts (sym w.ty-is) tt
     ]),
@@ -464,14 +464,14 @@ parse_payload-returns-clause-asks g t c =
 pub parse_payload-returns-in_err-parse_part-clause-memory : goal.parse_payload-returns-in_err-parse_part-clause-memory
 parse_payload-returns-in_err-parse_part-clause-memory g t c =
     let label = label_children c.args.ty (span_at c.args.self.now.place) in
-    let first = c.in_ok-push_label.ensures.kept (c.parts-parts.ensures c.args.self.now.place.lexer.source (payload_parts c.args.ty c.requires)) in
+    let first = c.in_ok-push_label.ensures.kept (c.no_parts-parts.ensures c.args.self.now.place.lexer.source (payload_parts c.args.ty c.requires)) in
     error_handed (OnlyOutOfMemory (g.P.Builder.takes_memory c.args.builder) c.args.self.now.place) c.from_residual-in_err-parse_part.result c.in_err-parse_part.field-0.0 c.from_residual-in_err-parse_part.ensures.1
     (wants_token (g.P.Builder.takes_memory c.args.builder) c.args.self.now.place c.expect.new.self.place ParenOpen c.in_err-parse_part.field-0.0 c.in_ok-expect.ensures.takes (c.in_err-parse_part.ensures.memory c.args.self.now.place.lexer.source c.args.ty label first))
 
 pub parse_payload-returns-clause-tree : goal.parse_payload-returns-clause-tree
 parse_payload-returns-clause-tree g t c =
     let label = label_children c.args.ty (span_at c.args.self.now.place) in
-    let first = c.in_ok-push_label.ensures.kept (c.parts-parts.ensures c.args.self.now.place.lexer.source (payload_parts c.args.ty c.requires)) in
+    let first = c.in_ok-push_label.ensures.kept (c.no_parts-parts.ensures c.args.self.now.place.lexer.source (payload_parts c.args.ty c.requires)) in
     let opened : c.expect.new.self.place.lexer.source ≡ c.args.self.now.place.lexer.source = source_item c.args.self.now.place c.expect.new.self.place ParenOpen c.in_ok-expect.ensures.takes in
     let (n, is, grown) = part_added (λ (s : List ℕ) cs ps. g.P.Builder.are_parts c.args.builder s c.args.ty cs ps) c.push_label.new.parts c.parse_part.new.parts label (IsParsed c.args.levels c.expect.new.self.place c.parse_part.new.self.place) opened (c.in_ok-parse_part.ensures.kept c.args.ty label (payload_due c.args.ty (span_at c.args.self.now.place) c.requires)) first in
     let source : c.expect-2.new.self.place.lexer.source ≡ c.args.self.now.place.lexer.source = source_item c.parse_part.new.self.place c.expect-2.new.self.place ParenClose c.in_ok-expect-2.ensures.takes ∙ (source_parsed c.args.levels c.expect.new.self.place c.parse_part.new.self.place n is ∙ opened) in
@@ -484,7 +484,7 @@ parse_payload-returns-clause-tree g t c =
 pub parse_payload-whole-requires : goal.parse_payload-whole-requires
 parse_payload-whole-requires g t c =
     let label = label_children c.args.ty (span_at c.args.self.now.place) in
-    let first = c.in_ok-push_label.ensures.kept (c.parts-parts.ensures c.args.self.now.place.lexer.source (payload_parts c.args.ty c.requires)) in
+    let first = c.in_ok-push_label.ensures.kept (c.no_parts-parts.ensures c.args.self.now.place.lexer.source (payload_parts c.args.ty c.requires)) in
     let opened : c.expect.new.self.place.lexer.source ≡ c.args.self.now.place.lexer.source = source_item c.args.self.now.place c.expect.new.self.place ParenOpen c.in_ok-expect.ensures.takes in
     let (n, is, grown) = part_added (λ (s : List ℕ) cs ps. g.P.Builder.are_parts c.args.builder s c.args.ty cs ps) c.push_label.new.parts c.parse_part.new.parts label (IsParsed c.args.levels c.expect.new.self.place c.parse_part.new.self.place) opened (c.in_ok-parse_part.ensures.kept c.args.ty label (payload_due c.args.ty (span_at c.args.self.now.place) c.requires)) first in
     (c.args.self.now.place.lexer.source, label ++ n ∷ [], grown)
@@ -579,7 +579,7 @@ parse_braces-returns-then-eq-3-clause-tree g t c =
     (λ n. flags_tied c.args.levels c.args.self.now.place c.next_is.new.self.place c.parse_flags.new.self.place c.span-start.result.start (as_ok n) (subst (λ z. TakesClass LabelOrKeyword c.args.self.now.place z) (sym stays) (class_as _ _ _ LabelOrKeyword c.in_ok-token.ensures.takes (is_class _ _ c.eq-3.ensures c.if-eq-3.true))) (ap (λ (z : Range ℕ). z.start) c.span-start.ensures)) c.parse_flags.ensures.tree
 
 pub parse_entries-entries-init : goal.parse_entries-entries-init
-parse_entries-entries-init g t c = record { asks = asks_none c.args.self.now c.args.self.now refl; led = λ n s e. here n due.behind_key s c.args.self.now.place; tree = ([], c.parts-parts.ensures c.args.self.now.place.lexer.source tt, (0, refl), λ cs r parts. parts) }
+parse_entries-entries-init g t c = record { asks = asks_none c.args.self.now c.args.self.now refl; led = λ n s e. here n due.behind_key s c.args.self.now.place; tree = ([], c.no_parts-parts.ensures c.args.self.now.place.lexer.source tt, (0, refl), λ cs r parts. parts) }
 
 pub parse_entries-returns-in_err-push_key-clause-asks : goal.parse_entries-returns-in_err-push_key-clause-asks
 parse_entries-returns-in_err-push_key-clause-asks g t c = c.entries.invariant.asks
