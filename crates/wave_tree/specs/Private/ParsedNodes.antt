@@ -103,7 +103,7 @@ abbrev pub AreKeyedParts : ℕ → NodeType → Place → List NodeTree → Plac
 AreKeyedParts n ty p cs q =
     (behind : Place) × (pairs : List NodeTree) × TakesClass class.Colon p behind × ArePairs n behind pairs q × (cs ≡ node ty (span_at p) no_nodes ∷ pairs)
 
--- a node of entries after its first key, of this type, which stands at the place old; it starts there
+-- a node of entries from start on, whose first key, of this type, was taken last at the place old
 pub record IsOfEntries (n : ℕ) (start : ℕ) (ty : NodeType) (old new : Place) (parsed : NodeTree) : Type 0 where
   pub children : List NodeTree
   pub are : AreKeyedParts n ty old children new
