@@ -14,7 +14,7 @@ use Rattle.wave_lex.specs.Derive.{nullable, derivative, derivative_by, after_nex
 use Rattle.wave_lex.specs.LongestMatch.{Greatest, IsPrefixOf}
 use Rattle.wave_lex.specs.Tokens.{one, string, gap, number, label_or_keyword}
 use Rattle.wave_lex.specs.Private.Reading.{LeadsTo, IsPlainRun}
-use Rattle.wave_lex.specs.Private.Machines.{is_blank, is_plain, ends_whole, gap_step, gap_rest}
+use Rattle.wave_lex.specs.Private.Machines.{after_sign, is_blank, is_plain, ends_whole, gap_step, gap_rest}
 use Rattle.wave_lex.specs.Machines.{is_digit, is_lower, number_step, number_rest, label_step, label_token_step, label_token_rest, in_token, string_step, string_rest}
 use Rattle.wave_lex.specs.declared.machine.number.NumberState.{NumberState}
 use Rattle.wave_lex.specs.declared.machine.number.NumberState.TheVariants as n
@@ -29,7 +29,7 @@ use Rattle.wave_lex.specs.declared.machine.string.StringState.{StringState}
 use Rattle.wave_lex.specs.declared.machine.string.StringState.TheVariants as string
 use Rattle.wave_lex.proofs.LongestPrefix.MachineWalks.{after_all_append, after_all_nothing}
 use Rattle.wave_lex.proofs.Machines.Steps.{gap_steps, number_steps, label_token_steps, string_steps}
-use Rattle.wave_lex.proofs.QuickScan.Prefixes.{front_behind, PassesNone, behind_run, ascii_leads, run_stays, run_leads, run_ends}
+use Rattle.wave_lex.proofs.QuickScan.Prefixes.{front_behind, PassesNone, behind_run, ascii_leads, first_byte, leads_on, run_stays, run_leads, run_ends}
 
 -- ---- blanks
 
@@ -51,11 +51,18 @@ digit_steps b e = grind (arith, nat_tests)
 pub digit_stays : (b : ℕ) → is_digit b ≡ true → derivative b (number_rest n.Whole) ≡ number_rest n.Whole
 digit_stays b e = number_steps n.Whole b ∙ ap (after_next NumberState number_rest) (digit_steps b e)
 
-digit_begins : (b : ℕ) → is_digit b ≡ true → b ≢ 48 → number_step n.Start b ≡ Some n.Whole
-digit_begins b e f = grind (arith, nat_tests)
+-- a digit other than 0 begins the whole part, with a sign or without one
+digit_begins : (p b : ℕ) → is_digit b ≡ true → b ≢ 48 → number_step (after_sign p) b ≡ Some n.Whole
+digit_begins zero b e f = grind (arith, nat_tests)
+digit_begins (suc p) b e f = grind (arith, nat_tests)
 
-pub digit_first : (b : ℕ) → is_digit b ≡ true → b ≢ 48 → derivative b (number_rest n.Start) ≡ number_rest n.Whole
-digit_first b e f = number_steps n.Start b ∙ ap (after_next NumberState number_rest) (digit_begins b e f)
+digit_first : (p b : ℕ) → is_digit b ≡ true → b ≢ 48 → derivative b (number_rest (after_sign p)) ≡ number_rest n.Whole
+digit_first p b e f = number_steps (after_sign p) b ∙ ap (after_next NumberState number_rest) (digit_begins p b e f)
+
+-- a 0 is the whole part
+zero_first : (p : ℕ) → derivative 48 (number_rest (after_sign p)) ≡ number_rest n.Zero
+zero_first zero = number_steps n.Start 48
+zero_first (suc p) = number_steps n.Minus 48
 
 -- ---- lower-case letters and digits
 
@@ -273,9 +280,6 @@ run_cut P s b n a e u l h = subst (λ (z : List ℕ). IsCharBoundary z n) e (beh
 pub blanks_cut : (s b : List ℕ) (n : ℕ) → b ≡ s → IsUtf8 s → n ≤ length b → ((i : ℕ) → i < n → is_blank (get_or b i 0) ≡ true) → IsCharBoundary s n
 blanks_cut s b n e u l h = run_cut is_blank s b n blank_ascii e u l h
 
-pub digits_cut : (s b : List ℕ) (n : ℕ) → b ≡ s → IsUtf8 s → n ≤ length b → ((i : ℕ) → i < n → is_digit (get_or b i 0) ≡ true) → IsCharBoundary s n
-digits_cut s b n e u l h = run_cut is_digit s b n digit_ascii e u l h
-
 pub lowers_cut : (s b : List ℕ) (n : ℕ) → b ≡ s → IsUtf8 s → n ≤ length b → ((i : ℕ) → i < n → is_lower (get_or b i 0) ≡ true) → IsCharBoundary s n
 lowers_cut s b n e u l h = run_cut is_lower s b n lower_ascii e u l h
 
@@ -284,10 +288,15 @@ pub blanks_lead : (s b : List ℕ) (n : ℕ) → b ≡ s → n ≤ length b → 
 blanks_lead s b n e l h = subst (λ (z : List ℕ). LeadsTo gap gap z n) e
     (ascii_leads gap gap b n l (λ i k. blank_ascii (get_or b i 0) (h i k)) (run_stays gap b n l (λ i k. blank_stays (get_or b i 0) (h i k))))
 
--- digits lead to what may follow in the whole part of a number
-pub digits_lead : (s b : List ℕ) (k : ℕ) → b ≡ s → 0 < k → k ≤ length b → ((i : ℕ) → i < k → is_digit (get_or b i 0) ≡ true) → get_or b 0 0 ≢ 48 → LeadsTo number (number_rest n.Whole) s k
-digits_lead s b k e p fits h f = subst (λ (z : List ℕ). LeadsTo number (number_rest n.Whole) z k) e
-    (run_leads number (number_rest n.Whole) b k p fits (λ i m. digit_ascii (get_or b i 0) (h i m)) (digit_first (get_or b 0 0) (h 0 p) f) (λ i m. digit_stays (get_or b i 0) (h i m)))
+-- digits lead from the sign to what may follow in the whole part of a number
+whole_leads : (d : List ℕ) (p k : ℕ) → 0 < k → k ≤ length d → ((i : ℕ) → i < k → is_digit (get_or d i 0) ≡ true) → get_or d 0 0 ≢ 48 → LeadsTo (number_rest (after_sign p)) (number_rest n.Whole) d k
+whole_leads d p k some fits h f =
+    run_leads (number_rest (after_sign p)) (number_rest n.Whole) d k some fits (λ i m. digit_ascii (get_or d i 0) (h i m)) (digit_first p (get_or d 0 0) (h 0 some) f) (λ i m. digit_stays (get_or d i 0) (h i m))
+
+-- so do the sign and the digits from the start
+pub digits_lead : (s d : List ℕ) (p k : ℕ) → d ≡ drop p s → LeadsTo number (number_rest (after_sign p)) s p → 0 < k → k ≤ length d → ((i : ℕ) → i < k → is_digit (get_or d i 0) ≡ true) → get_or d 0 0 ≢ 48
+    → LeadsTo number (number_rest n.Whole) s (p + k)
+digits_lead s d p k e sign some fits h f = leads_on number (number_rest (after_sign p)) (number_rest n.Whole) s d p k e sign (whole_leads d p k some fits h f)
 
 -- a lower-case letter, and such letters and digits, lead to what may follow in a lower-case word
 pub lowers_lead : (s b : List ℕ) (n : ℕ) → b ≡ s → 0 < n → n ≤ length b → ((i : ℕ) → i < n → is_lower (get_or b i 0) ≡ true) → is_digit (get_or b 0 0) ≡ false
@@ -335,11 +344,24 @@ digit_past c l = grind (arith, nat_tests)
 whole_past : (c : ℕ) → 128 ≤ c → ends_whole c ≡ true
 whole_past c l = grind (arith, nat_tests)
 
--- digits are the number, where no fraction or exponent follows
-pub digits_end : (s b : List ℕ) (k : ℕ) → b ≡ s → 0 < k → k ≤ length b → ((i : ℕ) → i < k → is_digit (get_or b i 0) ≡ true) → get_or b 0 0 ≢ 48 → (k < length b → is_digit (get_or b k 0) ≡ false)
-    → (k < length b → ends_whole (get_or b k 0) ≡ true) → Greatest (IsPrefixOf number s) (Some k)
-digits_end s b k e p fits h f stops other = subst (λ (z : List ℕ). Greatest (IsPrefixOf number z) (Some k)) e
-    (run_ends number (number_rest n.Whole) b k (digits_lead b b k refl p fits h f) refl (λ c m. number_dead c (digit_past c m) (whole_past c m)) (λ m. number_dead (get_or b k 0) (stops m) (other m)))
+zero_none : (c : ℕ) → ends_whole c ≡ true → number_step n.Zero c ≡ None
+zero_none c e = grind (arith, nat_tests)
+
+zero_dead : (c : ℕ) → ends_whole c ≡ true → derivative c (number_rest n.Zero) ≡ nothing
+zero_dead c e = number_steps n.Zero c ∙ ap (after_next NumberState number_rest) (zero_none c e)
+
+-- the sign and the digits are the number, where no fraction or exponent follows
+pub digits_end : (s d : List ℕ) (p k : ℕ) → d ≡ drop p s → LeadsTo number (number_rest (after_sign p)) s p → 0 < k → k ≤ length d → ((i : ℕ) → i < k → is_digit (get_or d i 0) ≡ true) → get_or d 0 0 ≢ 48
+    → (k < length d → is_digit (get_or d k 0) ≡ false) → (k < length d → ends_whole (get_or d k 0) ≡ true) → Greatest (IsPrefixOf number s) (Some (p + k))
+digits_end s d p k e sign some fits h f stops other = front_behind number (number_rest (after_sign p)) s d p k e sign
+    (run_ends (number_rest (after_sign p)) (number_rest n.Whole) d k (whole_leads d p k some fits h f) refl (λ c m. number_dead c (digit_past c m) (whole_past c m)) (λ m. number_dead (get_or d k 0) (stops m) (other m)))
+
+-- the sign and a 0 are the number, where no fraction or exponent follows
+pub zero_end : (s d : List ℕ) (p : ℕ) → d ≡ drop p s → LeadsTo number (number_rest (after_sign p)) s p → 0 < length d → get_or d 0 0 ≡ 48 → (1 < length d → ends_whole (get_or d 1 0) ≡ true)
+    → Greatest (IsPrefixOf number s) (Some (p + 1))
+zero_end s d p e sign some first other = front_behind number (number_rest (after_sign p)) s d p 1 e sign
+    (run_ends (number_rest (after_sign p)) (number_rest n.Zero) d 1 (first_byte (number_rest (after_sign p)) (number_rest n.Zero) 48 d d refl (omega arith) (zero_first p) some first) refl
+    (λ c m. zero_dead c (whole_past c m)) (λ m. zero_dead (get_or d 1 0) (other m)))
 
 label_none : (c : ℕ) → is_lower c ≡ false → c ≢ 45 → label_step l.Lower c ≡ None
 label_none c e f = grind (arith, nat_tests)

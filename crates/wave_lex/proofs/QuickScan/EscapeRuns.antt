@@ -5,7 +5,7 @@ use Rattle.std.specs.Char.{digit_value}
 use Rattle.std.specs.Str.{IsUtf8, chars, IsCharBoundary}
 use Rattle.std.specs.Str.Parse.{AllDigits}
 use Rattle.std.proofs.lemmas.Bool.Decides.{nat_tests}
-use Rattle.std.proofs.lemmas.Str.{IsUtf8-take, encodes-chars, encodes-append}
+use Rattle.std.proofs.lemmas.Str.{IsUtf8-take, encodes-chars}
 use Rattle.std.proofs.Math.Seq.{take-append_seam}
 use Rattle.wave_lex.specs.Regex.{Regex}
 use Rattle.wave_lex.specs.Derive.{derivative, derivative_by, after_next}
@@ -27,22 +27,8 @@ use Rattle.wave_lex.proofs.LongestPrefix.MachineWalks.{after_all_append}
 use Rattle.wave_lex.proofs.Machines.Steps.{string_steps}
 use Rattle.wave_lex.proofs.StringDecoding.Parts.{AllAscii, ascii_append, digit_ascii, digits_ascii, short_ascii}
 use Rattle.wave_lex.proofs.StringDecoding.EscapesFound.{all_digits, closed_at}
-use Rattle.wave_lex.proofs.QuickScan.Prefixes.{take_plus, ascii_leads, cut_here, run_ends}
+use Rattle.wave_lex.proofs.QuickScan.Prefixes.{cut_here, first_byte, leads_on, run_ends}
 use Rattle.wave_lex.proofs.QuickScan.ByteRuns.{ArePlain, plains_stay, plain_taken, not_plain_ascii}
-
--- what leads on from where something leads
-pub leads_on : (r q w : Regex) (s t : List ℕ) (p k : ℕ) → t ≡ drop p s → LeadsTo r q s p → LeadsTo q w t k → LeadsTo r w s (p + k)
-leads_on r q w s t p k e h f =
-    let long : length t ≡ length (drop p s) = ap length e in
-    let fits : p ≤ length s = h.fits in
-    let inside : k ≤ length t = f.fits in
-    record {
-      scalars = h.scalars ++ f.scalars;
-      fits = omega (arith, length-drop p s);
-      spelled = encodes-append h.scalars f.scalars ∙ (ap (λ (z : List ℕ). z ++ encode_utf8_all f.scalars) h.spelled
-          ∙ (ap (λ (z : List ℕ). take p s ++ z) (f.spelled ∙ ap (λ (z : List ℕ). take k z) e) ∙ sym (take_plus s p k fits)));
-      has = after_all_append h.scalars f.scalars r ∙ (ap (λ (z : Regex). derivative_by f.scalars z) h.has ∙ f.has);
-    }
 
 -- ---- escapes
 
@@ -177,18 +163,9 @@ pub plains_here : (s b : List ℕ) (n : ℕ) → b ≡ s → IsUtf8 s → IsPlai
 plains_here s b n e u run = subst (λ (z : List ℕ). LeadsTo (string_rest string.Inside) (string_rest string.Inside) z n) e
     (plains_go b n (subst IsUtf8 (sym e) u) run.within run.all (cut_here b n run.within (λ l. not_plain_ascii (get_or b n 0) (run.stops l))))
 
--- a byte of ASCII leads from one shape to another
-pub first_byte : (r q : Regex) (m : ℕ) (s : List ℕ) → m < 128 → derivative m r ≡ q → 0 < length s → get_or s 0 0 ≡ m → LeadsTo r q s 1
-first_byte r q m [] a h l e = let w : ⊥ = omega arith in absurd w
-first_byte r q m (b ∷ s) a h l e = ascii_leads r q (b ∷ s) 1 (omega arith) (λ i k. first i k) (ap (λ (z : ℕ). derivative z r) e ∙ h)
-  where
-    first : (i : ℕ) → i < 1 → get_or (b ∷ s) i 0 < 128
-    first zero k = omega arith
-    first (suc i) k = let w : ⊥ = omega arith in absurd w
-
 -- a quote leads into a string
 pub quote_leads : (s b : List ℕ) → b ≡ s → 0 < length b → get_or b 0 0 ≡ 34 → LeadsTo string (string_rest string.Inside) s 1
-quote_leads s b e l q = subst (λ (z : List ℕ). LeadsTo string (string_rest string.Inside) z 1) e (first_byte string (string_rest string.Inside) 34 b (omega arith) refl l q)
+quote_leads s b e l q = first_byte string (string_rest string.Inside) 34 s b e (omega arith) refl l q
 
 -- a quote and plain bytes lead into a string
 pub plains_lead : (s b t p : List ℕ) (n : ℕ) → b ≡ s → 0 < length b → get_or b 0 0 ≡ 34 → t ≡ drop 1 s → IsUtf8 t → p ≡ t → IsPlainRun p n → LeadsTo string (string_rest string.Inside) s (n + 1)
@@ -205,5 +182,5 @@ string_closes s b n e h l q =
     let none : n + 0 ≡ n = omega arith in
     let there : get_or (drop n s) 0 0 ≡ 34 = get_or-drop n s 0 0 ∙ (ap (λ (z : ℕ). get_or s z 0) none ∙ (ap (λ (z : List ℕ). get_or z n 0) (sym e) ∙ q)) in
     run_ends string (string_rest string.Close) s (n + 1)
-    (leads_on string (string_rest string.Inside) (string_rest string.Close) s (drop n s) n 1 refl h (first_byte (string_rest string.Inside) (string_rest string.Close) 34 (drop n s) (omega arith) refl some there))
+    (leads_on string (string_rest string.Inside) (string_rest string.Close) s (drop n s) n 1 refl h (first_byte (string_rest string.Inside) (string_rest string.Close) 34 (drop n s) (drop n s) refl (omega arith) refl some there))
     refl (λ c _. string_steps string.Close c) (λ _. string_steps string.Close (get_or s (n + 1) 0))

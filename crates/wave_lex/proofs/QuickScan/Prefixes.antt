@@ -72,6 +72,20 @@ front_behind r q s t p k e h g = (
   ],
 )
 
+-- what leads on from where something leads
+pub leads_on : (r q w : Regex) (s t : List ℕ) (p k : ℕ) → t ≡ drop p s → LeadsTo r q s p → LeadsTo q w t k → LeadsTo r w s (p + k)
+leads_on r q w s t p k e h f =
+    let long : length t ≡ length (drop p s) = ap length e in
+    let fits : p ≤ length s = h.fits in
+    let inside : k ≤ length t = f.fits in
+    record {
+      scalars = h.scalars ++ f.scalars;
+      fits = omega (arith, length-drop p s);
+      spelled = encodes-append h.scalars f.scalars ∙ (ap (λ (z : List ℕ). z ++ encode_utf8_all f.scalars) h.spelled
+          ∙ (ap (λ (z : List ℕ). take p s ++ z) (f.spelled ∙ ap (λ (z : List ℕ). take k z) e) ∙ sym (take_plus s p k fits)));
+      has = after_all_append h.scalars f.scalars r ∙ (ap (λ (z : Regex). derivative_by f.scalars z) h.has ∙ f.has);
+    }
+
 -- what leads to q passes no prefix of r
 abbrev pub PassesNone : Regex → Regex → Type 0
 PassesNone r q = (x y : List ℕ) → nullable (derivative_by x r) ≡ true → derivative_by (x ++ y) r ≡ q → ⊥
@@ -128,6 +142,19 @@ ascii_leads r q s n l a e = record { scalars = take n s; fits = l; spelled = asc
 pub run_leads : (r q : Regex) (s : List ℕ) (n : ℕ) → 0 < n → n ≤ length s → ((i : ℕ) → i < n → get_or s i 0 < 128) → derivative (get_or s 0 0) r ≡ q
     → ((i : ℕ) → i < n → derivative (get_or s i 0) q ≡ q) → LeadsTo r q s n
 run_leads r q s n p l a f h = ascii_leads r q s n l a (run_from r q s n p l f h)
+
+-- a byte of ASCII leads from one shape to another
+first_leads : (r q : Regex) (m : ℕ) (s : List ℕ) → m < 128 → derivative m r ≡ q → 0 < length s → get_or s 0 0 ≡ m → LeadsTo r q s 1
+first_leads r q m [] a h l e = let w : ⊥ = omega arith in absurd w
+first_leads r q m (b ∷ s) a h l e = ascii_leads r q (b ∷ s) 1 (omega arith) (λ i k. first i k) (ap (λ (z : ℕ). derivative z r) e ∙ h)
+  where
+    first : (i : ℕ) → i < 1 → get_or (b ∷ s) i 0 < 128
+    first zero k = omega arith
+    first (suc i) k = let w : ⊥ = omega arith in absurd w
+
+-- the same, of what the code takes as the bytes
+pub first_byte : (r q : Regex) (m : ℕ) (s b : List ℕ) → b ≡ s → m < 128 → derivative m r ≡ q → 0 < length b → get_or b 0 0 ≡ m → LeadsTo r q s 1
+first_byte r q m s b e a h l f = subst (λ (z : List ℕ). LeadsTo r q z 1) e (first_leads r q m b a h l f)
 
 -- after a run of ASCII
 pub behind_run : (s : List ℕ) (n : ℕ) → IsUtf8 s → n ≤ length s → ((i : ℕ) → i < n → get_or s i 0 < 128) → IsCharBoundary s n

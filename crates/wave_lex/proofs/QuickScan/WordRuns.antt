@@ -12,9 +12,8 @@ use Rattle.wave_lex.specs.declared.machine.label.LabelState.TheVariants as l
 use Rattle.wave_lex.specs.declared.machine.label.LabelTokenState.{LabelTokenState}
 use Rattle.wave_lex.specs.declared.machine.label.LabelTokenState.TheVariants as token
 use Rattle.wave_lex.proofs.Machines.Steps.{label_token_steps}
-use Rattle.wave_lex.proofs.QuickScan.Prefixes.{run_leads, run_ends}
+use Rattle.wave_lex.proofs.QuickScan.Prefixes.{first_byte, leads_on, run_leads, run_ends}
 use Rattle.wave_lex.proofs.QuickScan.ByteRuns.{lower_ascii, lower_begins, lower_past, lower_stays, lowers_lead, label_dead}
-use Rattle.wave_lex.proofs.QuickScan.EscapeRuns.{first_byte, leads_on}
 
 -- what may follow in a lower-case word
 abbrev in_word : Regex
@@ -41,7 +40,7 @@ word_leads b d n e some hyphen letter p fits h =
     let first : get_or d 0 0 ≡ get_or b 1 0 = ap (λ (z : List ℕ). get_or z 0 0) e ∙ get_or-drop 1 b 0 0 in
     subst (λ (z : ℕ). LeadsTo in_word in_word b z) same
     (leads_on in_word behind_hyphen in_word b d 1 n e
-    (first_byte in_word behind_hyphen 45 b (omega arith) (label_token_steps (token.Label l.Lower) 45) some hyphen)
+    (first_byte in_word behind_hyphen 45 b b refl (omega arith) (label_token_steps (token.Label l.Lower) 45) some hyphen)
     (run_leads behind_hyphen in_word d n p fits (λ i k. lower_ascii (get_or d i 0) (h i k)) (letter_first (get_or d 0 0) (h 0 p) (ap is_digit first ∙ letter)) (λ i k. lower_stays (get_or d i 0) (h i k))))
 
 -- what the code counts as a word behind a hyphen

@@ -1,12 +1,19 @@
--- What the machines of whitespace and of invalid tokens read next, and what may still follow; tests of single bytes.
-use Rattle.std.specs.Prelude.{ℕ, ◌||◌, Bool, not, if◌then◌else◌, nat_eq, [], ◌∷◌, Option, Some, None}
+-- What the machines of whitespace and of invalid tokens read next, and what may still follow; the state after a sign; tests of single bytes.
+use Rattle.std.specs.Prelude.{ℕ, zero, suc, ◌||◌, Bool, not, if◌then◌else◌, nat_eq, [], ◌∷◌, Option, Some, None}
 use Rattle.wave_lex.specs.Regex.{Regex}
 use Rattle.wave_lex.specs.Derive.{derivative_by}
 use Rattle.wave_lex.specs.Tokens.{gap, invalid}
+use Rattle.wave_lex.specs.declared.machine.number.NumberState.TheVariants as n
+use Rattle.wave_lex.specs.declared.machine.number.NumberState.{NumberState}
 use Rattle.wave_lex.specs.declared.machine.gap.GapState.TheVariants as gap
 use Rattle.wave_lex.specs.declared.machine.gap.GapState.{GapState}
 use Rattle.wave_lex.specs.declared.machine.invalid.InvalidState.TheVariants as invalid
 use Rattle.wave_lex.specs.declared.machine.invalid.InvalidState.{InvalidState}
+
+-- the state of a number after a sign of so many bytes
+abbrev pub after_sign : ℕ → NumberState
+after_sign zero = n.Start
+after_sign (suc k) = n.Minus
 
 -- not `.`, `e` or `E`
 abbrev pub ends_whole : ℕ → Bool

@@ -4,8 +4,8 @@
 ghost use Rattle.std.specs.Prelude.{◌≡◌, ℕ, ◌<◌, ◌≤◌, true, false, is_some, length, drop, slice_index};
 ghost use Rattle.wave_lex.specs.LongestMatch.{Greatest, IsPrefixOf};
 ghost use Rattle.wave_lex.specs.Strings.{short_escape};
-ghost use Rattle.wave_lex.specs.Private.Machines.{ends_whole, is_blank, is_plain};
-ghost use Rattle.wave_lex.specs.Machines.{is_digit, is_lower, string_rest};
+ghost use Rattle.wave_lex.specs.Private.Machines.{after_sign, ends_whole, is_blank, is_plain};
+ghost use Rattle.wave_lex.specs.Machines.{is_digit, is_lower, number_rest, string_rest};
 ghost use Rattle.wave_lex.specs.Private.Reading.{LeadsTo, EndsWord, IsPlainRun, IsStep, IsWordStep};
 ghost use Rattle.wave_lex.specs.declared.machine.string.StringState.TheVariants.{Inside};
 ghost use Rattle.wave_lex.specs.Tokenization.{IsGap};
@@ -65,24 +65,32 @@ pub fn mark_at(mark: u8, text: &str) -> Option<usize>
 pub fn number_at(text: &str) -> Option<usize>
     ensures { Greatest (IsPrefixOf number text.now) result }
 {
-    let bytes = text.as_bytes();
-    let run = digits(bytes);
+    let sign = sign_at(text);
+    let whole = &text.as_bytes()[sign..];
+    let run = digits(whole);
     if run == 0 {
         return longest_prefix(NumberState::Start, text);
     }
-    if bytes[0] == b'0' {
+    if whole[0] == b'0' {
+        if whole.len() == 1 {
+            return Some(sign + 1);
+        }
+        if ends_whole(whole[1]) {
+            return Some(sign + 1);
+        }
         return longest_prefix(NumberState::Start, text);
     }
-    if run == bytes.len() {
-        return Some(run);
+    let end = sign + run;
+    if run == whole.len() {
+        return Some(end);
     }
-    if ends_whole(bytes[run]) {
-        return Some(run);
+    if ends_whole(whole[run]) {
+        return Some(end);
     }
-    let Some(more) = longest_prefix(NumberState::Whole, &text[run..]) else {
+    let Some(more) = longest_prefix(NumberState::Whole, &text[end..]) else {
         return None;
     };
-    Some(run + more)
+    Some(end + more)
 }
 
 /// How many bytes the longest label or keyword at the start takes.
@@ -146,6 +154,21 @@ pub fn multiline_at(text: &str) -> Option<usize>
     let inside = text.strip_prefix("\"\"\"")?;
     let count = memmem::find(inside.as_bytes(), b"\"\"\"")?;
     Some(count + 6)
+}
+
+/// How many bytes the sign at the start takes: one, or none where no sign stands there.
+fn sign_at(text: &str) -> usize
+    ensures within { result ≤ length text.now }
+    ensures leads { LeadsTo number (number_rest (after_sign result)) text.now result }
+{
+    let bytes = text.as_bytes();
+    if bytes.len() == 0 {
+        return 0;
+    }
+    if bytes[0] != b'-' {
+        return 0;
+    }
+    1
 }
 
 /// Where the lower-case words end that stand from this place on, each after a hyphen.

@@ -2,7 +2,7 @@ use Rattle.std.proofs.Common.{refl}
 use Rattle.wave_lex.specs.Tokens.{string}
 use Rattle.wave_lex.specs.Machines.{string_rest}
 use Rattle.wave_lex.specs.declared.machine.string.StringState.TheVariants.{Inside}
-use Rattle.wave_lex.proofs.QuickScan.EscapeRuns.{leads_on}
+use Rattle.wave_lex.proofs.QuickScan.Prefixes.{leads_on}
 use Rattle.wave_lex.proofs.lex.scan.inside_end.Goals as goal
 
 pub loop-count-preserved : goal.loop-count-preserved

@@ -1,23 +1,38 @@
-use Rattle.std.proofs.Common.{refl, arith, sym, ◌∙◌}
+use Rattle.std.proofs.Common.{◌≡◌, ℕ, ◌-◌, List, refl, arith, sym, ap, length, take, drop, ◌∙◌}
+use Rattle.std.proofs.lemmas.List.{take_rest}
 use Rattle.wave_lex.specs.Tokens.{number}
 use Rattle.wave_lex.specs.Machines.{number_rest}
 use Rattle.wave_lex.specs.declared.machine.number.NumberState.TheVariants.{Whole}
-use Rattle.wave_lex.proofs.QuickScan.Prefixes.{front_there, front_behind}
-use Rattle.wave_lex.proofs.QuickScan.ByteRuns.{digits_end, digits_cut, digits_lead}
+use Rattle.wave_lex.proofs.QuickScan.Prefixes.{front_there, front_behind, lead_boundary}
+use Rattle.wave_lex.proofs.QuickScan.ByteRuns.{digits_end, digits_lead, zero_end}
 use Rattle.wave_lex.proofs.lex.scan.number_at.Goals as goal
 
+-- what stands behind the sign
+behind_sign : (s b : List ℕ) (p : ℕ) → b ≡ s → take (length b - p) (drop p b) ≡ drop p s
+behind_sign s b p e = take_rest b p ∙ ap (drop p) e
+
 pub range_from-requires : goal.range_from-requires
-range_from-requires c = λ _. digits_cut _ _ _ c.as_bytes-bytes.ensures.value c.utf8.text c.digits-run.ensures.within c.digits-run.ensures.all
+range_from-requires c = λ _. lead_boundary _ _ _ _ c.utf8.text
+    (digits_lead _ _ _ _ (behind_sign _ _ _ c.as_bytes.ensures.value) c.sign_at-sign.ensures.leads (omega arith) c.digits-run.ensures.within c.digits-run.ensures.all c.if-whole-eq48.false)
 
 pub returns-in_default : goal.returns-in_default
 returns-in_default c = absurd (front_there (number_rest Whole) _ refl c.in_default.ensures)
 
 pub returns : goal.returns
 returns c = front_behind number (number_rest Whole) _ _ _ _ c.range_from.ensures.value
-    (digits_lead _ _ _ c.as_bytes-bytes.ensures.value (omega arith) c.digits-run.ensures.within c.digits-run.ensures.all c.if-bytes-eq48.false) c.in-Some.ensures
+    (digits_lead _ _ _ _ (behind_sign _ _ _ c.as_bytes.ensures.value) c.sign_at-sign.ensures.leads (omega arith) c.digits-run.ensures.within c.digits-run.ensures.all c.if-whole-eq48.false)
+    c.in-Some.ensures
 
-pub returns-then-run-bytes : goal.returns-then-run-bytes
-returns-then-run-bytes c = digits_end _ _ _ c.as_bytes-bytes.ensures.value (omega arith) c.digits-run.ensures.within c.digits-run.ensures.all c.if-bytes-eq48.false c.digits-run.ensures.stops (λ k. let w : ⊥ = omega arith in absurd w)
+pub returns-then-run-whole : goal.returns-then-run-whole
+returns-then-run-whole c = digits_end _ _ _ _ (behind_sign _ _ _ c.as_bytes.ensures.value) c.sign_at-sign.ensures.leads (omega arith) c.digits-run.ensures.within c.digits-run.ensures.all c.if-whole-eq48.false
+    c.digits-run.ensures.stops (λ k. let w : ⊥ = omega arith in absurd w)
+
+pub returns-then-ends_whole-2 : goal.returns-then-ends_whole-2
+returns-then-ends_whole-2 c = digits_end _ _ _ _ (behind_sign _ _ _ c.as_bytes.ensures.value) c.sign_at-sign.ensures.leads (omega arith) c.digits-run.ensures.within c.digits-run.ensures.all c.if-whole-eq48.false
+    c.digits-run.ensures.stops (λ k. sym c.ends_whole-2.ensures ∙ c.if-ends_whole-2.true)
+
+pub returns-then-whole-eq1 : goal.returns-then-whole-eq1
+returns-then-whole-eq1 c = zero_end _ _ _ (behind_sign _ _ _ c.as_bytes.ensures.value) c.sign_at-sign.ensures.leads (omega arith) (omega arith) (λ k. let w : ⊥ = omega arith in absurd w)
 
 pub returns-then-ends_whole : goal.returns-then-ends_whole
-returns-then-ends_whole c = digits_end _ _ _ c.as_bytes-bytes.ensures.value (omega arith) c.digits-run.ensures.within c.digits-run.ensures.all c.if-bytes-eq48.false c.digits-run.ensures.stops (λ k. sym c.ends_whole.ensures ∙ c.if-ends_whole.true)
+returns-then-ends_whole c = zero_end _ _ _ (behind_sign _ _ _ c.as_bytes.ensures.value) c.sign_at-sign.ensures.leads (omega arith) (omega arith) (λ k. sym c.ends_whole.ensures ∙ c.if-ends_whole.true)
