@@ -9,10 +9,9 @@ ghost use Rattle.wave_lex.specs.Classes.{class_of, ClassAt};
 ghost use Rattle.wave_lex.specs.Private.Reading.{TokenAt, IsMark, IsFirstMark};
 
 pub use self::func_name::FuncNameLexer;
-use self::scan::{gap_at, label_at, mark_at, multiline_at, number_at, string_at};
+use self::scan::{char_at, gap_at, label_at, mark_at, multiline_at, number_at, string_at};
 use crate::asked::Asked;
 use crate::found::Found;
-use crate::machine::character::CharState;
 use crate::machine::invalid::InvalidState;
 use crate::machine::longest_prefix;
 use std::fmt;
@@ -147,7 +146,7 @@ fn longest_in(class: Token, text: &str) -> Option<usize>
         Token::Comma => mark_at(b',', text),
         Token::Number => number_at(text),
         Token::LabelOrKeyword => label_at(text),
-        Token::Char => longest_prefix(CharState::Start, text),
+        Token::Char => char_at(text),
         Token::String => string_at(text),
         Token::MultilineString => multiline_at(text),
     }

@@ -29,7 +29,7 @@ use Rattle.wave_lex.specs.declared.machine.string.StringState.{StringState}
 use Rattle.wave_lex.specs.declared.machine.string.StringState.TheVariants as string
 use Rattle.wave_lex.proofs.LongestPrefix.MachineWalks.{after_all_append, after_all_nothing}
 use Rattle.wave_lex.proofs.Machines.Steps.{gap_steps, number_steps, label_token_steps, string_steps}
-use Rattle.wave_lex.proofs.QuickScan.Prefixes.{front_behind, PassesNone, behind_run, ascii_leads, first_byte, leads_on, run_stays, run_leads, run_ends}
+use Rattle.wave_lex.proofs.QuickScan.Prefixes.{front_behind, PassesNone, behind_run, ascii_leads, empty_front, first_byte, leads_on, run_stays, run_leads, run_ends}
 
 -- ---- blanks
 
@@ -244,17 +244,6 @@ inside_none x y t e = elim (string_goes x string.Start) as (λ _. ⊥) [
 ]
 
 -- ---- marks
-
--- the shape of no scalar has the prefix of no byte alone
-empty_front : (t : List ℕ) → Greatest (IsPrefixOf empty t) (Some 0)
-empty_front t = (
-  record { scalars = []; fits = omega arith; spelled = refl; has = refl },
-  λ j f.
-      let fits : j ≤ length t = f.fits in
-      let none : encode_utf8_all f.scalars ≡ [] = ap encode_utf8_all f.has in
-      let long : length (take j t) ≡ 0 = ap length (sym f.spelled ∙ none) in
-      omega (arith, length-take-le j t fits),
-)
 
 mark_taken : (m : ℕ) → is_within m m m ≡ true
 mark_taken m = grind (arith, nat_tests)

@@ -1,14 +1,14 @@
 -- The longest prefix of a text whose first bytes are read without a machine.
-use Rattle.std.proofs.Common.{◌≡◌, ℕ, ◌≤◌, ◌<◌, ◌+◌, ◌-◌, true, false, zero, suc, List, [], ◌∷◌, ◌++◌, inl, inr, refl, sym, ap, subst, ◌∙◌, length, take, drop, arith, get_or, Some, None, length-drop, length-take-le, append_assoc}
+use Rattle.std.proofs.Common.{◌≡◌, ℕ, ◌≤◌, ◌<◌, ◌+◌, ◌-◌, true, false, zero, suc, List, [], ◌∷◌, ◌++◌, inl, inr, refl, sym, ap, subst, ◌∙◌, length, take, drop, arith, get_or, Some, None, length-append, length-drop, length-take-le, append_assoc}
 use Rattle.std.specs.Prelude.{nat_lt, encode_utf8, encode_utf8_all}
 use Rattle.std.specs.Str.{IsUtf8, IsCharBoundary}
 use Rattle.std.proofs.lemmas.Bool.{cases_lt}
 use Rattle.std.proofs.lemmas.Bool.Decides.{nat_tests}
-use Rattle.std.proofs.lemmas.List.{append_cancel_left, take-append-drop}
-use Rattle.std.proofs.Math.Seq.{take-append-add}
+use Rattle.std.proofs.lemmas.List.{append_cancel_left, append-nil, take-append-drop}
+use Rattle.std.proofs.Math.Seq.{drop-append_seam, take-append-add, take-append_seam}
 use Rattle.std.proofs.lemmas.Str.{encodes-append, encode_ascii, IsCharBoundary-start, IsCharBoundary-end, IsCharBoundary-after_ascii, IsCharBoundary-before_ascii}
 use Rattle.wave_lex.specs.Tokens.{any}
-use Rattle.wave_lex.specs.Regex.{star, Regex, nothing, Matches}
+use Rattle.wave_lex.specs.Regex.{star, Regex, nothing, empty, Matches}
 use Rattle.wave_lex.specs.Derive.{nullable, derivative, derivative_by}
 use Rattle.wave_lex.specs.LongestMatch.{Greatest, IsPrefixOf}
 use Rattle.wave_lex.specs.Private.Reading.{LeadsTo}
@@ -71,6 +71,25 @@ front_behind r q s t p k e h g = (
         omega arith
   ],
 )
+
+-- the shape of no scalar has the prefix of no byte alone
+pub empty_front : (t : List ℕ) → Greatest (IsPrefixOf empty t) (Some 0)
+empty_front t = (
+  record { scalars = []; fits = omega arith; spelled = refl; has = refl },
+  λ j f.
+      let fits : j ≤ length t = f.fits in
+      let none : encode_utf8_all f.scalars ≡ [] = ap encode_utf8_all f.has in
+      let long : length (take j t) ≡ 0 = ap length (sym f.spelled ∙ none) in
+      omega (arith, length-take-le j t fits),
+)
+
+-- a scalar, with the longest prefix of what stands behind it
+pub scalar_behind : (r q : Regex) (s t : List ℕ) (c k : ℕ) → s ≡ encode_utf8 c ++ t → derivative c r ≡ q → Greatest (IsPrefixOf q t) (Some k) → Greatest (IsPrefixOf r s) (Some (length (encode_utf8 c) + k))
+scalar_behind r q s t c k e h g =
+    let long : length s ≡ length (encode_utf8 c) + length t = ap length e ∙ length-append (encode_utf8 c) t in
+    front_behind r q s t (length (encode_utf8 c)) k (sym (ap (drop (length (encode_utf8 c))) e ∙ drop-append_seam (encode_utf8 c) t))
+    (record { scalars = c ∷ []; fits = omega arith; spelled = append-nil (encode_utf8 c) ∙ sym (ap (take (length (encode_utf8 c))) e ∙ take-append_seam (encode_utf8 c) t); has = h })
+    g
 
 -- what leads on from where something leads
 pub leads_on : (r q w : Regex) (s t : List ℕ) (p k : ℕ) → t ≡ drop p s → LeadsTo r q s p → LeadsTo q w t k → LeadsTo r w s (p + k)

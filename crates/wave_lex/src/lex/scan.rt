@@ -1,7 +1,7 @@
 //! How many bytes whitespace or a token takes at the start of a text. Runs of bytes that leave a machine
 //! in its state are counted at once; the machine reads what stands after them. The end of a multiline
-//! string is searched.
-ghost use Rattle.std.specs.Prelude.{◌≡◌, ℕ, ◌<◌, ◌≤◌, true, false, is_some, length, drop, slice_index};
+//! string is searched, and a char of one scalar that stands for itself is told at once.
+ghost use Rattle.std.specs.Prelude.{◌≡◌, ℕ, ◌<◌, ◌≤◌, true, false, Some, IfSome, is_some, length, drop, slice_index};
 ghost use Rattle.wave_lex.specs.LongestMatch.{Greatest, IsPrefixOf};
 ghost use Rattle.wave_lex.specs.Strings.{short_escape};
 ghost use Rattle.wave_lex.specs.Private.Machines.{after_sign, ends_whole, is_blank, is_plain};
@@ -9,8 +9,9 @@ ghost use Rattle.wave_lex.specs.Machines.{is_digit, is_lower, number_rest, strin
 ghost use Rattle.wave_lex.specs.Private.Reading.{LeadsTo, EndsWord, IsPlainRun, IsStep, IsWordStep};
 ghost use Rattle.wave_lex.specs.declared.machine.string.StringState.TheVariants.{Inside};
 ghost use Rattle.wave_lex.specs.Tokenization.{IsGap};
-ghost use Rattle.wave_lex.specs.Tokens.{label_or_keyword, multiline_string, number, one, string};
+ghost use Rattle.wave_lex.specs.Tokens.{character, label_or_keyword, multiline_string, number, one, string};
 
+use crate::machine::character::CharState;
 use crate::machine::gap::GapState;
 use crate::machine::label::{LabelState, LabelTokenState};
 use crate::machine::longest_prefix;
@@ -122,6 +123,16 @@ pub fn label_at(text: &str) -> Option<usize>
     Some(place + more)
 }
 
+/// How many bytes the char at the start takes.
+pub fn char_at(text: &str) -> Option<usize>
+    ensures { Greatest (IsPrefixOf character text.now) result }
+{
+    if let Some(count) = plain_char_at(text) {
+        return Some(count);
+    }
+    longest_prefix(CharState::Start, text)
+}
+
 /// How many bytes the string in one line at the start takes.
 pub fn string_at(text: &str) -> Option<usize>
     ensures { Greatest (IsPrefixOf string text.now) result }
@@ -169,6 +180,25 @@ fn sign_at(text: &str) -> usize
         return 0;
     }
     1
+}
+
+/// How many bytes the char at the start takes, where it is one scalar that stands for itself between its
+/// quotes.
+fn plain_char_at(text: &str) -> Option<usize>
+    ensures { IfSome result (λ count. Greatest (IsPrefixOf character text.now) (Some count)) }
+{
+    let mut scalars = text.chars();
+    if scalars.next()? != '\'' {
+        return None;
+    }
+    let scalar = scalars.next()?;
+    if scalar == '\\' || scalar == '\'' || scalar == '\n' {
+        return None;
+    }
+    if scalars.next()? != '\'' {
+        return None;
+    }
+    Some(scalar.len_utf8() + 2)
 }
 
 /// Where the lower-case words end that stand from this place on, each after a hyphen.

@@ -31,7 +31,7 @@ pub returns-in-LabelOrKeyword : goal.returns-in-LabelOrKeyword
 returns-in-LabelOrKeyword c = rw c.in-LabelOrKeyword.is c.label_at.ensures
 
 pub returns-in-Char : goal.returns-in-Char
-returns-in-Char c = rw c.in-Char.is c.longest_prefix.ensures
+returns-in-Char c = rw c.in-Char.is c.char_at.ensures
 
 pub returns-in-String : goal.returns-in-String
 returns-in-String c = rw c.in-String.is c.string_at.ensures
