@@ -1,5 +1,5 @@
 //! Whole numbers, by the texts of their tokens.
-ghost use Rattle.std.specs.Prelude.{ℕ, ◌≡◌, ◌≤◌, ◌^◌, Some, None};
+ghost use Rattle.std.specs.Prelude.{ℕ, ◌≡◌, ◌≤◌, ◌^◌, length, Some, None};
 ghost use Rattle.wave_wasm.specs.Types.{s64, u64};
 ghost use Rattle.wave_grammar.specs.NumberText.{IsNumberOf};
 ghost use Rattle.wave_grammar.specs.Private.NumberText.{IsMagnitude};
@@ -21,12 +21,15 @@ pub trait WholeNumber: Sized {
         ensures { IsNumberOf kind text.now (option_map number result) };
 }
 
+/// How many digits are few: a `u64` holds each number of so many, and not each of one digit more.
+const FEW: usize = 19;
+
 /// The number of decimal digits, where a `u64` holds it.
 fn magnitude(digits: &[u8]) -> Option<u64>
     ensures { IsMagnitude digits.now result }
 {
-    if digits.is_empty() {
-        return None;
+    if digits.len() <= FEW {
+        return few_digits(digits);
     }
     let mut number: u64 = 0;
     for &digit in digits {
@@ -36,6 +39,24 @@ fn magnitude(digits: &[u8]) -> Option<u64>
         number = number
             .checked_mul(10)?
             .checked_add(u64::from(digit - b'0'))?;
+    }
+    Some(number)
+}
+
+/// The same of few digits, where no step has to be checked.
+fn few_digits(digits: &[u8]) -> Option<u64>
+    requires { length digits.now ≤ FEW }
+    ensures { IsMagnitude digits.now result }
+{
+    if digits.is_empty() {
+        return None;
+    }
+    let mut number = 0;
+    for &digit in digits {
+        match digit {
+            b'0'..=b'9' => number = number * 10 + u64::from(digit - b'0'),
+            _ => return None,
+        }
     }
     Some(number)
 }

@@ -1,6 +1,6 @@
 -- The number of digits grows with each of them.
-use Rattle.std.proofs.Common.{ℕ, zero, suc, ◌+◌, ◌-◌, ◌*◌, ◌^◌, ◌≤◌, ◌<◌, ◌≡◌, Bool, true, false, List, [], ◌∷◌, length, get_or, drop, Option, Some, None, sym, ap, ◌∙◌, refl, arith}
-use Rattle.std.specs.Bool.{◌==◌}
+use Rattle.std.proofs.Common.{ℕ, zero, suc, ◌+◌, ◌-◌, ◌*◌, ◌^◌, ◌≤◌, ◌<◌, ◌≡◌, Bool, true, false, List, [], ◌∷◌, length, get_or, drop, Option, Some, None, sym, ap, ◌∙◌, refl, lit<, arith}
+use Rattle.std.proofs.Math.Nat.{pow-le-pow_right}
 use Rattle.wave_grammar.specs.NumberText.{digits, all_digits}
 use Rattle.wave_grammar.specs.Private.NumberText.{IsMagnitude}
 
@@ -35,13 +35,6 @@ too_great ds i m lt so_far great = λ n e.
     let after : digits m (drop i ds) ≡ Some n = sym so_far ∙ (sym (whole ds i lt) ∙ e) in
     omega (arith, grows_at ds i m n lt after)
 
--- all digits were read
-pub read_all : (ds : List ℕ) (i m : ℕ) → false ≡ (length ds == 0) → length ds ≤ i → digits 0 ds ≡ digits m (drop i ds) → all_digits ds ≡ Some m
-read_all [] i m some le so_far = absurd (cc)
-read_all (d ∷ ds) i m some le so_far = so_far ∙ ap (digits m) (ended (d ∷ ds) i le)
-  where
-    ended : (xs : List ℕ) (k : ℕ) → length xs ≤ k → drop k xs ≡ []
-    ended [] zero h = refl
-    ended [] (suc k) h = refl
-    ended (x ∷ xs) zero h = absurd (omega (arith, h))
-    ended (x ∷ xs) (suc k) h = ended xs k (omega (arith, h))
+-- up to the 18th, each power of 10 is at most that one
+pub lower_power : (i : ℕ) → i ≤ 18 → 10 ^ i ≤ 10 ^ 18
+lower_power i few = pow-le-pow_right (lit< tt) few
