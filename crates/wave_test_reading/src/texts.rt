@@ -1,11 +1,5 @@
-//! Worked rows of texts at types: what each text prints once it is read, or how it is refused; and
-//! texts of many levels.
-mod cases;
+//! Worked rows of texts at types: what each text prints once it is read, or how it is refused and shown;
+//! and a text of many levels.
+mod answers;
 mod deep;
 mod explained;
-mod maps;
-mod names;
-mod parts;
-mod records;
-mod scalars;
-mod strings;

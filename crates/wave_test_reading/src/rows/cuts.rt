@@ -10,12 +10,7 @@ use wasm_wave::value::{Type, Value};
 
 /// Whether each prefix of the text is answered as it should be at the type, without a type, and as a call.
 pub fn is_told_at_each_cut(alloc: Global, ty: &Type, text: &str) -> bool {
-    is_told_from(alloc, ty, text, 0)
-}
-
-/// Whether each prefix of the text from `first` bytes on is answered so in these ways.
-pub fn is_told_from(alloc: Global, ty: &Type, text: &str, first: usize) -> bool {
-    for end in first..text.len() {
+    for end in 0..text.len() {
         if text.is_char_boundary(end) && !is_told(alloc, ty, &text[..end]) {
             return false;
         }

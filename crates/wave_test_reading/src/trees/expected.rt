@@ -3,8 +3,6 @@
 use std::alloc::Global;
 use std::test::Fail;
 use wasm_wave::expected::{Expected, expected_at, expected_in_call_at};
-use wasm_wave::from_str;
-use wasm_wave::value::{Type, Value};
 
 /// A text, how many bytes of it stand before the place, the levels, what may stand there, and where each open
 /// bracket begins.
@@ -31,14 +29,11 @@ const ROWS: &[Row] = &[
     ("{a, b c", 5, 100, "',' or '}'", &[0]),
     ("{1 2", 2, 100, "':'", &[0]),
     ("{a: ", 4, 100, "a value", &[0]),
-    ("{a: 1 b: 2}", 5, 100, "',' or '}'", &[0]),
+    ("{must-have: 1 optional: 2}", 14, 100, "',' or '}'", &[0]),
     ("{a: 1, ", 7, 100, "a label, another key or '}'", &[0]),
     ("[some(ok({a: (1", 15, 100, "',' or ')'", &[0, 5, 8, 9, 13]),
     ("[(1), {a: []}, some(2) 3", 22, 100, "',' or ']'", &[0]),
-];
-
-/// The same where few levels are allowed: no value is named past the last.
-const LEVELS: &[Row] = &[
+    // Where few levels are allowed: no value is named past the last.
     ("", 0, 0, "nothing", &[]),
     ("", 0, 1, "a value", &[]),
     ("(", 1, 1, "nothing", &[0]),
@@ -49,10 +44,7 @@ const LEVELS: &[Row] = &[
     ("a", 1, 2, "'(' or the end", &[]),
     ("{a", 2, 1, "',' or '}'", &[0]),
     ("{", 1, 1, "a label, ':' or '}'", &[0]),
-];
-
-/// The same after tokens that begin no value, and before what is no token.
-const OTHER: &[Row] = &[
+    // After tokens that begin no value, and before what is no token.
     ("] 1", 3, 100, "nothing", &[]),
     ("()", 2, 100, "nothing", &[]),
     ("{a, a", 5, 100, "nothing", &[0]),
@@ -81,10 +73,7 @@ const CALLS: &[CallRow] = &[
     ("f(some", 6, "'('", &[1]),
     ("f([1, {a: 2", 11, "',' or '}'", &[1, 2, 6]),
     ("a:b/c.d@1.0.0(", 14, "a value or ')'", &[13]),
-];
-
-/// The same after tokens that begin no parameters.
-const NO_CALLS: &[CallRow] = &[
+    // After tokens that begin no parameters.
     ("f 1", 3, "nothing", &[]),
     ("f [", 3, "nothing", &[2]),
     ("f() ()", 6, "nothing", &[]),
@@ -122,14 +111,6 @@ fn wrong(alloc: Global, rows: &[Row]) -> Result<String, Fail> {
     Ok(String::new(alloc))
 }
 
-/// What may stand at the place of the call, in words; nothing where no name ends by it.
-fn told_in_call(alloc: Global, text: &str, at: usize) -> Result<Option<String>, Fail> {
-    match expected_in_call_at(alloc, text, at)? {
-        Some(expected) => Ok(Some(expected.words(alloc)?)),
-        None => Ok(None),
-    }
-}
-
 /// The first row of a call that is answered otherwise, with the words; nothing where there is none.
 fn wrong_call(alloc: Global, rows: &[CallRow]) -> Result<String, Fail> {
     for row in rows {
@@ -146,70 +127,21 @@ fn wrong_call(alloc: Global, rows: &[CallRow]) -> Result<String, Fail> {
 }
 
 #[test]
-fn in_a_call(rt: HostRuntime) -> Result<(), Fail> {
-    let wrong = wrong_call(rt.alloc(), CALLS)?;
-    assert!(rt; wrong.as_str() == "");
-    let wrong = wrong_call(rt.alloc(), NO_CALLS)?;
-    assert!(rt; wrong.as_str() == "");
-    Ok(())
-}
-
-#[test]
-fn without_a_name(rt: HostRuntime) -> Result<(), Fail> {
-    for row in NO_NAMES {
-        let (text, at) = *row;
-        if told_in_call(rt.alloc(), text, at)?.is_some() {
-            return Err(Fail::new(format_args!("{text} has a name by {at}")));
-        }
-    }
-    Ok(())
-}
-
-#[test]
-fn within_the_levels_of_a_call(rt: HostRuntime) -> Result<(), Fail> {
-    let mut text = String::from_str(rt.alloc(), "f(")?;
-    for _ in 0..99 {
-        text.push_str("[")?;
-    }
-    let told = told_in_call(rt.alloc(), text.as_str(), 101)?;
-    assert!(rt; told.as_deref() == Some("a value or ']'"));
-    text.push_str("[")?;
-    let told = told_in_call(rt.alloc(), text.as_str(), 102)?;
-    assert!(rt; told.as_deref() == Some("']'"));
-    Ok(())
-}
-
-#[test]
-fn after_the_tokens_before(rt: HostRuntime) -> Result<(), Fail> {
+fn in_a_value(rt: HostRuntime) -> Result<(), Fail> {
     let wrong = wrong(rt.alloc(), ROWS)?;
     assert!(rt; wrong.as_str() == "");
     Ok(())
 }
 
 #[test]
-fn within_the_levels(rt: HostRuntime) -> Result<(), Fail> {
-    let wrong = wrong(rt.alloc(), LEVELS)?;
+fn in_a_call(rt: HostRuntime) -> Result<(), Fail> {
+    let wrong = wrong_call(rt.alloc(), CALLS)?;
     assert!(rt; wrong.as_str() == "");
-    Ok(())
-}
-
-#[test]
-fn after_no_value(rt: HostRuntime) -> Result<(), Fail> {
-    let wrong = wrong(rt.alloc(), OTHER)?;
-    assert!(rt; wrong.as_str() == "");
-    Ok(())
-}
-
-#[test]
-fn where_a_text_is_refused(rt: HostRuntime) -> Result<(), Fail> {
-    let text = "{must-have: 1 optional: 2}";
-    match from_str::<Value>(rt.alloc(), &Type::U8, text) {
-        Ok(_) => Err(Fail::new(format_args!("{text} is read"))),
-        Err(error) => {
-            let expected = expected_at(rt.alloc(), text, error.span().start, 100)?;
-            let words = expected.words(rt.alloc())?;
-            assert!(rt; words.as_str() == "',' or '}'");
-            Ok(())
+    for row in NO_NAMES {
+        let (text, at) = *row;
+        if expected_in_call_at(rt.alloc(), text, at)?.is_some() {
+            return Err(Fail::new(format_args!("{text} has a name by {at}")));
         }
     }
+    Ok(())
 }

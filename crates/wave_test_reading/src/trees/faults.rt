@@ -4,7 +4,7 @@ use crate::rows::reading::wrong_fault;
 use std::test::Fail;
 
 /// A type, a text, what reading the text tells of it, and what reading its untyped value tells.
-const ROWS: [(&str, &str, &str, &str); 38] = [
+const ROWS: &[(&str, &str, &str, &str)] = &[
     (
         "tuple<u8>",
         "(300, 1)",
@@ -36,12 +36,6 @@ const ROWS: [(&str, &str, &str, &str); 38] = [
         "error converting Wasm value: expected 1 tuple elements; got 2 at 5..13",
     ),
     (
-        "option<tuple<u8>>",
-        "(300, 1)",
-        "invalid value at 1..4",
-        "error converting Wasm value: expected 1 tuple elements; got 2 at 0..8",
-    ),
-    (
         "list<tuple<u8>>",
         "[(1,), (true, 2)]",
         "invalid value type at 8..12",
@@ -58,12 +52,6 @@ const ROWS: [(&str, &str, &str, &str); 38] = [
         "[300]",
         "error converting Wasm value: expected 4 list elements; got 1 at 0..5",
         "error converting Wasm value: expected 4 list elements; got 1 at 0..5",
-    ),
-    (
-        "list<u8, 2>",
-        "[300, true]",
-        "invalid value at 1..4",
-        "invalid value at 1..4",
     ),
     (
         "record { a: u8, b: u8 }",
@@ -115,21 +103,9 @@ const ROWS: [(&str, &str, &str, &str); 38] = [
     ),
     (
         "record { a: u8, b: u8 }",
-        "{a: 1, x: 1}",
-        "invalid value at 0..12",
-        "error converting Wasm value: missing field \"b\" at 0..12",
-    ),
-    (
-        "record { a: u8, b: u8 }",
         "{x: 1, a: 300, b: 1}",
         "invalid value at 0..20",
         "invalid value at 10..13",
-    ),
-    (
-        "record { a: u8, b: u8 }",
-        "{a: 300, x: 1, b: 1}",
-        "invalid value at 4..7",
-        "invalid value at 4..7",
     ),
     (
         "record { a: u8, b: u8 }",
@@ -139,33 +115,9 @@ const ROWS: [(&str, &str, &str, &str); 38] = [
     ),
     (
         "record { a: u8, b: u8 }",
-        "{a: 300}",
-        "invalid value at 4..7",
-        "invalid value at 4..7",
-    ),
-    (
-        "record { a: u8, b: u8 }",
         "{b: 300, a: true}",
         "invalid value at 4..7",
         "invalid value type at 12..16",
-    ),
-    (
-        "record { a: u8, b: u8 }",
-        "{\"x\": 1}",
-        "invalid value type: expected a record field label at 1..4",
-        "invalid value type: expected a record field label at 1..4",
-    ),
-    (
-        "record { a: u8, b: u8 }",
-        "{:}",
-        "error converting Wasm value: missing field \"a\" at 0..3",
-        "error converting Wasm value: missing field \"a\" at 0..3",
-    ),
-    (
-        "list<record { a: u8, b: u8 }>",
-        "[{b: 300}]",
-        "invalid value at 5..8",
-        "error converting Wasm value: missing field \"a\" at 1..9",
     ),
     (
         "record { a: u8, b: record { c: u8 } }",
@@ -205,12 +157,6 @@ const ROWS: [(&str, &str, &str, &str); 38] = [
     ),
     (
         "result<tuple<u8>>",
-        "ok((300, 1))",
-        "invalid value at 4..7",
-        "error converting Wasm value: expected 1 tuple elements; got 2 at 3..11",
-    ),
-    (
-        "result<tuple<u8>>",
         "err((300, 1))",
         "error converting Wasm value: unexpected payload for \"err\" case at 0..13",
         "error converting Wasm value: unexpected payload for \"err\" case at 0..13",
@@ -237,7 +183,7 @@ const ROWS: [(&str, &str, &str, &str); 38] = [
 
 #[test]
 fn several_faults(rt: HostRuntime) -> Result<(), Fail> {
-    let found = wrong_fault(rt.alloc(), &ROWS)?;
+    let found = wrong_fault(rt.alloc(), ROWS)?;
     assert_eq!(rt; found.as_str(), "");
     Ok(())
 }
