@@ -2,7 +2,7 @@
 use std::ops::Range;
 use std::test::Fail;
 use wave_lex::asked::Asked;
-use wave_lex::lex::{FuncNameLexer, FuncNameToken, Keyword, Lexer, Token};
+use wave_lex::lex::{Lexer, Token};
 
 /// A token or a refusal with its span.
 fn item_text(
@@ -70,17 +70,7 @@ fn tokens(rt: HostRuntime) -> Result<(), Fail> {
                 "\"\" \"\"\"a\"\"\" \"é\"",
                 "String 0..2, MultilineString 3..10, String 11..15, 15..15",
             ),
-        ],
-    )?;
-    assert_eq!(rt; found.as_str(), "");
-    Ok(())
-}
-
-#[test]
-fn tokens_at_the_ends_of_texts(rt: HostRuntime) -> Result<(), Fail> {
-    let found = wrong(
-        rt,
-        &[
+            // At the ends of texts.
             ("", "0..0"),
             ("// only", "7..7"),
             ("1//", "Number 0..1, 3..3"),
@@ -117,31 +107,18 @@ fn told(rt: HostRuntime, lexer: &Lexer) -> Result<String, Fail> {
 }
 
 #[test]
-fn lexer_calls(rt: HostRuntime) -> Result<(), Fail> {
+fn calls(rt: HostRuntime) -> Result<(), Fail> {
+    let mut asked = Asked::new();
     let mut lexer = Lexer::new(" ab 1");
     assert_eq!(rt; told(rt, &lexer)?.as_str(), "0..0 <> < ab 1> of < ab 1>");
     assert!(rt; lexer.next() == Some(Ok(Token::LabelOrKeyword)));
     assert_eq!(rt; told(rt, &lexer)?.as_str(), "1..3 <ab> < 1> of < ab 1>");
-    Ok(())
-}
-
-#[test]
-fn ticked_calls(rt: HostRuntime) {
-    let mut asked = Asked::new();
-    let mut lexer = Lexer::new(" ab 1");
-    assert!(rt; lexer.next_ticked(&mut asked) == Some(Ok(Token::LabelOrKeyword)));
-    assert!(rt; lexer.next_ticked(&mut asked) == Some(Ok(Token::Number)));
-    assert!(rt; lexer.next_ticked(&mut asked).is_none());
-    assert!(rt; lexer.next_ticked(&mut asked).is_none());
-}
-
-#[test]
-fn copies(rt: HostRuntime) {
-    let mut lexer = Lexer::new(" ab 1");
-    assert!(rt; lexer.next().is_some());
     let mut other = lexer.clone();
-    assert!(rt; other.next() == Some(Ok(Token::Number)) && other.next().is_none());
+    assert!(rt; other.next_ticked(&mut asked) == Some(Ok(Token::Number)));
+    assert!(rt; other.next_ticked(&mut asked).is_none());
     assert!(rt; other.span() == (5..5) && lexer.span() == (1..3));
+    assert!(rt; Token::Comma.name() == "Comma");
+    Ok(())
 }
 
 /// The last item of a lexer of the text.
@@ -156,10 +133,4 @@ fn last(source: &str) -> Option<Result<Token, Range<usize>>> {
 #[test]
 fn items(rt: HostRuntime) {
     assert!(rt; last("a ☃ 1") == Some(Ok(Token::Number)));
-}
-
-#[test]
-fn names_of_tokens(rt: HostRuntime) {
-    assert!(rt; Token::Comma.name() == "Comma");
-    assert!(rt; Keyword::decode("inf") == Some(Keyword::Inf));
 }

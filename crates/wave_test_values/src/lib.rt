@@ -1,6 +1,6 @@
 //! Worked rows of types and of values: the words of kinds, keywords and causes, the texts of types, also
-//! of those of functions, what the constructors of values make, Rust values as values, merged entries, and
-//! writers that fail; and of tokens, of the parts of strings, and of the words of refusals.
+//! of those of functions, what the constructors of values make, Rust values as values, and a writer that
+//! fails; and of tokens, of the parts of strings, and of the words of refusals.
 #![tactic(auto)]
 
 #[cfg(test)]
@@ -13,8 +13,6 @@ mod kinds;
 mod lexers;
 #[cfg(test)]
 mod makers;
-#[cfg(test)]
-mod merging;
 #[cfg(test)]
 mod names;
 #[cfg(test)]

@@ -22,18 +22,13 @@ fn calls(rt: HostRuntime) -> Result<(), Fail> {
         told(rt, &names)?.as_str(),
         "0..13 <a:b/c.d@1.0.0> <(1)> of 16"
     );
-    assert!(rt; names.next() == Some(Err(13..14)));
-    Ok(())
-}
-
-#[test]
-fn tokens_behind_a_name(rt: HostRuntime) {
-    let mut names = FuncNameLexer::new("a:b/c.d@1.0.0(1)");
-    assert!(rt; names.next().is_some());
     let mut tokens = names.clone().into_lexer();
     assert!(rt; tokens.span() == (0..13));
     assert!(rt; tokens.next() == Some(Ok(Token::ParenOpen)));
     assert!(rt; names.next() == Some(Err(13..14)));
+    let word = format!(in rt.alloc(); "{}", FuncNameToken::FunctionName)?;
+    assert_eq!(rt; word.as_str(), "FunctionName");
+    Ok(())
 }
 
 /// The last item of a lexer of a name over the text.
@@ -76,11 +71,4 @@ fn ends_of_names(rt: HostRuntime) {
         ("f@1.02.3", 1),
     ]);
     assert_eq!(rt; found, "");
-}
-
-#[test]
-fn the_word_of_a_name(rt: HostRuntime) -> Result<(), Fail> {
-    let word = format!(in rt.alloc(); "{}", FuncNameToken::FunctionName)?;
-    assert_eq!(rt; word.as_str(), "FunctionName");
-    Ok(())
 }

@@ -2,7 +2,6 @@
 use crate::kinds::CharType;
 use std::alloc::{AllocError, Global};
 use std::test::Fail;
-use wave_type::ty::Type;
 use wave_wasm::wasm::{DisplayFunc, WasmFunc};
 
 /// A function on scalars, with names or without.
@@ -53,69 +52,6 @@ impl WasmFunc for Call<'_> {
     }
 }
 
-/// A function on one scalar that has no names.
-#[derive(Drop)]
-struct Unnamed {
-    char: CharType,
-}
-
-impl WasmFunc for Unnamed {
-    ghost use Rattle.std.specs.Prelude.{[], ◌∷◌};
-    ghost use Rattle.wave_wasm.specs.Types.{simple, char};
-
-    type Type = CharType;
-
-    ghost func = { λ f. record { params = simple char ∷ []; param_names = []; results = simple char ∷ []; result_names = [] } };
-
-    fn params(&self, alloc: Global) -> Result<Vec<&CharType>, AllocError> {
-        Vec::from_slice(alloc, &[&self.char])
-    }
-
-    fn param_names(&self, alloc: Global) -> Result<Vec<&str>, AllocError> {
-        Ok(Vec::new(alloc))
-    }
-
-    fn results(&self, alloc: Global) -> Result<Vec<&CharType>, AllocError> {
-        self.params(alloc)
-    }
-
-    fn result_names(&self, alloc: Global) -> Result<Vec<&str>, AllocError> {
-        Ok(Vec::new(alloc))
-    }
-}
-
-/// A function of two named parameters and one result without a name.
-#[derive(Drop)]
-struct Function {
-    a: Type,
-    b: Type,
-    result: Type,
-}
-
-impl WasmFunc for Function {
-    ghost use Rattle.std.specs.Prelude.{[], ◌∷◌, codes};
-
-    type Type = Type;
-
-    ghost func = { λ f. record { params = f.a ∷ f.b ∷ []; param_names = codes "a" ∷ codes "b" ∷ []; results = f.result ∷ []; result_names = [] } };
-
-    fn params(&self, alloc: Global) -> Result<Vec<&Type>, AllocError> {
-        Ok(Vec::from_array(alloc, [&self.a, &self.b])?)
-    }
-
-    fn param_names(&self, alloc: Global) -> Result<Vec<&str>, AllocError> {
-        Ok(Vec::from_array(alloc, ["a", "b"])?)
-    }
-
-    fn results(&self, alloc: Global) -> Result<Vec<&Type>, AllocError> {
-        Ok(Vec::from_array(alloc, [&self.result])?)
-    }
-
-    fn result_names(&self, alloc: Global) -> Result<Vec<&str>, AllocError> {
-        Ok(Vec::new(alloc))
-    }
-}
-
 /// As many of the items as the count says, or all where there are fewer.
 fn first<T>(items: &[T], count: usize) -> &[T] {
     items.get(..count).unwrap_or(items)
@@ -160,22 +96,8 @@ fn wrong(rt: HostRuntime, rows: &[(Counts, &'static str)]) -> Result<&'static st
     Ok("")
 }
 
-/// Whether the types of functions that leave names out are shown without these.
-fn leave_names_out(rt: HostRuntime) -> Result<bool, Fail> {
-    let unnamed = DisplayFunc::new(rt.alloc(), Unnamed { char: CharType });
-    let function = Function {
-        a: Type::U8,
-        b: Type::STRING,
-        result: Type::U8,
-    };
-    let named = DisplayFunc::new(rt.alloc(), function);
-    let shown = format!(in rt.alloc(); "{unnamed}; {named}")?;
-    Ok(shown.as_str() == "func(char) -> char; func(a: u8, b: string) -> u8")
-}
-
 #[test]
 fn functions(rt: HostRuntime) -> Result<(), Fail> {
     assert_eq!(rt; wrong(rt, SHOWN)?, "");
-    assert!(rt; leave_names_out(rt)?);
     Ok(())
 }

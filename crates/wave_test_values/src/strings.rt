@@ -21,35 +21,23 @@ fn joined(rt: HostRuntime, parts: StringPartsIter<'_>) -> Result<String, Fail> {
     Ok(out)
 }
 
-/// What the inside of a string at the place 1 gives.
-fn line_of(rt: HostRuntime, inside: &str) -> Result<String, Fail> {
-    joined(rt, StringPartsIter::new(inside, 1))
-}
-
-/// A part as what it is.
-fn told(rt: HostRuntime, part: Result<StringPart, ParserError>) -> Result<String, Fail> {
-    match part {
-        Ok(StringPart::Run(run)) => Ok(format!(in rt.alloc(); "run {run};")?),
-        Ok(StringPart::Char(c)) => Ok(format!(in rt.alloc(); "char {c};")?),
-        Err(error) => Ok(format!(in rt.alloc(); "{error};")?),
+/// What the inside of a string at the place 1 gives, or that of a multiline string at the place 3; where
+/// there is no iterator, the refusal in square brackets.
+fn parts_of(rt: HostRuntime, is_multiline: bool, inside: &str) -> Result<String, Fail> {
+    match is_multiline {
+        false => joined(rt, StringPartsIter::new(inside, 1)),
+        true => match StringPartsIter::new_multiline(inside, 3) {
+            Ok(parts) => joined(rt, parts),
+            Err(error) => Ok(format!(in rt.alloc(); "[{error}]")?),
+        },
     }
-}
-
-#[test]
-fn one_part_after_the_other(rt: HostRuntime) -> Result<(), Fail> {
-    let mut out = String::new(rt.alloc());
-    for part in StringPartsIter::new("a\\tb", 1) {
-        out.push_str(told(rt, part)?.as_str())?;
-    }
-    assert_eq!(rt; out.as_str(), "run a;char \t;run b;");
-    Ok(())
 }
 
 /// The first string of other parts, with its parts; nothing where there is none.
-fn wrong_line(rt: HostRuntime, rows: &[(&str, &str)]) -> Result<String, Fail> {
+fn wrong(rt: HostRuntime, rows: &[(bool, &str, &str)]) -> Result<String, Fail> {
     for row in rows {
-        let (inside, expected) = *row;
-        let parts = line_of(rt, inside)?;
+        let (is_multiline, inside, expected) = *row;
+        let parts = parts_of(rt, is_multiline, inside)?;
         if parts.as_str() != expected {
             return Ok(format!(in rt.alloc(); "{inside} gives {parts}")?);
         }
@@ -58,17 +46,52 @@ fn wrong_line(rt: HostRuntime, rows: &[(&str, &str)]) -> Result<String, Fail> {
 }
 
 #[test]
-fn parts_of_strings(rt: HostRuntime) -> Result<(), Fail> {
-    let found = wrong_line(
+fn parts(rt: HostRuntime) -> Result<(), Fail> {
+    let found = wrong(
         rt,
         &[
-            ("", ""),
-            ("\\u{D800}", "<invalid character escape at 1..2>"),
-            ("x\\u{D800}y", "x<invalid character escape at 2..3>"),
-            ("é\\n\\q\\q", "é\n<invalid character escape at 5..6>"),
+            (false, "", ""),
+            (false, "x\\u{D800}y", "x<invalid character escape at 2..3>"),
+            (false, "é\\n\\q\\q", "é\n<invalid character escape at 5..6>"),
+            (true, "\n  ", ""),
+            (true, "\na\r\r\n", "a\r"),
+            (true, "\n\n\\u{e9}\n\n", "\né\n"),
+            (
+                true,
+                "\r\r",
+                "[invalid multiline string: closing \"\"\" must be on a line preceded only by spaces at 5..8]",
+            ),
+            (
+                true,
+                "",
+                "[invalid multiline string: opening \"\"\" must be followed immediately by newline at 3..4]",
+            ),
+            (
+                true,
+                "\n  a\n\n  ",
+                "a<invalid multiline string: lines must be indented at least as much as closing \"\"\" at 8..9>",
+            ),
         ],
     )?;
     assert_eq!(rt; found.as_str(), "");
+    Ok(())
+}
+
+/// The parts of lines, joined; nothing where they are no lines.
+fn joined_lines(rt: HostRuntime, parts: StringPartsIter<'_>) -> Result<String, Fail> {
+    let mut out = String::new(rt.alloc());
+    if let StringPartsIter::Multiline(lines) = parts {
+        for part in lines {
+            out.push_str(part_text(rt, part)?.as_str())?;
+        }
+    }
+    Ok(out)
+}
+
+#[test]
+fn parts_of_lines(rt: HostRuntime) -> Result<(), Fail> {
+    let lines = StringPartsIter::new_multiline("\n a\n", 3)?;
+    assert_eq!(rt; joined_lines(rt, lines)?.as_str(), " a");
     Ok(())
 }
 
@@ -104,122 +127,4 @@ fn escapes(rt: HostRuntime) {
         ("a\\t", None),
     ]);
     assert_eq!(rt; found, "");
-}
-
-/// What the inside of a multiline string at the place 3 gives; where there is no iterator, the
-/// refusal in square brackets.
-fn lines_of(rt: HostRuntime, inside: &str) -> Result<String, Fail> {
-    match StringPartsIter::new_multiline(inside, 3) {
-        Ok(parts) => joined(rt, parts),
-        Err(error) => Ok(format!(in rt.alloc(); "[{error}]")?),
-    }
-}
-
-/// The first multiline string of other parts, with its parts; nothing where there is none.
-fn wrong_lines(rt: HostRuntime, rows: &[(&str, &str)]) -> Result<String, Fail> {
-    for row in rows {
-        let (inside, expected) = *row;
-        let parts = lines_of(rt, inside)?;
-        if parts.as_str() != expected {
-            return Ok(format!(in rt.alloc(); "{inside} gives {parts}")?);
-        }
-    }
-    Ok(String::new(rt.alloc()))
-}
-
-#[test]
-fn parts_of_lines(rt: HostRuntime) -> Result<(), Fail> {
-    let found = wrong_lines(
-        rt,
-        &[
-            (
-                "\n    Indentation determined\n      by ending delimiter\n  ",
-                "  Indentation determined\n    by ending delimiter",
-            ),
-            ("\n", ""),
-            ("\n  ", ""),
-            ("\r\na\r\n", "a"),
-            ("\na\r\r\n", "a\r"),
-            ("\n\n\\u{e9}\n\n", "\né\n"),
-        ],
-    )?;
-    assert_eq!(rt; found.as_str(), "");
-    Ok(())
-}
-
-#[test]
-fn lines_without_a_first_or_a_last_end(rt: HostRuntime) -> Result<(), Fail> {
-    let found = wrong_lines(
-        rt,
-        &[
-            (
-                "\nabc",
-                "[invalid multiline string: closing \"\"\" must be on a line preceded only by spaces at 7..10]",
-            ),
-            (
-                "\n\\",
-                "[invalid multiline string: closing \"\"\" must be on a line preceded only by spaces at 5..8]",
-            ),
-            (
-                "\r\r",
-                "[invalid multiline string: closing \"\"\" must be on a line preceded only by spaces at 5..8]",
-            ),
-            (
-                "abc",
-                "[invalid multiline string: closing \"\"\" must be on a line preceded only by spaces at 6..9]",
-            ),
-            (
-                "",
-                "[invalid multiline string: opening \"\"\" must be followed immediately by newline at 3..4]",
-            ),
-            (
-                "\r",
-                "[invalid multiline string: opening \"\"\" must be followed immediately by newline at 3..4]",
-            ),
-        ],
-    )?;
-    assert_eq!(rt; found.as_str(), "");
-    Ok(())
-}
-
-#[test]
-fn lines_that_are_refused(rt: HostRuntime) -> Result<(), Fail> {
-    let found = wrong_lines(
-        rt,
-        &[
-            (
-                "\na\n  ",
-                "<invalid multiline string: lines must be indented at least as much as closing \"\"\" at 4..5>",
-            ),
-            (
-                "\na\n  b\n  ",
-                "<invalid multiline string: lines must be indented at least as much as closing \"\"\" at 4..5>",
-            ),
-            (
-                "\n  a\n\n  ",
-                "a<invalid multiline string: lines must be indented at least as much as closing \"\"\" at 8..9>",
-            ),
-            ("\n  a\\q\n  ", "a<invalid character escape at 7..8>"),
-        ],
-    )?;
-    assert_eq!(rt; found.as_str(), "");
-    Ok(())
-}
-
-/// The parts of lines as what they are; nothing where they are no lines.
-fn told_lines(rt: HostRuntime, parts: StringPartsIter<'_>) -> Result<String, Fail> {
-    let mut out = String::new(rt.alloc());
-    if let StringPartsIter::Multiline(lines) = parts {
-        for part in lines {
-            out.push_str(told(rt, part)?.as_str())?;
-        }
-    }
-    Ok(out)
-}
-
-#[test]
-fn one_part_of_lines_after_the_other(rt: HostRuntime) -> Result<(), Fail> {
-    let lines = StringPartsIter::new_multiline("\n a\n", 3)?;
-    assert_eq!(rt; told_lines(rt, lines)?.as_str(), "run  a;");
-    Ok(())
 }
