@@ -3,7 +3,6 @@
 mod bare;
 mod calls;
 mod conversions;
-mod docs;
 mod explained;
 mod flags;
 mod levels;

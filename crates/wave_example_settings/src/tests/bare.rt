@@ -182,11 +182,6 @@ fn calls(rt: HostRuntime) -> Result<(), Fail> {
         let ty = Type::parse(rt.alloc(), ty)?;
         assert_eq!(rt; call(rt, &[ty], text)?.as_str(), expected);
     }
-    Ok(())
-}
-
-#[test]
-fn a_call_that_lacks_a_parameter(rt: HostRuntime) -> Result<(), Fail> {
     let list = Type::parse(rt.alloc(), "list<u8>")?;
     let option = Type::parse(rt.alloc(), "option<u8>")?;
     assert_eq!(rt;

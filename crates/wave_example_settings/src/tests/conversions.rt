@@ -1,4 +1,4 @@
-//! Types that are made of foreign types, and of types.
+//! Types that are made of foreign types.
 use std::test::Fail;
 use wasm_wave::value::Type;
 use wasm_wave::wasm::WasmType;
@@ -18,21 +18,5 @@ fn of_names(rt: HostRuntime) -> Result<(), Fail> {
     assert_eq!(rt; made(rt, &names)?.as_str(), "flags { read, write, exec }");
     let names = NameSet::new(rt.alloc(), &[])?;
     assert_eq!(rt; made(rt, &names)?.as_str(), "none");
-    Ok(())
-}
-
-#[test]
-fn of_types(rt: HostRuntime) -> Result<(), Fail> {
-    for text in [
-        "tuple<result, result<u8>, result<_, string>, f64>",
-        "record { pair: tuple<s8, list<char>>, maybe: option<f32>, of: map<char, bool> }",
-        "variant { off, on(flags { read, write }), of(enum { x }) }",
-        "record { a: list<u8, 4>, b: tuple<option<list<u8, 0>>> }",
-    ] {
-        let ty = Type::parse(rt.alloc(), text)?;
-        if made(rt, &ty)?.as_str() != text {
-            return Err(Fail::new(text));
-        }
-    }
     Ok(())
 }

@@ -81,23 +81,6 @@ fn read_in_the_order_of_the_type(rt: HostRuntime) -> Result<(), Fail> {
     Ok(())
 }
 
-#[test]
-fn a_type_without_names(rt: HostRuntime) -> Result<(), Fail> {
-    let found = wrong(
-        rt,
-        &NameSet::new(rt.alloc(), &[])?,
-        &[
-            ("{}", "{}"),
-            (
-                "{nope}",
-                "error converting Wasm value: unknown case \"nope\" at 0..6",
-            ),
-        ],
-    )?;
-    assert_eq!(rt; found.as_str(), "");
-    Ok(())
-}
-
 /// What is made of the names.
 fn flags(rt: HostRuntime, names: &[&str]) -> Result<String, Fail> {
     made(
@@ -119,23 +102,9 @@ fn made_in_the_order_of_the_names(rt: HostRuntime) -> Result<(), Fail> {
     Ok(())
 }
 
-/// How a list without items is refused.
-fn list(rt: HostRuntime) -> Result<String, Fail> {
-    let (alloc, ty) = (rt.alloc(), permissions(rt)?);
-    made(rt, OrderedFlags::make_list(alloc, &ty, Vec::new(alloc)))
-}
-
-/// How a map without entries is refused.
-fn map(rt: HostRuntime) -> Result<String, Fail> {
-    let (alloc, ty) = (rt.alloc(), permissions(rt)?);
-    made(rt, OrderedFlags::make_map(alloc, &ty, Vec::new(alloc)))
-}
-
 #[test]
-fn values_of_other_kinds(rt: HostRuntime) -> Result<(), Fail> {
+fn a_value_of_another_kind(rt: HostRuntime) -> Result<(), Fail> {
     let number = made(rt, OrderedFlags::make_u8(rt.alloc(), 1))?;
     assert_eq!(rt; number.as_str(), "unsupported type u8");
-    assert_eq!(rt; list(rt)?.as_str(), "unsupported type list");
-    assert_eq!(rt; map(rt)?.as_str(), "unsupported type map");
     Ok(())
 }

@@ -1,4 +1,4 @@
-//! The calls from code that the README shows.
+//! The calls from code that the README and the calls' docs show.
 use std::test::Fail;
 use wasm_wave::value::{Type, Value};
 use wasm_wave::{from_str, to_string};
@@ -24,4 +24,16 @@ fn a_refusal_from_code(rt: HostRuntime) -> Result<(), Fail> {
             Ok(())
         }
     }
+}
+
+#[test]
+fn a_char_from_code(rt: HostRuntime) -> Result<(), Fail> {
+    let alloc = rt.alloc();
+    let val = from_str::<Value>(alloc, &Type::CHAR, "'\\u{1F44B}'")?;
+    assert!(rt; val == Value::from('👋'));
+    assert_eq!(rt;
+        to_string(alloc, &Value::from('\u{1F44B}'))?.as_str(),
+        "'👋'"
+    );
+    Ok(())
 }
