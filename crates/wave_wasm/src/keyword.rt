@@ -22,6 +22,9 @@ pub enum Keyword {
     Nan,
 }
 
+/// How many bytes the longest of them takes.
+const LONGEST: usize = 5;
+
 impl Keyword {
     ghost use Rattle.std.specs.Prelude.{◌≡◌};
     ghost use Rattle.wave_wasm.specs.Keywords.{DecodesTo, keyword_text};
@@ -30,6 +33,9 @@ impl Keyword {
     pub fn decode(raw_label: &str) -> Option<Keyword>
         ensures { DecodesTo raw_label.now result }
     {
+        if raw_label.len() > LONGEST {
+            return None;
+        }
         match raw_label {
             "true" => Some(Keyword::True),
             "false" => Some(Keyword::False),
