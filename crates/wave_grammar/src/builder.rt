@@ -75,6 +75,24 @@ pub trait Builder: Sized + Copy {
         ensures memory { IfErr result (λ _. (source : List ℕ) (whole : NodeType) (children : List NodeTree)
             → are_parts self source whole children parts.old → takes_memory self) };
 
+    /// Adds to the parts what the builder of the next part makes of a node of one token, of this text. It
+    /// asks for a text that stands there in some source.
+    fn push_leaf(
+        self,
+        alloc: Global,
+        parts: &mut Self::Parts,
+        ty: NodeType,
+        span: Span,
+        text: &str,
+    ) -> Result<(), AllocError>
+        requires one { IsOneToken ty }
+        requires text { (source : List ℕ) × (text.now ≡ slice source span) }
+        ensures kept { IfOk result (λ _. (source : List ℕ) (whole : NodeType) (children : List NodeTree)
+            → text.now ≡ slice source span → TakesPart whole children → are_parts self source whole children parts.old
+            → are_parts self source whole (children ++ node ty span no_nodes ∷ []) parts.new) }
+        ensures memory { IfErr result (λ _. (source : List ℕ) (whole : NodeType) (children : List NodeTree)
+            → are_parts self source whole children parts.old → takes_memory self) };
+
     /// What is made of a node of the type with these parts. It asks for parts that were made of such a
     /// node's children.
     fn whole(self, alloc: Global, ty: NodeType, span: Span, parts: Self::Parts) -> Self::Made

@@ -1,15 +1,17 @@
 //! Lists and fixed-length lists, read at their types.
-ghost use Rattle.std.specs.Prelude.{ℕ, List, [], ◌≡◌, IfOk, IfErr, None};
-ghost use Rattle.wave_wasm.specs.Types.{kind_of};
+ghost use Rattle.std.specs.Prelude.{ℕ, List, [], ◌∷◌, ◌++◌, ◌≡◌, IfOk, IfErr, MatchBool, None};
+ghost use Rattle.wave_wasm.specs.Types.{TypeTree, kind_of};
 ghost use Rattle.wave_wasm.specs.ConstructorContracts.{IsOfListKind};
 ghost use Rattle.wave_grammar.specs.FaultOrder.{Order};
-ghost use Rattle.wave_grammar.specs.NodeTree.{NodeTrees, node};
+ghost use Rattle.wave_grammar.specs.NodeTree.{NodeTree, NodeTrees, node};
 ghost use Rattle.wave_grammar.specs.PartReading.{IsOfLength, IsOtherLength};
+ghost use Rattle.wave_read.specs.Leaves.{leaf_node, IsLeafIn};
 ghost use Rattle.wave_read.specs.ListParts.{AreItems, element_due};
 ghost use Rattle.wave_read.specs.Private.PartSteps.{AddsPart, IsWholeOf, WereRead};
 
 use crate::error::{ReadError, Reason};
 use crate::fault::or_error_at;
+use crate::leaf::Leaf;
 use std::alloc::{AllocError, Global};
 use wave_grammar::form::NodeType;
 use wave_lex::error::ParserErrorKind;
@@ -86,6 +88,31 @@ impl<'ty, V: WasmValue> Items<'ty, V::Type, V> {
                 Ok(())
             }
         }
+    }
+
+    /// Adds the item of one token, where it is read at once; says whether it was.
+    #[inline(always)]
+    pub(crate) fn push_fast(&mut self, alloc: Global, leaf: &Leaf<'_>) -> Result<bool, AllocError>
+        ensures { IfOk result (λ added. MatchBool added
+            ((w : Order) (T : TypeTree) (source : List ℕ) (children : List NodeTree) → IsLeafIn source leaf.now
+                → AreItems V.Type.tree V.tree V.is_of V.is_full w T source children self.old
+                → AreItems V.Type.tree V.tree V.is_of V.is_full w T source (children ++ leaf_node leaf.now ∷ []) self.new)
+            (self.new ≡ self.old)) }
+    {
+        if self.held.is_some() {
+            return Ok(false);
+        }
+        let item = match leaf.read_fast(alloc, self.element) {
+            Some(item) => item,
+            None => return Ok(false),
+        };
+        match self.count.checked_add(1) {
+            Some(count) => self.count = count,
+            None => return Err(AllocError),
+        }
+        self.items.reserve(1)?;
+        self.items.push_reserved(item);
+        Ok(true)
     }
 
     /// The list of these items, which stands here. They are of the element type, since they were read at

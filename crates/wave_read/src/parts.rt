@@ -1,5 +1,5 @@
 //! The parts of a value of any type.
-ghost use Rattle.std.specs.Prelude.{ℕ, ◌≡◌, ◌++◌, List, [], ◌∷◌, None, Err, IfOk, IfErr, IsOk, MatchOption};
+ghost use Rattle.std.specs.Prelude.{ℕ, ◌≡◌, ◌++◌, List, [], ◌∷◌, None, Err, IfOk, IfErr, IsOk, MatchBool, MatchOption};
 ghost use Rattle.wave_wasm.specs.Types.{TypeTree, kind_of};
 ghost use Rattle.wave_wasm.specs.ConstructorContracts.{IsOfListKind};
 ghost use Rattle.wave_wasm.specs.Borrowed.{shown};
@@ -7,6 +7,7 @@ ghost use Rattle.wave_grammar.specs.SpannedTree.{slice};
 ghost use Rattle.wave_grammar.specs.FaultOrder.{Order, in_text};
 ghost use Rattle.wave_grammar.specs.NodeTree.{NodeTree, node, no_nodes, node_trees};
 ghost use Rattle.wave_grammar.specs.NodeParts.{TakesKey, TakesPart};
+ghost use Rattle.wave_read.specs.Leaves.{leaf_node, IsLeafIn};
 ghost use Rattle.wave_read.specs.PlainReading.{IsPlain};
 ghost use Rattle.wave_read.specs.Reading.{IsReadAs, IsReadWhereDue, IsReadOfForm};
 ghost use Rattle.wave_lex.specs.Errors.{Says};
@@ -22,6 +23,7 @@ ghost use Rattle.wave_grammar.specs.declared.form.NodeType.TheVariants as node_t
 use crate::error::{ReadError, Reason};
 use crate::fault::Fault;
 use crate::flags::read_no_flags;
+use crate::leaf::Leaf;
 use crate::lists::Items;
 use crate::maps::{Entries, read_no_entries};
 use crate::options::SomePayload;
@@ -264,6 +266,23 @@ impl<'ty, V: WasmValue> Partial<'ty, V::Type, V> {
         match self {
             Partial::Items(items) => items.push_part(alloc, made),
             _ => self.push_other_part(alloc, made),
+        }
+    }
+
+    /// Adds the next value, of one token, where it is an item of a list that is read at once; says whether
+    /// it was.
+    #[inline(always)]
+    pub(crate) fn push_fast(&mut self, alloc: Global, leaf: &Leaf<'_>) -> Result<bool, AllocError>
+        ensures grown { IfOk result (λ added. MatchBool added
+            ((w : Order) (T : TypeTree) (source : List ℕ) (of : NodeType) (children : List NodeTree) → IsLeafIn source leaf.now
+                → AreParts V.Type.tree V.tree V.is_of V.is_full w T source of children self.old
+                → AreParts V.Type.tree V.tree V.is_of V.is_full w T source of (children ++ leaf_node leaf.now ∷ []) self.new)
+            (self.new ≡ self.old)) }
+        ensures bare { IsBare self.old → (self.new ≡ self.old) × IsOk result }
+    {
+        match self {
+            Partial::Items(items) => items.push_fast(alloc, leaf),
+            _ => Ok(false),
         }
     }
 

@@ -9,7 +9,9 @@ ghost use Rattle.wave_grammar.specs.NodeParts.{IsOfParts, IsOneToken, TakesKey, 
 ghost use Rattle.wave_grammar.specs.NodeTree.{NodeTree, node, no_nodes, node_trees, type_of, place_of};
 ghost use Rattle.wave_grammar.specs.declared.form.NodeType.{NodeType};
 ghost use Rattle.wave_grammar.specs.declared.form.NodeType.TheVariants as node_type;
+ghost use Rattle.wave_read.specs.Leaves.{leaf_node, IsLeafIn};
 ghost use Rattle.wave_read.specs.PlainReading.{IsReadSparing, TakesMemory};
+ghost use Rattle.wave_read.specs.Private.Leaves.{IsTokenOfSome};
 ghost use Rattle.wave_read.specs.Reading.{IsReadAs};
 ghost use Rattle.wave_read.specs.Flat.{IsAround, IsAroundWhereDue, IsCounted, IsOfPartWithin, ReadsFlags, ReadsNoRecord};
 ghost use Rattle.wave_read.specs.KeptParts.{AreKeptOfSome, AreKeptWhereDue};
@@ -230,6 +232,46 @@ impl<'ty, V: WasmValue> Frame<'ty, V::Type, V> {
         self.parts.push_part(alloc, made)
     }
 
+    /// Adds a part of one token, of this text, which stands there in some source.
+    #[inline(always)]
+    pub fn push_leaf(
+        &mut self,
+        alloc: Global,
+        ty: NodeType,
+        span: Span,
+        text: &str,
+    ) -> Result<(), AllocError>
+        requires one { IsOneToken ty }
+        requires text { (source : List ℕ) × (text.now ≡ slice source span) }
+        ensures kept { IfOk result (λ _. (w : Order) (due : Option TypeTree) (source : List ℕ) (whole : NodeType) (children : List NodeTree)
+            → text.now ≡ slice source span → TakesPart whole children
+            → AreKeptWhereDue V.Type.tree V.tree V.is_of V.is_full w due source whole children self.old
+            → AreKeptWhereDue V.Type.tree V.tree V.is_of V.is_full w due source whole (children ++ node ty span no_nodes ∷ []) self.new) }
+        ensures memory { IfErr result (λ _. (w : Order) (due : Option TypeTree) (source : List ℕ) (whole : NodeType) (children : List NodeTree)
+            → AreKeptWhereDue V.Type.tree V.tree V.is_of V.is_full w due source whole children self.old → TakesMemory due) }
+    {
+        let leaf = Leaf { ty, span, text };
+        if self.parts.push_fast(alloc, &leaf)? {
+            return Ok(());
+        }
+        self.push_token(alloc, leaf)
+    }
+
+    /// The same, by the builder of the part.
+    #[inline(never)]
+    fn push_token(&mut self, alloc: Global, leaf: Leaf<'_>) -> Result<(), AllocError>
+        requires { IsTokenOfSome leaf }
+        ensures kept { IfOk result (λ _. (w : Order) (due : Option TypeTree) (source : List ℕ) (whole : NodeType) (children : List NodeTree)
+            → IsLeafIn source leaf.entry → TakesPart whole children
+            → AreKeptWhereDue V.Type.tree V.tree V.is_of V.is_full w due source whole children self.old
+            → AreKeptWhereDue V.Type.tree V.tree V.is_of V.is_full w due source whole (children ++ leaf_node leaf.entry ∷ []) self.new) }
+        ensures memory { IfErr result (λ _. (w : Order) (due : Option TypeTree) (source : List ℕ) (whole : NodeType) (children : List NodeTree)
+            → AreKeptWhereDue V.Type.tree V.tree V.is_of V.is_full w due source whole children self.old → TakesMemory due) }
+    {
+        let made = self.next().token(alloc, leaf.ty, leaf.span, leaf.text);
+        self.push_part(alloc, made)
+    }
+
     /// What is read of a node that stands here and has these parts, which were read of a node's children.
     pub fn whole(self, alloc: Global, span: Span) -> Result<V, ReadError>
         requires { AreKeptOfSome V.Type.tree V.tree V.is_of V.is_full self }
@@ -305,6 +347,18 @@ impl<'ty, V: WasmValue> Builder for ValueBuilder<'ty, V> {
         made: Result<V, ReadError>,
     ) -> Result<(), AllocError> {
         parts.push_part(alloc, made)
+    }
+
+    #[inline(always)]
+    fn push_leaf(
+        self,
+        alloc: Global,
+        parts: &mut Frame<'ty, V::Type, V>,
+        ty: NodeType,
+        span: Span,
+        text: &str,
+    ) -> Result<(), AllocError> {
+        parts.push_leaf(alloc, ty, span, text)
     }
 
     #[inline(always)]

@@ -85,11 +85,10 @@ impl<'source> Tokens<'source> {
             return self.refuse_item(item);
         };
         let front = value_start(token, self.slice());
-        let part = builder.part(parts);
         if let ValueStart::Alone(ty) = front {
-            let made = self.leaf_here(alloc, part, ty);
-            return self.push_part(alloc, builder, parts, made);
+            return self.push_leaf(alloc, builder, parts, ty);
         }
+        let part = builder.part(parts);
         let made = self.parse_after_token(alloc, part, levels, token, front)?;
         self.push_part(alloc, builder, parts, made)
     }
@@ -139,7 +138,7 @@ impl<'source> Tokens<'source> {
 
     /// Reads the payload after a label, where an open parenthesis stands there.
     #[cycle(parser)]
-    #[inline(never)]
+    #[inline(always)]
     fn parse_optional_payload<P: Builder>(
         &mut self,
         alloc: Global,
@@ -188,6 +187,7 @@ impl<'source> Tokens<'source> {
 
     /// Adds the label of a case, which was taken last, as the first part of its node; no part of other
     /// nodes.
+    #[inline(always)]
     fn push_label<P: Builder>(
         &self,
         alloc: Global,

@@ -69,6 +69,20 @@ impl Builder for NodeBuilder {
     }
 
     #[inline(always)]
+    fn push_leaf(
+        self,
+        alloc: Global,
+        parts: &mut Vec<Node>,
+        ty: NodeType,
+        span: Span,
+        text: &str,
+    ) -> Result<(), AllocError> {
+        parts.reserve(1)?;
+        parts.push_reserved(make::leaf(alloc, ty, span));
+        Ok(())
+    }
+
+    #[inline(always)]
     fn whole(self, alloc: Global, ty: NodeType, span: Span, parts: Vec<Node>) -> Node {
         make::node(ty, span, parts)
     }

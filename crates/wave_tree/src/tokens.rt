@@ -300,15 +300,6 @@ impl<'source> Tokens<'source> {
         requires { IsOneToken ty }
         ensures { P.is_made builder self.now.place.lexer.source (node ty (span_at self.now.place) no_nodes) result }
     {
-        self.leaf_here(alloc, builder, ty)
-    }
-
-    /// The same, made where it is called.
-    #[inline(always)]
-    pub(crate) fn leaf_here<P: Builder>(&self, alloc: Global, builder: P, ty: NodeType) -> P::Made
-        requires { IsOneToken ty }
-        ensures { P.is_made builder self.now.place.lexer.source (node ty (span_at self.now.place) no_nodes) result }
-    {
         builder.leaf(alloc, ty, self.span(), self.slice())
     }
 
@@ -386,6 +377,31 @@ impl<'source> Tokens<'source> {
             → P.are_parts builder source of children parts.old → P.takes_memory builder) }
     {
         match builder.push_part(alloc, parts, made) {
+            Ok(()) => Ok(()),
+            Err(_) => Err(self.out_of_memory()),
+        }
+    }
+
+    /// Adds the last token as the next part.
+    #[inline(always)]
+    pub(crate) fn push_leaf<P: Builder>(
+        &self,
+        alloc: Global,
+        builder: P,
+        parts: &mut P::Parts,
+        ty: NodeType,
+    ) -> Result<(), ReadError>
+        requires { IsOneToken ty }
+        ensures kept { let source = self.now.place.lexer.source in
+            let part = node ty (span_at self.now.place) no_nodes in
+            IfOk result (λ _. (of : NodeType) (children : List NodeTree)
+            → TakesPart of children → P.are_parts builder source of children parts.old
+            → P.are_parts builder source of (children ++ part ∷ []) parts.new) }
+        ensures memory { IfErr result (λ e. e.kind ≡ kind.OutOfMemory) }
+        ensures takes { IfErr result (λ _. (source : List ℕ) (of : NodeType) (children : List NodeTree)
+            → P.are_parts builder source of children parts.old → P.takes_memory builder) }
+    {
+        match builder.push_leaf(alloc, parts, ty, self.span(), self.slice()) {
             Ok(()) => Ok(()),
             Err(_) => Err(self.out_of_memory()),
         }

@@ -76,6 +76,11 @@ module _ {V : Type 0} (tree : V → Value) (of : V → TypeTree → Type 0) (Ful
   item_kept type_tree element source ns vs ws None n v none h now is = rw is (all_next (type_tree element.now) source ns vs n v h now)
   item_kept type_tree element source ns vs ws (Some e) n v none h now is = absurd (cc)
 
+  -- so where none was refused before it
+  pub item_read_at_once : {S : Type 0} (type_tree : S → TypeTree) (element : Bor S) (source : List ℕ) (ns : List NodeTree) (vs ws : List V) (held : Option Diagnostic) (n : NodeTree) (v : V) → is_some held ≡ false → ReadOrHeld tree of Full w (type_tree element.now) source ns vs held → IsReadAs tree of Full w w (type_tree element.now) source n (Ok v) → ws ≡ vs ++ v ∷ [] → ReadOrHeld tree of Full w (type_tree element.now) source (ns ++ n ∷ []) ws held
+  item_read_at_once type_tree element source ns vs ws None n v none h now is = item_kept type_tree element source ns vs ws None n v none h now is
+  item_read_at_once type_tree element source ns vs ws (Some e) n v none h now is = absurd (cc)
+
   -- the first that was refused
   pub refusal_held : {S : Type 0} (type_tree : S → TypeTree) (element : Bor S) (source : List ℕ) (ns : List NodeTree) (vs : List V) (held : Option Diagnostic) (n : NodeTree) (e : Diagnostic) → is_some held ≡ false → ReadOrHeld tree of Full w (type_tree element.now) source ns vs held → IsReadWhereDue tree of Full w w (shown type_tree (unless_held held element)) source n (Err e) → ReadOrHeld tree of Full w (type_tree element.now) source (ns ++ n ∷ []) vs (Some e)
   refusal_held type_tree element source ns vs None n e none before now = refused_next (type_tree element.now) source e ns vs n before now

@@ -1,5 +1,5 @@
 -- Parts after one more.
-use Rattle.std.proofs.Common.{ℕ, ◌≡◌, ◌++◌, Bool, true, false, List, [], ◌∷◌, Option, Some, None, MatchOption, Result, Ok, Err, IfOk, IfErr, refl, subst}
+use Rattle.std.proofs.Common.{ℕ, ◌≡◌, ◌++◌, Bool, true, false, List, [], ◌∷◌, Option, Some, None, MatchBool, MatchOption, Result, Ok, Err, IfOk, IfErr, refl, subst}
 use Rattle.wave_grammar.specs.FaultOrder.{Order, in_text}
 use Rattle.wave_wasm.specs.Types.{TypeTree}
 use Rattle.wave_wasm.specs.Values.{Value}
@@ -31,6 +31,11 @@ where_ok P Q (Err e) follows h = tt
 pub where_err : {A E : Type 0} (P Q : E → Type 0) (r : Result A E) → ((e : E) → P e → Q e) → IfErr r P → IfErr r Q
 where_err P Q (Ok a) follows h = tt
 where_err P Q (Err e) follows h = follows e h
+
+-- what follows from either answer
+pub where_added : (A B P Q : Type 0) (b : Bool) → (A → P) → (B → Q) → MatchBool b A B → MatchBool b P Q
+where_added A B P Q true f g h = f h
+where_added A B P Q false f g h = g h
 
 -- no key stands in a node of `ok` or `err`
 no_result_key : (b : Bool) (children : List NodeTree) → TakesKey (result_node b) children → ⊥

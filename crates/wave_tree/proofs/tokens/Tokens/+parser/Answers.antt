@@ -298,7 +298,7 @@ pub parse_part-returns-in_err-made-clause-led : goal.parse_part-returns-in_err-m
 parse_part-returns-in_err-made-clause-led g t c = λ n s e. handed s _ _ c.from_residual.ensures.1 (c.in_err-made.ensures.led c.args.self.now.place c.in-Token.ensures.takes n s e)
 
 pub parse_part-returns-clause-led : goal.parse_part-returns-clause-led
-parse_part-returns-clause-led g t c = λ n s e. gives_or_memory c.push_part-2.result c.push_part-2.ensures.memory (c.in_ok-made.ensures.led c.args.self.now.place c.in-Token.ensures.takes n s e)
+parse_part-returns-clause-led g t c = λ n s e. gives_or_memory c.push_part.result c.push_part.ensures.memory (c.in_ok-made.ensures.led c.args.self.now.place c.in-Token.ensures.takes n s e)
 
 pub parse_items-returns-in_err-expect-clause-memory : goal.parse_items-returns-in_err-expect-clause-memory
 parse_items-returns-in_err-expect-clause-memory g t c = error_handed (OnlyOutOfMemory (g.P.Builder.takes_memory c.args.builder) c.args.self.now.place) c.from_residual.result c.in_err-expect.field-0.0 c.from_residual.ensures.1 (wants_fails (g.P.Builder.takes_memory c.args.builder) c.args.self.now.place c.next_is.new.self.place c.expect.new.self.place (λ k. k ≡ c.args.close) c.in_err-expect.field-0.0 c.in_err-expect.ensures.takes)
@@ -323,12 +323,15 @@ parse_part-returns-in-Alone-clause-kept g t c =
     let n = node c.in-Alone.ty (span_at c.take-item.new.self.place) no_nodes in
     let alone : IsAlone c.in-Token.token (text_at c.take-item.new.self.place) c.in-Alone.ty = front_alone c.in-Token.token (text_at c.take-item.new.self.place) c.slice.result.now c.value_start-front.result c.in-Alone.ty c.slice.ensures c.value_start-front.ensures c.in-Alone.is in
     let source : c.take-item.new.self.place.lexer.source ≡ c.args.self.now.place.lexer.source = source_item c.args.self.now.place c.take-item.new.self.place c.in-Token.token c.in-Token.ensures.takes in
-    let of = subst (λ z. g.P.Builder.is_made z c.take-item.new.self.place.lexer.source n c.leaf_here-made.result) c.part-part.ensures c.leaf_here-made.ensures in
-    as_added c.push_part.result c.push_part.ensures.kept (λ kept whole children due are.
-    (n, alone_parsed c.args.levels c.args.self.now.place c.take-item.new.self.place c.in-Token.token c.in-Alone.ty (omega arith) c.in-Token.ensures.takes alone, kept c.args.self.now.place.lexer.source whole children n due are (subst (λ (s : List ℕ). g.P.Builder.is_made (g.P.Builder.next c.args.builder c.args.parts.now) s n c.leaf_here-made.result) source of)))
+    as_added c.push_leaf.result c.push_leaf.ensures.kept (λ kept whole children due are. (
+      n,
+      alone_parsed c.args.levels c.args.self.now.place c.take-item.new.self.place c.in-Token.token c.in-Alone.ty (omega arith) c.in-Token.ensures.takes alone,
+      subst (λ (s : List ℕ). g.P.Builder.are_parts c.args.builder s whole (children ++ n ∷ []) c.push_leaf.new.parts) source
+        (kept whole children due (subst (λ (s : List ℕ). g.P.Builder.are_parts c.args.builder s whole children c.args.parts.now) (sym source) are)),
+    ))
 
 pub parse_part-returns-in-Alone-clause-memory : goal.parse_part-returns-in-Alone-clause-memory
-parse_part-returns-in-Alone-clause-memory g t c = wants_any (λ (source : List ℕ) (of : NodeType) (children : List NodeTree). g.P.Builder.are_parts c.args.builder source of children c.args.parts.now) (g.P.Builder.takes_memory c.args.builder) (OnlyOutOfMemory (g.P.Builder.takes_memory c.args.builder) c.args.self.now.place) c.push_part.result c.push_part.ensures.takes (λ e takes. wants_taken (g.P.Builder.takes_memory c.args.builder) c.args.self.now.place e takes)
+parse_part-returns-in-Alone-clause-memory g t c = wants_any (λ (source : List ℕ) (of : NodeType) (children : List NodeTree). g.P.Builder.are_parts c.args.builder source of children c.args.parts.now) (g.P.Builder.takes_memory c.args.builder) (OnlyOutOfMemory (g.P.Builder.takes_memory c.args.builder) c.args.self.now.place) c.push_leaf.result c.push_leaf.ensures.takes (λ e takes. wants_taken (g.P.Builder.takes_memory c.args.builder) c.args.self.now.place e takes)
 
 pub parse_part-returns-in-Alone-clause-asks : goal.parse_part-returns-in-Alone-clause-asks
 parse_part-returns-in-Alone-clause-asks g t c = asks_once c.args.self.now c.take-item.new.self c.take-item.ensures.asks
@@ -346,11 +349,11 @@ parse_part-returns-clause-kept g t c =
     let (n, is, of) = c.in_ok-made.ensures.tree in
     let source : c.take-item.new.self.place.lexer.source ≡ c.args.self.now.place.lexer.source = source_item c.args.self.now.place c.take-item.new.self.place c.in-Token.token c.in-Token.ensures.takes in
     let made = subst (λ z. g.P.Builder.is_made z c.take-item.new.self.place.lexer.source n c.in_ok-made.made) c.part-part.ensures of in
-    as_added c.push_part-2.result c.push_part-2.ensures.kept (λ kept whole children due are.
+    as_added c.push_part.result c.push_part.ensures.kept (λ kept whole children due are.
     (n, is c.args.self.now.place c.in-Token.ensures.takes, (kept c.args.self.now.place.lexer.source whole children n due are (subst (λ (s : List ℕ). g.P.Builder.is_made (g.P.Builder.next c.args.builder c.args.parts.now) s n c.in_ok-made.made) source made))))
 
 pub parse_part-returns-clause-memory : goal.parse_part-returns-clause-memory
-parse_part-returns-clause-memory g t c = wants_any (λ (source : List ℕ) (of : NodeType) (children : List NodeTree). g.P.Builder.are_parts c.args.builder source of children c.args.parts.now) (g.P.Builder.takes_memory c.args.builder) (OnlyOutOfMemory (g.P.Builder.takes_memory c.args.builder) c.args.self.now.place) c.push_part-2.result c.push_part-2.ensures.takes (λ e takes. wants_taken (g.P.Builder.takes_memory c.args.builder) c.args.self.now.place e takes)
+parse_part-returns-clause-memory g t c = wants_any (λ (source : List ℕ) (of : NodeType) (children : List NodeTree). g.P.Builder.are_parts c.args.builder source of children c.args.parts.now) (g.P.Builder.takes_memory c.args.builder) (OnlyOutOfMemory (g.P.Builder.takes_memory c.args.builder) c.args.self.now.place) c.push_part.result c.push_part.ensures.takes (λ e takes. wants_taken (g.P.Builder.takes_memory c.args.builder) c.args.self.now.place e takes)
 
 pub parse_part-returns-clause-asks : goal.parse_part-returns-clause-asks
 parse_part-returns-clause-asks g t c = asks_token c.args.self.now c.take-item.new.self c.parse_after_token.new.self c.in-Token.token c.in-Token.ensures.takes c.take-item.ensures.asks c.parse_after_token.ensures.asks
@@ -726,7 +729,7 @@ parse_items-returns-then-next_is-clause-tree g t c =
     (items_none c.args.levels c.args.close c.args.self.now.place c.next_is.new.self.place c.expect.new.self.place c.span-start.result.start [] _ refl refl c.requires (is_other _ _ c.eq.ensures c.if-eq.false) (ap (λ (z : Range ℕ). z.start) c.span-start.ensures) stays c.in_ok-expect.ensures.takes)
 
 pub parse_part-returns-in-Alone-clause-led : goal.parse_part-returns-in-Alone-clause-led
-parse_part-returns-in-Alone-clause-led g t c = λ n s e. gives_or_memory c.push_part.result c.push_part.ensures.memory
+parse_part-returns-in-Alone-clause-led g t c = λ n s e. gives_or_memory c.push_leaf.result c.push_leaf.ensures.memory
     (alone_led n s c.args.self.now.place c.take-item.new.self.place c.in-Token.token c.in-Alone.ty (omega arith) c.in-Token.ensures.takes (front_alone c.in-Token.token (text_at c.take-item.new.self.place) c.slice.result.now c.value_start-front.result c.in-Alone.ty c.slice.ensures c.value_start-front.ensures c.in-Alone.is))
 
 pub parse_part-returns-in_default : goal.parse_part-returns-in_default
