@@ -1,5 +1,6 @@
 //! Bools, whole numbers, chars, and strings without escapes that are read and made at once.
 ghost use Rattle.std.specs.Prelude.{ℕ, List, ◌≡◌, Ok, IfSome};
+ghost use Rattle.wave_wasm.specs.Types.{kind_of};
 ghost use Rattle.wave_grammar.specs.NodeAccessors.{GivesBool, GivesNumber, GivesChar};
 ghost use Rattle.wave_grammar.specs.NodeStrings.{StandsFor};
 ghost use Rattle.wave_grammar.specs.FaultOrder.{Order};
@@ -32,7 +33,7 @@ impl<'src> Leaf<'src> {
             WasmTypeKind::U64 => if_made(V::make_u64(alloc, self.number()?)),
             WasmTypeKind::Bool => if_made(V::make_bool(alloc, self.boolean()?)),
             WasmTypeKind::Char => if_made(V::make_char(alloc, self.scalar()?)),
-            WasmTypeKind::String => if_made(V::make_string(alloc, self.run()?)),
+            WasmTypeKind::String => self.read_run(alloc, ty),
             WasmTypeKind::F32
             | WasmTypeKind::F64
             | WasmTypeKind::List
@@ -47,6 +48,17 @@ impl<'src> Leaf<'src> {
             | WasmTypeKind::Map
             | WasmTypeKind::Unsupported => None,
         }
+    }
+
+    /// The same where a string is due. It stands apart since what it makes is zeroed where it begins, for
+    /// which no other value need wait.
+    #[inline(always)]
+    fn read_run<V: WasmValue>(&self, alloc: Global, ty: &V::Type) -> Option<V>
+        requires { kind_of (V.Type.tree ty.now) ≡ WasmTypeKind.String }
+        ensures { (o w : Order) (source : List ℕ) → IsLeafIn source self.now
+            → IfSome result (λ val. IsReadAs V.tree V.is_of V.is_full o w (V.Type.tree ty.now) source (leaf_node self.now) (Ok val)) }
+    {
+        if_made(V::make_string(alloc, self.run()?))
     }
 
     /// The number, at a number of the type.

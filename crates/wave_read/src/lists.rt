@@ -95,8 +95,8 @@ impl<'ty, V: WasmValue> Items<'ty, V::Type, V> {
     pub(crate) fn push_fast(&mut self, alloc: Global, leaf: &Leaf<'_>) -> Result<bool, AllocError>
         ensures { IfOk result (λ added. MatchBool added
             ((w : Order) (T : TypeTree) (source : List ℕ) (children : List NodeTree) → IsLeafIn source leaf.now
-                → AreItems V.Type.tree V.tree V.is_of V.is_full w T source children self.old
-                → AreItems V.Type.tree V.tree V.is_of V.is_full w T source (children ++ leaf_node leaf.now ∷ []) self.new)
+            → AreItems V.Type.tree V.tree V.is_of V.is_full w T source children self.old
+            → AreItems V.Type.tree V.tree V.is_of V.is_full w T source (children ++ leaf_node leaf.now ∷ []) self.new)
             (self.new ≡ self.old)) }
     {
         if self.held.is_some() {

@@ -275,8 +275,8 @@ impl<'ty, V: WasmValue> Partial<'ty, V::Type, V> {
     pub(crate) fn push_fast(&mut self, alloc: Global, leaf: &Leaf<'_>) -> Result<bool, AllocError>
         ensures grown { IfOk result (λ added. MatchBool added
             ((w : Order) (T : TypeTree) (source : List ℕ) (of : NodeType) (children : List NodeTree) → IsLeafIn source leaf.now
-                → AreParts V.Type.tree V.tree V.is_of V.is_full w T source of children self.old
-                → AreParts V.Type.tree V.tree V.is_of V.is_full w T source of (children ++ leaf_node leaf.now ∷ []) self.new)
+            → AreParts V.Type.tree V.tree V.is_of V.is_full w T source of children self.old
+            → AreParts V.Type.tree V.tree V.is_of V.is_full w T source of (children ++ leaf_node leaf.now ∷ []) self.new)
             (self.new ≡ self.old)) }
         ensures bare { IsBare self.old → (self.new ≡ self.old) × IsOk result }
     {

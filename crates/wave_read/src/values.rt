@@ -254,21 +254,23 @@ impl<'ty, V: WasmValue> Frame<'ty, V::Type, V> {
         if self.parts.push_fast(alloc, &leaf)? {
             return Ok(());
         }
-        self.push_token(alloc, leaf)
+        self.push_token(alloc, &leaf)
     }
 
     /// The same, by the builder of the part.
     #[inline(never)]
-    fn push_token(&mut self, alloc: Global, leaf: Leaf<'_>) -> Result<(), AllocError>
-        requires { IsTokenOfSome leaf }
+    fn push_token(&mut self, alloc: Global, leaf: &Leaf<'_>) -> Result<(), AllocError>
+        requires { IsTokenOfSome leaf.now }
         ensures kept { IfOk result (λ _. (w : Order) (due : Option TypeTree) (source : List ℕ) (whole : NodeType) (children : List NodeTree)
-            → IsLeafIn source leaf.entry → TakesPart whole children
+            → IsLeafIn source leaf.now → TakesPart whole children
             → AreKeptWhereDue V.Type.tree V.tree V.is_of V.is_full w due source whole children self.old
-            → AreKeptWhereDue V.Type.tree V.tree V.is_of V.is_full w due source whole (children ++ leaf_node leaf.entry ∷ []) self.new) }
+            → AreKeptWhereDue V.Type.tree V.tree V.is_of V.is_full w due source whole (children ++ leaf_node leaf.now ∷ []) self.new) }
         ensures memory { IfErr result (λ _. (w : Order) (due : Option TypeTree) (source : List ℕ) (whole : NodeType) (children : List NodeTree)
             → AreKeptWhereDue V.Type.tree V.tree V.is_of V.is_full w due source whole children self.old → TakesMemory due) }
     {
-        let made = self.next().token(alloc, leaf.ty, leaf.span, leaf.text);
+        let made = self
+            .next()
+            .token(alloc, leaf.ty, leaf.span.start..leaf.span.end, leaf.text);
         self.push_part(alloc, made)
     }
 

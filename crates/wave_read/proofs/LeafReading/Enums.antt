@@ -1,5 +1,5 @@
 -- Enums of one token.
-use Rattle.std.proofs.Common.{ℕ, ◌≡◌, ◌≢◌, inl, inr, Bool, true, false, List, Result, Ok, Err, refl, sym, ◌∙◌, subst}
+use Rattle.std.proofs.Common.{ℕ, ◌≡◌, ◌≢◌, inl, inr, Bool, true, false, List, Ok, Err, refl, sym, ◌∙◌, subst}
 use Rattle.wave_grammar.specs.FaultOrder.{Order, FirstFault}
 use Rattle.wave_wasm.specs.HasType.{HasType}
 use Rattle.wave_wasm.specs.Names.{is_one_of, IsOneOf}

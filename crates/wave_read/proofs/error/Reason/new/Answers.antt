@@ -1,6 +1,5 @@
 use Rattle.std.proofs.Common.{sym, subst, ◌∙◌}
 use Rattle.wave_lex.specs.declared.error.Detail.{Detail}
-use Rattle.wave_lex.specs.declared.error.Detail.TheVariants as detail
 use Rattle.wave_read.specs.Errors.{error_at}
 use Rattle.wave_read.specs.Private.Errors.{IsErrorOf}
 use Rattle.wave_read.proofs.ReadErrors.ByParts.{copied}

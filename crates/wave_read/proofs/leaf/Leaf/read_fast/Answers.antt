@@ -2,7 +2,7 @@ use Rattle.std.proofs.Common.{pos, w8, w16, w32, w64, to_z, of_z, FitsSigned, ru
 use Rattle.std.proofs.lemmas.Int.{to_z-of_z}
 use Rattle.wave_wasm.specs.Types as type
 use Rattle.wave_read.specs.Leaves.{leaf_node}
-use Rattle.wave_read.proofs.LeafReading.ReadAtOnce.{whole_soon, bool_soon, char_soon, string_soon}
+use Rattle.wave_read.proofs.LeafReading.ReadAtOnce.{whole_soon, bool_soon, char_soon}
 use Rattle.wave_read.proofs.leaf.Leaf.read_fast.Goals as goal
 
 pub returns-in_ok-number-in-S8 : goal.returns-in_ok-number-in-S8
@@ -48,7 +48,3 @@ returns-in_ok-boolean-in-Bool g c = λ o w source here.
 pub returns-in_ok-scalar-in-Char : goal.returns-in_ok-scalar-in-Char
 returns-in_ok-scalar-in-Char g c = λ o w source here.
     char_soon g.V.WasmValue.tree g.V.WasmValue.is_of g.V.WasmValue.is_full o w (g.V.Type.WasmType.tree c.args.ty.now) source (leaf_node c.args.self.now) c.in_ok-scalar-in-Char.field-0 c.make_char.result c.if_made-in-Char.result c.in-Char.ensures (c.in_ok-scalar-in-Char.ensures source here) c.make_char.ensures.made c.make_char.ensures.full c.if_made-in-Char.ensures
-
-pub returns-in_ok-run-in-String : goal.returns-in_ok-run-in-String
-returns-in_ok-run-in-String g c = λ o w source here.
-    string_soon g.V.WasmValue.tree g.V.WasmValue.is_of g.V.WasmValue.is_full o w (g.V.Type.WasmType.tree c.args.ty.now) source (leaf_node c.args.self.now) c.in_ok-run-in-String.field-0.now c.make_string.result c.if_made-in-String.result c.in-String.ensures (c.in_ok-run-in-String.ensures source here) c.make_string.ensures.made c.make_string.ensures.full c.if_made-in-String.ensures
