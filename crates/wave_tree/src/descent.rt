@@ -1,5 +1,5 @@
 //! Recursive descent: what is made of a value, a call for each of its levels.
-ghost use Rattle.std.specs.Prelude.{◌≡◌, ℕ, ◌+◌, ◌-◌, ◌++◌, ◌<◌, Some, None, Ok, Err, IfOk, IfErr, List, [], ◌∷◌};
+ghost use Rattle.std.specs.Prelude.{◌≡◌, ℕ, ◌+◌, ◌-◌, ◌++◌, ◌<◌, Some, Ok, IfOk, IfErr, List, [], ◌∷◌};
 ghost use Rattle.wave_lex.specs.declared.lex.Token.TheVariants as lex_class;
 ghost use Rattle.wave_lex.specs.declared.error.ParserErrorKind.TheVariants as kind;
 ghost use Rattle.wave_grammar.specs.ParserPosition.{Place, TakesItem, span_at, text_at};
@@ -9,11 +9,11 @@ ghost use Rattle.wave_tree.specs.Private.SyntaxErrors.{GivesWithin, GivesAnywher
 ghost use Rattle.wave_lex.specs.Tokenization.{span};
 ghost use Rattle.wave_tree.specs.Private.TokenRoles.{form_of, IsClose};
 ghost use Rattle.wave_grammar.specs.FlagParts.{AreFlagsOf, flag_nodes};
-ghost use Rattle.wave_grammar.specs.NodeParts.{IsOfParts, IsOneToken, TakesPart};
-ghost use Rattle.wave_grammar.specs.NodeTree.{NodeTree, node, no_nodes};
+ghost use Rattle.wave_grammar.specs.NodeParts.{IsOfParts, IsOneToken};
+ghost use Rattle.wave_grammar.specs.NodeTree.{node, no_nodes};
 ghost use Rattle.wave_grammar.specs.declared.form.NodeType.TheVariants as node_type;
 ghost use Rattle.wave_tree.specs.ParsedNodes.{IsParsed, TakesClass};
-ghost use Rattle.wave_tree.specs.Private.ParsedNodes.{IsBuilt, IsParsedBehind, IsOfPayload, IsMaybe, IsInParens, IsOfItems, IsOfEntries, IsOfFlags, label_children};
+ghost use Rattle.wave_tree.specs.Private.ParsedNodes.{IsBuilt, IsParsedBehind, IsOfPayload, IsMaybe, IsInParens, IsOfItems, IsOfEntries, IsOfFlags, HasPartBehind, WithParts, label_children};
 ghost use Rattle.wave_tree.specs.Private.ParserState.{AsksFor, IsValueStart, OnlyOutOfMemory};
 
 use crate::ast::NodeType;
@@ -57,9 +57,7 @@ impl<'source> Tokens<'source> {
         self.parse_after_token(alloc, builder, levels, token, front)
     }
 
-    /// Reads a part of a value, and adds it to the parts. What is made of one token is added where it
-    /// was made, and all of this stands in the loop that asks for parts: an answer of its own would be
-    /// copied for each of them.
+    /// Reads a part of a value, and adds it to the parts.
     #[cycle(parser)]
     #[inline(always)]
     fn parse_part<P: Builder>(
@@ -70,11 +68,8 @@ impl<'source> Tokens<'source> {
         levels: u32,
     ) -> Result<(), ReadError>
         ensures led { GivesWithin result levels due.value [] self.old.place self.new.place }
-        ensures kept { let source = self.old.place.lexer.source in
-            IfOk result (λ _. (of : NodeType) (children : List NodeTree) → TakesPart of children → P.are_parts builder source of children parts.old
-            → (part : NodeTree) × IsParsed levels self.old.place self.new.place part × P.are_parts builder source of (children ++ part ∷ []) parts.new) }
-        ensures memory { IfErr result (λ e. (source : List ℕ) (of : NodeType) (children : List NodeTree) → P.are_parts builder source of children parts.old
-            → OnlyOutOfMemory (P.takes_memory builder) self.old.place e) }
+        ensures kept { IfOk result (λ _. HasPartBehind (P.are_parts builder) levels self.old.place self.new.place parts.old parts.new) }
+        ensures memory { IfErr result (WithParts (P.are_parts builder) parts.old (OnlyOutOfMemory (P.takes_memory builder) self.old.place)) }
         ensures asks { AsksFor self.old self.new }
     {
         if levels == 0 {
@@ -84,10 +79,59 @@ impl<'source> Tokens<'source> {
         let Found::Token(token) = item else {
             return self.refuse_item(item);
         };
+        self.parse_part_after_token(alloc, builder, parts, levels, token)
+    }
+
+    /// The same after the part's first token, which was taken last. What is made of one token is added
+    /// where it was made, and this stands in the loop that asks for parts: an answer of its own would be
+    /// copied for each of them.
+    #[cycle(parser)]
+    #[inline(always)]
+    fn parse_part_after_token<P: Builder>(
+        &mut self,
+        alloc: Global,
+        builder: P,
+        parts: &mut P::Parts,
+        levels: u32,
+        token: Token,
+    ) -> Result<(), ReadError>
+        requires { 0 < levels }
+        ensures led { (first : Place) → TakesClass token first self.old.place → GivesWithin result levels due.value [] first self.new.place }
+        ensures kept { (first : Place) → TakesClass token first self.old.place
+            → IfOk result (λ _. HasPartBehind (P.are_parts builder) levels first self.new.place parts.old parts.new) }
+        ensures memory { (first : Place) → TakesClass token first self.old.place
+            → IfErr result (WithParts (P.are_parts builder) parts.old (OnlyOutOfMemory (P.takes_memory builder) first)) }
+        ensures asks { AsksFor self.old self.new }
+    {
         let front = value_start(token, self.slice());
         if let ValueStart::Alone(ty) = front {
             return self.push_leaf(alloc, builder, parts, ty);
         }
+        self.parse_nested_part(alloc, builder, parts, levels, token, front)
+    }
+
+    /// The same of a part that begins so. It stands apart since what it makes is zeroed where it begins,
+    /// for which a part of one token needn't wait.
+    #[cycle(parser)]
+    #[inline(always)]
+    fn parse_nested_part<P: Builder>(
+        &mut self,
+        alloc: Global,
+        builder: P,
+        parts: &mut P::Parts,
+        levels: u32,
+        token: Token,
+        front: ValueStart,
+    ) -> Result<(), ReadError>
+        requires levels { 0 < levels }
+        requires front { IsValueStart token (text_at self.old.place) front }
+        ensures led { (first : Place) → TakesClass token first self.old.place → GivesWithin result levels due.value [] first self.new.place }
+        ensures kept { (first : Place) → TakesClass token first self.old.place
+            → IfOk result (λ _. HasPartBehind (P.are_parts builder) levels first self.new.place parts.old parts.new) }
+        ensures memory { (first : Place) → TakesClass token first self.old.place
+            → IfErr result (WithParts (P.are_parts builder) parts.old (OnlyOutOfMemory (P.takes_memory builder) first)) }
+        ensures asks { AsksFor self.old self.new }
+    {
         let part = builder.part(parts);
         let made = self.parse_after_token(alloc, part, levels, token, front)?;
         self.push_part(alloc, builder, parts, made)
@@ -231,28 +275,36 @@ impl<'source> Tokens<'source> {
             }
             return Ok(self.whole_of_none(alloc, builder, NodeType::List, start));
         }
+        if levels == 0 {
+            return self.refuse_depth();
+        }
         let ty = if close == Token::ParenClose {
             NodeType::Tuple
         } else {
             NodeType::List
         };
+        let mut token = self.advance()?;
         let mut parts = no_parts(alloc, builder, ty);
         'items: loop {
-            self.parse_part(alloc, builder, &mut parts, levels)?;
+            self.parse_part_after_token(alloc, builder, &mut parts, levels, token)?;
             let item = self.take();
-            let Found::Token(token) = item else {
+            let Found::Token(mark) = item else {
                 return self.refuse_item(item);
             };
-            if token == close {
+            if mark == close {
                 return Ok(self.whole(alloc, builder, ty, start, parts));
             }
-            if token != Token::Comma {
-                return self.refuse_token(token);
+            if mark != Token::Comma {
+                return self.refuse_token(mark);
             }
-            if self.next_is(close) {
-                self.expect(close)?;
+            let item = self.take();
+            let Found::Token(next) = item else {
+                return self.refuse_item(item);
+            };
+            if next == close {
                 return Ok(self.whole(alloc, builder, ty, start, parts));
             }
+            token = next;
         }
     }
 

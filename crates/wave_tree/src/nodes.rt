@@ -1,9 +1,27 @@
 //! The builder that makes nodes.
+ghost use Rattle.std.specs.Prelude.{◌≡◌, ◌++◌, [], ◌∷◌, OnOk};
+ghost use Rattle.wave_grammar.specs.NodeTree.{node, no_nodes};
+
 use crate::ast::{Node, NodeType, make};
 use std::alloc::{AllocError, Global};
 use std::collections::BTreeMap;
 use wave_grammar::builder::Builder;
 use wave_lex::lex::Span;
+
+/// Adds the node of one token.
+#[inline(always)]
+fn push_token(
+    alloc: Global,
+    parts: &mut Vec<Node>,
+    ty: NodeType,
+    span: Span,
+) -> Result<(), AllocError>
+    ensures { OnOk result (parts.new.items ≡ parts.old.items ++ node ty span no_nodes ∷ []) }
+{
+    parts.reserve(1)?;
+    parts.push_reserved(make::leaf(alloc, ty, span));
+    Ok(())
+}
 
 /// The builder that makes of each value its node.
 #[derive(Clone, Copy)]
@@ -56,9 +74,7 @@ impl Builder for NodeBuilder {
         span: Span,
         text: &str,
     ) -> Result<(), AllocError> {
-        parts.reserve(1)?;
-        parts.push_reserved(make::leaf(alloc, ty, span));
-        Ok(())
+        push_token(alloc, parts, ty, span)
     }
 
     #[inline(always)]
@@ -77,9 +93,7 @@ impl Builder for NodeBuilder {
         span: Span,
         text: &str,
     ) -> Result<(), AllocError> {
-        parts.reserve(1)?;
-        parts.push_reserved(make::leaf(alloc, ty, span));
-        Ok(())
+        push_token(alloc, parts, ty, span)
     }
 
     #[inline(always)]

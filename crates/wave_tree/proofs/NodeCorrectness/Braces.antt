@@ -18,7 +18,7 @@ use Rattle.wave_grammar.specs.Nodes.{placed_of, all_placed, key_of, pairs_of, sh
 use Rattle.wave_grammar.specs.declared.form.NodeType.{NodeType}
 use Rattle.wave_grammar.specs.declared.form.NodeType.TheVariants as kind
 use Rattle.wave_tree.specs.ParsedNodes.{IsSound, IsParsed}
-use Rattle.wave_tree.specs.Private.ParsedNodes.{IsKeyAt, key_node_type, ArePairs, AreFurtherPairs, IsOfEntries}
+use Rattle.wave_tree.specs.Private.ParsedNodes.{key_node_type, ArePairs, AreFurtherPairs, IsOfEntries}
 use Rattle.wave_tree.specs.Private.TokenRoles.{IsKeyClass}
 use Rattle.wave_grammar.specs.CommaSeparated.{FurtherItems}
 use Rattle.wave_tree.proofs.NodeCorrectness.Lists.{brace_mark, closed_tokens, no_paren_further}

@@ -6,7 +6,7 @@ use Rattle.wave_lex.specs.declared.lex.Token as lex
 use Rattle.wave_lex.specs.declared.lex.Token.TheVariants.{BraceOpen, BraceClose, ParenOpen, ParenClose, BracketOpen, BracketClose, Colon, Comma, LabelOrKeyword}
 use Rattle.wave_grammar.specs.Token as token
 use Rattle.wave_grammar.specs.ParserPosition.{Place, TakesItem, text_at, span_at}
-use Rattle.wave_grammar.specs.Tree.{word_of, leaf_word, none_word, some_word, ok_word, err_word, case_word}
+use Rattle.wave_grammar.specs.Tree.{word_of, leaf_word, none_word, some_word}
 use Rattle.wave_grammar.specs.SpannedTree.{one}
 use Rattle.wave_grammar.specs.NodeTree.{NodeTree, node, no_nodes, node_trees}
 use Rattle.wave_grammar.specs.declared.form.NodeType.{NodeType}

@@ -1,5 +1,5 @@
 -- What a node answers as its leaf does.
-use Rattle.std.proofs.Common.{ℕ, ◌≡◌, ◌⊎◌, inl, inr, ◌+◌, ◌<◌, ◌≤◌, ◌^◌, Result, Ok, Err, subst, arith}
+use Rattle.std.proofs.Common.{ℕ, ◌≡◌, ◌⊎◌, inl, inr, ◌<◌, ◌≤◌, ◌^◌, Result, Ok, Err, subst, arith}
 use Rattle.wave_lex.specs.Errors.{Diagnostic}
 use Rattle.wave_grammar.specs.NodeTree.{NodeTree, node, no_nodes, type_of, place_of}
 

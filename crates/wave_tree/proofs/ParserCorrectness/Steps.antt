@@ -9,7 +9,7 @@ use Rattle.wave_lex.specs.declared.error.ParserErrorKind.TheVariants as kind
 use Rattle.wave_lex.specs.Errors.{Diagnostic, class_name, repeated_name, Says}
 use Rattle.wave_lex.specs.declared.found.Found.{Found}
 use Rattle.wave_lex.specs.declared.found.Found.TheVariants as found
-use Rattle.wave_lex.specs.Tokenization.{NextIs, remainder_of, span, item_of as item_of_found}
+use Rattle.wave_lex.specs.Tokenization.{Lexed, NextIs, remainder_of, span, item_of as item_of_found}
 use Rattle.wave_lex.proofs.Tokenization.NextToken.{next_one, next_less}
 use Rattle.wave_grammar.specs.Token.{Token, paren_open}
 use Rattle.wave_grammar.specs.ParserPosition.{Place, TakesItem, TakesToken, TakesTokens, token_of, text_at, span_at}
@@ -277,6 +277,21 @@ token_less p q c h = next_less p.lexer q.lexer c h.0
 pub tokens_less : (p q : Place) (ts : List Token) → TakesTokens p ts q → left_at q ≤ left_at p
 tokens_less p q [] e = subst (λ z. left_at z ≤ left_at p) e (omega arith)
 tokens_less p q (t ∷ ts) (m, (c, h, e), more) = let one = token_less p m c h in let two = tokens_less m q ts more in omega arith
+
+-- after a value at most so much is left as after its first token
+pub value_less : {n : ℕ} {s v : List StackSymbol} (p m q : Place) (c : lex.Token) → TakesItem p (Some (Ok c)) m → LeadsBehindValue n value s p q v → left_at q ≤ left_at m
+value_less {n} {s} {v} p m q c there h = go h.tokens h.taken h.leads
+  where
+    go : (ts : List Token) → TakesTokens p ts q → Shifts n value s ts h.due_there v → left_at q ≤ left_at m
+    go [] taken leads = absurd (elim (subst (λ d. IsBehind d q) (sym leads.0) h.is_behind) [ inl is ↦ cc | inr is ↦ (let apart = is.0 in cc) ])
+    go (t ∷ ts) (w, (k, first, e), more) leads =
+        let same : left_at w ≡ left_at m = ap (λ (l : Lexed). length (remainder_of l)) (next_one p.lexer w.lexer m.lexer (Some (Ok k)) (Some (Ok c)) first.0 there.0).0 in
+        let less = tokens_less w q ts more in
+        omega arith
+
+-- where a token of another class was taken none of this one stands
+pub other_next : (close c : lex.Token) (p q : Place) → c ≢ close → TakesItem p (Some (Ok c)) q → (next : Place) × TakesItem p (Some (Ok close)) next → ⊥
+other_next close c p q apart there (next, h) = let same = (next_one p.lexer q.lexer next.lexer (Some (Ok c)) (Some (Ok close)) there.0 h.0).1 in apart (cc)
 
 -- ---- the answers of calls
 

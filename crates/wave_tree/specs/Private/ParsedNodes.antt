@@ -5,6 +5,8 @@ use Rattle.wave_wasm.specs.Names.{AreDistinct}
 use Rattle.wave_lex.specs.declared.lex.Token as lex
 use Rattle.wave_lex.specs.declared.lex.Token.TheVariants as class
 use Rattle.wave_lex.specs.Tokenization.{span}
+use Rattle.wave_lex.specs.Errors.{Diagnostic}
+use Rattle.wave_grammar.specs.NodeParts.{TakesPart}
 use Rattle.wave_grammar.specs.NodeTree.{NodeTree, node, no_nodes, node_trees}
 use Rattle.wave_tree.specs.Private.TokenRoles.{IsKeyClass}
 use Rattle.wave_grammar.specs.ParserPosition.{Place, span_at, text_at}
@@ -129,3 +131,13 @@ pub record IsOfFlags (start : ℕ) (old new : Place) (parsed : NodeTree) : Type 
 -- this was made of a node, of the place's source, for which this holds
 abbrev pub IsBuilt : {M : Type 0} → (List ℕ → NodeTree → M → Type 0) → Place → (NodeTree → Type 0) → M → Type 0
 IsBuilt Of p Is made = (n : NodeTree) × Is n × Of p.lexer.source n made
+
+-- to parts made of the first children of a node a part was added, read from the place first on
+abbrev pub HasPartBehind : {M : Type 0} → (List ℕ → NodeType → List NodeTree → M → Type 0) → ℕ → Place → Place → M → M → Type 0
+HasPartBehind Are n first new before after =
+    (of : NodeType) (children : List NodeTree) → TakesPart of children → Are first.lexer.source of children before
+    → (part : NodeTree) × IsParsed n first new part × Are first.lexer.source of (children ++ part ∷ []) after
+
+-- an error is so, where parts were made of the first children of a node
+abbrev pub WithParts : {M : Type 0} → (List ℕ → NodeType → List NodeTree → M → Type 0) → M → (Diagnostic → Type 0) → Diagnostic → Type 0
+WithParts Are parts Is e = (source : List ℕ) (of : NodeType) (children : List NodeTree) → Are source of children parts → Is e

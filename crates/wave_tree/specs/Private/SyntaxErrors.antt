@@ -1,5 +1,5 @@
 -- The syntax refusals of a parser: which stands where, and at which span.
-use Rattle.std.specs.Prelude.{ℕ, ◌≡◌, ◌≢◌, ◌⊎◌, ◌≤◌, ◌<◌, ◌+◌, List, ◌++◌, Result, length}
+use Rattle.std.specs.Prelude.{ℕ, ◌≡◌, ◌+◌, List, ◌++◌, Result, length}
 use Rattle.wave_lex.specs.Errors.{Diagnostic}
 use Rattle.wave_grammar.specs.ParserPosition.{Place}
 use Rattle.wave_grammar.specs.PrefixAutomaton.{Expectation, StackSymbol}

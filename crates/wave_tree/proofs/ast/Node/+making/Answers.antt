@@ -1,4 +1,4 @@
-use Rattle.std.proofs.Common.{◌≡◌, Some, ◌≢◌, ◌<◌, ◌≤◌, ◌++◌, ◌+◌, [], ◌∷◌, List, length, take, Option, Bor, Err, arith, inl, inr, refl, sym, ap, subst, ◌∙◌}
+use Rattle.std.proofs.Common.{◌≡◌, Some, ◌≢◌, ◌<◌, ◌≤◌, ◌++◌, ◌+◌, [], ◌∷◌, List, length, take, Option, Bor, arith, inl, inr, refl, sym, ap, subst, ◌∙◌}
 use Rattle.std.proofs.lemmas.List.{take_all}
 use Rattle.wave_wasm.specs.Types.{TypeTree, HasDistinctNames, kind_of}
 use Rattle.wave_wasm.specs.Borrowed.{shown, shown_fields}
@@ -26,7 +26,7 @@ use Rattle.wave_grammar.proofs.Elaboration.ParamsInTurn.{error_handed}
 use Rattle.wave_read.specs.Leaves.{leaf_node}
 use Rattle.wave_read.specs.PlainReading.{IsReadSparing}
 use Rattle.wave_read.proofs.LeafReading.PlainTypes.{no_row_spares}
-use Rattle.wave_read.specs.Flat.{ReadsNoRecord, IsCounted}
+use Rattle.wave_read.specs.Flat.{ReadsNoRecord}
 use Rattle.wave_read.specs.KeptParts.{AreKeptWhereDue}
 use Rattle.wave_read.specs.PartsOfKinds.{AreDoomedAtOnce}
 use Rattle.wave_tree.proofs.NodeReading.Children.{child_below, key_child, value_child, if_true, if_false, more_children, key_alone, whole_at}

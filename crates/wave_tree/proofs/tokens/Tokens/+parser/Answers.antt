@@ -1,4 +1,4 @@
-use Rattle.std.proofs.Common.{◌≡◌, ℕ, ◌+◌, ◌-◌, Some, Ok, List, [], ◌∷◌, ◌++◌, refl, sym, ap, subst, ◌∙◌, inl, inr, arith, length}
+use Rattle.std.proofs.Common.{◌≡◌, ℕ, ◌+◌, ◌-◌, Some, Ok, List, [], ◌∷◌, ◌++◌, refl, sym, ap, subst, ◌∙◌, inl, inr, arith}
 use Rattle.wave_lex.specs.declared.lex.Token as lex
 use Rattle.wave_lex.specs.declared.lex.Token.TheVariants.{BraceOpen, BraceClose, ParenOpen, ParenClose, BracketOpen, BracketClose, Colon, Comma, LabelOrKeyword}
 use Rattle.wave_grammar.specs.ParserPosition.{Place, TakesItem, span_at, text_at, token_of}
@@ -9,10 +9,10 @@ use Rattle.std.specs.declared.ops.Range.{Range}
 use Rattle.wave_lex.specs.Tokenization.{span}
 use Rattle.wave_tree.specs.Private.TokenRoles.{form_of, IsClose}
 use Rattle.wave_lex.specs.declared.error.ParserErrorKind.TheVariants as because
-use Rattle.wave_tree.proofs.ParserCorrectness.Steps.{gives_or_memory, no_level, refuses_there, kind_is, here, here_is, handed, gives_then, fails, any_token, shallow, value_read, level_open, read_there, unexpected_there, no_paren, then_token, token_there, behind_bare, reached, fails_behind, then_behind, payload_other, unexpected_behind, expected, untrue, moved, then_class, then_behind_class, range_path, close_first, close_empty, close_next, then_same, then_refuses, item_refuses, item_read, then_reached, Reached, IsItemDue, no_close, empty_there, key_reads, no_key, brace_key, entries_other, close_behind, comma_behind, other_behind, token_less, tokens_less, left_at, no_colon, no_brace, gives_alike, paren_alike, colon_alike, item_fails}
+use Rattle.wave_tree.proofs.ParserCorrectness.Steps.{gives_or_memory, no_level, refuses_there, kind_is, here, here_is, handed, gives_then, fails, any_token, shallow, value_read, level_open, read_there, unexpected_there, no_paren, behind_bare, reached, fails_behind, then_behind, payload_other, unexpected_behind, expected, untrue, moved, then_class, then_behind_class, range_path, close_first, close_empty, close_next, then_same, then_refuses, item_refuses, item_read, then_reached, Reached, IsItemDue, no_close, empty_there, key_reads, no_key, brace_key, entries_other, close_behind, comma_behind, other_behind, token_less, tokens_less, no_colon, no_brace, gives_alike, paren_alike, colon_alike, item_fails, value_less, other_next}
 use Rattle.wave_tree.specs.declared.role.ValueStart.{ValueStart}
 use Rattle.wave_tree.specs.declared.role.ValueStart.TheVariants as front
-use Rattle.wave_tree.specs.Private.ParserState.{Stream, AsksFor, IsAlone, IsValueStart}
+use Rattle.wave_tree.specs.Private.ParserState.{IsAlone, IsValueStart}
 use Rattle.wave_tree.specs.Private.ParsedNodes.{IsParsedBehind, IsMaybe, IsInParens, IsOfItems, IsOfEntries, IsOfFlags, items_type, label_children}
 use Rattle.wave_tree.specs.ParsedNodes.{TakesClass, IsParsed}
 use Rattle.wave_grammar.specs.NodeTree.{NodeTree, node, no_nodes, node_trees}
@@ -27,7 +27,7 @@ use Rattle.wave_tree.proofs.ParserCorrectness.PartsDue.{key_next, value_next, pa
 use Rattle.wave_tree.proofs.ParserCorrectness.BuiltNodes.{as_added, part_added, entry_added, built, whole_built, none_built, as_ok, never_made, source_item, source_parsed, source_reached}
 use Rattle.wave_grammar.specs.NodeParts.{IsOfParts, TakesPart}
 use Rattle.wave_tree.proofs.ParserCorrectness.ClassTests.{is_class, is_other, differs, differs_not}
-use Rattle.wave_tree.proofs.ParserCorrectness.LexerCalls.{asks_none, asks_once, asks_token, asks_looked, asks_read, asks_reached}
+use Rattle.wave_tree.proofs.ParserCorrectness.LexerCalls.{asks_none, asks_once, asks_token, asks_looked, asks_value, asks_begun, asks_item, asks_entries}
 use Rattle.wave_tree.proofs.tokens.Tokens.+parser.Goals as goal
 use Rattle.wave_tree.proofs.tokens.Tokens.+parser.Goals.{parse_items-then-eq-2, parse_items-else-eq-2}
 
@@ -47,21 +47,6 @@ value_there so_far h = then_same Colon so_far h refl
 key_due : {n : ℕ} {s : List StackSymbol} {p q m w : Place} {c : lex.Token} → Reached n due.behind_key s p due.value (due.entries ∷ s) q → (item : LeadsBehindValue n due.value (due.entries ∷ s) q m (due.entries ∷ s)) →
     TakesItem m (Some (Ok c)) w → c ≡ Comma → Reached n due.behind_key s p due.key s w
 key_due {s = s} so_far item comma_there is_comma = then_behind_class {f = due.key} {b = s} item.due_there Comma (then_reached so_far (reached item)) item.is_behind comma_there is_comma refl
-
--- after a value that was read
-asks_value : (levels : ℕ) (p q r : Stream) → ((n : ℕ) (s : List StackSymbol) → n ≡ levels + length s → LeadsBehindValue n due.value s p.place q.place s) → AsksFor p q → AsksFor q r → AsksFor p r
-asks_value levels p q r read first more = asks_read levels due.value [] [] p q r (read levels [] (omega arith)) first more
-
--- after the items so far
-asks_items : (levels : ℕ) (close : lex.Token) (old at new : Stream) →
-    ((n : ℕ) (s : List StackSymbol) → n ≡ levels + 1 + length s → (d : Expectation) × IsItemDue d × Reached n due.first_item (form_of close ∷ s) old.place d (form_of close ∷ s) at.place) → AsksFor old at → AsksFor at new → AsksFor old new
-asks_items levels close old at new led first more =
-    let (d, i, r) = led (levels + 1) [] (omega arith) in
-    asks_reached (levels + 1) due.first_item d (form_of close ∷ []) (form_of close ∷ []) old at new r first more
-
--- after the entries so far
-asks_entries : (levels : ℕ) (old at new : Stream) → ((n : ℕ) (s : List StackSymbol) → n ≡ levels + 1 + length s → Reached n due.behind_key s old.place due.behind_key s at.place) → AsksFor old at → AsksFor at new → AsksFor old new
-asks_entries levels old at new led first more = asks_reached (levels + 1) due.behind_key due.behind_key [] [] old at new (led (levels + 1) [] (omega arith)) first more
 
 pub parse_after_token-returns-in-Alone-clause-led : goal.parse_after_token-returns-in-Alone-clause-led
 parse_after_token-returns-in-Alone-clause-led g t c = λ first there n s e. alone_led n s first c.args.self.now.place c.args.token c.in-Alone.ty (omega arith) there (subst (IsValueStart c.args.token (text_at c.args.self.now.place)) c.in-Alone.is c.requires.front)
@@ -132,12 +117,83 @@ parse_items-returns-then-next_is-clause-led g t c = λ n s e.
     read_there (then_same c.args.close (here_is n due.first_item (form_of c.args.close ∷ s) _ _ c.next_is.ensures.stays) c.in_ok-expect.ensures.takes
     (close_first n c.args.close s (text_at c.expect.new.self.place) c.requires (is_other _ _ c.eq.ensures c.if-eq.false))) (inl refl)
 
+-- after an item that was read
+behind_item : {n : ℕ} {d e : Expectation} {s : List StackSymbol} {p q w : Place} (close : lex.Token) → IsClose close → ((next : Place) × TakesItem q (Some (Ok close)) next → ⊥) → IsItemDue e →
+    Reached n d (form_of close ∷ s) p e (form_of close ∷ s) q → (h : LeadsBehindValue n due.value (form_of close ∷ s) q w (form_of close ∷ s)) → Reached n d (form_of close ∷ s) p h.due_there (form_of close ∷ s) w
+behind_item {e = e} {s = s} {q = q} close is_close none i r h = then_reached r (item_read e i (no_close close s q is_close none) h)
+
+pub parse_part-returns : goal.parse_part-returns
+parse_part-returns g t c = record {
+  led = λ n s e. c.parse_part_after_token.ensures.led c.args.self.now.place c.in-Token.ensures.takes n s e;
+  kept = c.parse_part_after_token.ensures.kept c.args.self.now.place c.in-Token.ensures.takes;
+  memory = c.parse_part_after_token.ensures.memory c.args.self.now.place c.in-Token.ensures.takes;
+  asks = asks_token c.args.self.now c.take-item.new.self c.parse_part_after_token.new.self c.in-Token.token c.in-Token.ensures.takes c.take-item.ensures.asks c.parse_part_after_token.ensures.asks;
+}
+
+pub parse_part_after_token-returns-in-Alone : goal.parse_part_after_token-returns-in-Alone
+parse_part_after_token-returns-in-Alone g t c =
+    let here = c.args.self.now.place in
+    let n = node c.in-Alone.ty (span_at here) no_nodes in
+    let alone : IsAlone c.args.token (text_at here) c.in-Alone.ty = front_alone c.args.token (text_at here) c.slice.result.now c.value_start-front.result c.in-Alone.ty c.slice.ensures c.value_start-front.ensures c.in-Alone.is in record {
+      led = λ first there n s e. gives_or_memory c.push_leaf.result c.push_leaf.ensures.memory (alone_led n s first here c.args.token c.in-Alone.ty (omega arith) there alone);
+      kept = λ first there. let source : here.lexer.source ≡ first.lexer.source = source_item first here c.args.token there in
+          as_added c.push_leaf.result c.push_leaf.ensures.kept (λ kept whole children due are. (
+            n,
+            alone_parsed c.args.levels first here c.args.token c.in-Alone.ty c.requires there alone,
+            subst (λ (s : List ℕ). g.P.Builder.are_parts c.args.builder s whole (children ++ n ∷ []) c.push_leaf.new.parts) source
+                (kept whole children due (subst (λ (s : List ℕ). g.P.Builder.are_parts c.args.builder s whole children c.args.parts.now) (sym source) are)),
+          ));
+      memory = λ first there. wants_any (λ (source : List ℕ) (of : NodeType) (children : List NodeTree). g.P.Builder.are_parts c.args.builder source of children c.args.parts.now) (g.P.Builder.takes_memory c.args.builder) (OnlyOutOfMemory (g.P.Builder.takes_memory c.args.builder) first) c.push_leaf.result c.push_leaf.ensures.takes (λ e takes. wants_taken (g.P.Builder.takes_memory c.args.builder) first e takes);
+      asks = asks_none c.args.self.now c.args.self.now refl;
+    }
+
+pub parse_nested_part-returns-in_err-made-clause-led : goal.parse_nested_part-returns-in_err-made-clause-led
+parse_nested_part-returns-in_err-made-clause-led g t c = λ first there n s e. handed s _ _ c.from_residual.ensures.1 (c.in_err-made.ensures.led first there n s e)
+
+pub parse_nested_part-returns-in_err-made-clause-memory : goal.parse_nested_part-returns-in_err-made-clause-memory
+parse_nested_part-returns-in_err-made-clause-memory g t c = λ first there.
+    error_handed (λ e. (source : List ℕ) (of : NodeType) (children : List NodeTree) → g.P.Builder.are_parts c.args.builder source of children c.args.parts.now → OnlyOutOfMemory (g.P.Builder.takes_memory c.args.builder) first e) c.from_residual.result c.in_err-made.field-0.0 c.from_residual.ensures.1
+    (λ source of children are. wants_less (g.P.Builder.takes_memory c.part-part.result) (g.P.Builder.takes_memory c.args.builder) first c.in_err-made.field-0.0
+    (λ takes. g.met.P.Builder.next_takes c.args.builder source of children c.args.parts.now are (subst (λ z. g.P.Builder.takes_memory z) c.part-part.ensures takes)) (c.in_err-made.ensures.memory first there))
+
+pub parse_nested_part-returns : goal.parse_nested_part-returns
+parse_nested_part-returns g t c =
+    let here = c.args.self.now.place in record {
+      led = λ first there n s e. gives_or_memory c.push_part.result c.push_part.ensures.memory (c.in_ok-made.ensures.led first there n s e);
+      kept = λ first there.
+          let (n, is, of) = c.in_ok-made.ensures.tree in
+          let source : here.lexer.source ≡ first.lexer.source = source_item first here c.args.token there in
+          let made = subst (λ z. g.P.Builder.is_made z here.lexer.source n c.in_ok-made.made) c.part-part.ensures of in
+          as_added c.push_part.result c.push_part.ensures.kept (λ kept whole children due are.
+          (n, is first there, (kept first.lexer.source whole children n due are (subst (λ (s : List ℕ). g.P.Builder.is_made (g.P.Builder.next c.args.builder c.args.parts.now) s n c.in_ok-made.made) source made))));
+      memory = λ first there. wants_any (λ (source : List ℕ) (of : NodeType) (children : List NodeTree). g.P.Builder.are_parts c.args.builder source of children c.args.parts.now) (g.P.Builder.takes_memory c.args.builder) (OnlyOutOfMemory (g.P.Builder.takes_memory c.args.builder) first) c.push_part.result c.push_part.ensures.takes (λ e takes. wants_taken (g.P.Builder.takes_memory c.args.builder) first e takes);
+      asks = c.parse_after_token.ensures.asks;
+    }
+
+pub parse_items-returns-then-levels-eq0-clause-led : goal.parse_items-returns-then-levels-eq0-clause-led
+parse_items-returns-then-levels-eq0-clause-led g t c = λ n s e.
+    let none = subst (λ z. (next : Place) × TakesItem z (Some (Ok c.args.close)) next → ⊥) (sym c.next_is.ensures.stays) (λ next. untrue _ c.if-next_is.false (c.next_is.ensures.answer.1 next)) in
+    refuses_there s c.refuse_depth.result c.refuse_depth.ensures.never c.refuse_depth.ensures.refused (λ x says. then_refuses x (here_is n due.first_item (form_of c.args.close ∷ s) _ _ c.next_is.ensures.stays)
+    (item_refuses due.first_item x (inl refl) (no_close c.args.close s _ c.requires none) (no_level n (form_of c.args.close ∷ s) c.next_is.new.self.place x (omega arith) says)))
+
+pub parse_items-returns-then-levels-eq0-clause-memory : goal.parse_items-returns-then-levels-eq0-clause-memory
+parse_items-returns-then-levels-eq0-clause-memory g t c = wants_refused (g.P.Builder.takes_memory c.args.builder) c.args.self.now.place c.refuse_depth.result c.refuse_depth.ensures.refused (λ x says. wants_other (g.P.Builder.takes_memory c.args.builder) c.args.self.now.place x because.NestingTooDeep (kind_is says) (λ z. cc))
+
+pub parse_items-returns-in_err-token-clause-led : goal.parse_items-returns-in_err-token-clause-led
+parse_items-returns-in_err-token-clause-led g t c = λ n s e. handed s _ _ c.from_residual-in_err-token.ensures.1
+    (fails (inl tt) (λ _. Unit {0}) c.in_err-token.field-0.0 (here_is n due.first_item (form_of c.args.close ∷ s) _ _ c.next_is.ensures.stays) (shallow n due.first_item (form_of c.args.close ∷ s) _ (omega arith)) (any_token n due.first_item (form_of c.args.close ∷ s) _ _) c.in_err-token.ensures.takes)
+
+pub parse_items-returns-in_err-token-clause-memory : goal.parse_items-returns-in_err-token-clause-memory
+parse_items-returns-in_err-token-clause-memory g t c = error_handed (OnlyOutOfMemory (g.P.Builder.takes_memory c.args.builder) c.args.self.now.place) c.from_residual-in_err-token.result c.in_err-token.field-0.0 c.from_residual-in_err-token.ensures.1 (wants_fails (g.P.Builder.takes_memory c.args.builder) c.args.self.now.place c.next_is.new.self.place c.advance.new.self.place (λ _. Unit {0}) c.in_err-token.field-0.0 c.in_err-token.ensures.takes)
+
 pub parse_items-items-init : goal.parse_items-items-init
 parse_items-items-init g t c = record {
-  asks = asks_once c.args.self.now c.next_is.new.self c.next_is.ensures.asks;
-  no_close = subst (λ z. (next : Place) × TakesItem z (Some (Ok c.args.close)) next → ⊥) (sym c.next_is.ensures.stays) (λ next. untrue _ c.if-next_is.false (c.next_is.ensures.answer.1 next));
-  reached = λ n s e. (due.first_item, inl refl, here_is n due.first_item (form_of c.args.close ∷ s) _ _ c.next_is.ensures.stays);
-  tree = (
+  asks = asks_looked c.args.self.now c.next_is.new.self c.advance.new.self c.next_is.ensures.stays c.next_is.ensures.asks (asks_once c.next_is.new.self c.advance.new.self c.advance.ensures.asks);
+  from = (
+    c.next_is.new.self.place,
+    c.in_ok-token.ensures.takes,
+    subst (λ z. (next : Place) × TakesItem z (Some (Ok c.args.close)) next → ⊥) (sym c.next_is.ensures.stays) (λ next. untrue _ c.if-next_is.false (c.next_is.ensures.answer.1 next)),
+    λ n s e. (due.first_item, inl refl, here_is n due.first_item (form_of c.args.close ∷ s) _ _ c.next_is.ensures.stays),
     [],
     c.no_parts-parts.ensures _ (elim c.if-eq-2.branch [
       | parse_items-then-eq-2 w ↦ subst IsOfParts (sym w.ty-is) tt
@@ -147,143 +203,203 @@ parse_items-items-init g t c = record {
   );
 }
 
-pub parse_items-returns-in_err-parse_part-clause-led : goal.parse_items-returns-in_err-parse_part-clause-led
-parse_items-returns-in_err-parse_part-clause-led g t c = λ n s e.
-    let (d, i, r) = c.items.invariant.reached n s e in
-    handed s _ _ c.from_residual-in_err-parse_part.ensures.1 (then_refuses c.in_err-parse_part.field-0.0 r
-    (item_refuses d c.in_err-parse_part.field-0.0 i (no_close c.args.close s _ c.requires c.items.invariant.no_close) (c.in_err-parse_part.ensures.led n (form_of c.args.close ∷ s) (omega arith))))
-
--- after an item that was read
-behind_item : {n : ℕ} {d e : Expectation} {s : List StackSymbol} {p q w : Place} (close : lex.Token) → IsClose close → ((next : Place) × TakesItem q (Some (Ok close)) next → ⊥) → IsItemDue e →
-    Reached n d (form_of close ∷ s) p e (form_of close ∷ s) q → (h : LeadsBehindValue n due.value (form_of close ∷ s) q w (form_of close ∷ s)) → Reached n d (form_of close ∷ s) p h.due_there (form_of close ∷ s) w
-behind_item {e = e} {s = s} {q = q} close is_close none i r h = then_reached r (item_read e i (no_close close s q is_close none) h)
+pub parse_items-returns-in_err-parse_part_after_token-clause-led : goal.parse_items-returns-in_err-parse_part_after_token-clause-led
+parse_items-returns-in_err-parse_part_after_token-clause-led g t c = λ n s e.
+    let (at, there, none, due_at, children, first, go) = c.items.invariant.from in
+    let (d, i, r) = due_at n s e in
+    handed s _ _ c.from_residual-in_err-parse_part_after_token.ensures.1 (then_refuses c.in_err-parse_part_after_token.field-0.0 r
+    (item_refuses d c.in_err-parse_part_after_token.field-0.0 i (no_close c.args.close s _ c.requires none) (c.in_err-parse_part_after_token.ensures.led at there n (form_of c.args.close ∷ s) (omega arith))))
 
 pub parse_items-returns-then-eq-3-clause-led : goal.parse_items-returns-then-eq-3-clause-led
 parse_items-returns-then-eq-3-clause-led g t c = λ n s e.
-    let (d, i, r) = c.items.invariant.reached n s e in
-    let item = c.in_ok-parse_part.ensures.led n (form_of c.args.close ∷ s) (omega arith) in
-    let behind = behind_item c.args.close c.requires c.items.invariant.no_close i r item in
+    let (at, there, none, due_at, children, first, go) = c.items.invariant.from in
+    let (d, i, r) = due_at n s e in
+    let item = c.in_ok-parse_part_after_token.ensures.led at there n (form_of c.args.close ∷ s) (omega arith) in
+    let behind = behind_item c.args.close c.requires none i r item in
     let step_there = close_behind c.args.close s (text_at c.take-item.new.self.place) c.requires in
-    read_there (then_behind item.due_there c.in-Token.token behind item.is_behind c.in-Token.ensures.takes
-    (subst (λ z. behind_step (form_of c.args.close ∷ s) (token_of z (text_at c.take-item.new.self.place)) ≡ reads due.behind_value s) (sym (is_class c.in-Token.token c.args.close c.eq-in-items.ensures c.if-eq-3.true)) step_there)) (inl refl)
+    read_there (then_behind item.due_there c.in-Token.mark behind item.is_behind c.in-Token.ensures.takes
+    (subst (λ z. behind_step (form_of c.args.close ∷ s) (token_of z (text_at c.take-item.new.self.place)) ≡ reads due.behind_value s) (sym (is_class c.in-Token.mark c.args.close c.eq-in-items.ensures c.if-eq-3.true)) step_there)) (inl refl)
 
 pub parse_items-returns-then-ne-clause-led : goal.parse_items-returns-then-ne-clause-led
 parse_items-returns-then-ne-clause-led g t c = λ n s e.
-    let (d, i, r) = c.items.invariant.reached n s e in
-    let item = c.in_ok-parse_part.ensures.led n (form_of c.args.close ∷ s) (omega arith) in
-    let behind = behind_item c.args.close c.requires c.items.invariant.no_close i r item in
-    refuses_there s c.refuse_token.result c.refuse_token.ensures.never c.refuse_token.ensures.refused (λ x says. unexpected_behind item.due_there x c.in-Token.token behind item.is_behind c.in-Token.ensures.takes
-    (other_behind c.args.close c.in-Token.token s (text_at c.take-item.new.self.place) c.requires (is_other _ _ c.eq-in-items.ensures c.if-eq-3.false) (differs _ _ c.ne.ensures c.if-ne.true))
+    let (at, there, none, due_at, children, first, go) = c.items.invariant.from in
+    let (d, i, r) = due_at n s e in
+    let item = c.in_ok-parse_part_after_token.ensures.led at there n (form_of c.args.close ∷ s) (omega arith) in
+    let behind = behind_item c.args.close c.requires none i r item in
+    refuses_there s c.refuse_token.result c.refuse_token.ensures.never c.refuse_token.ensures.refused (λ x says. unexpected_behind item.due_there x c.in-Token.mark behind item.is_behind c.in-Token.ensures.takes
+    (other_behind c.args.close c.in-Token.mark s (text_at c.take-item.new.self.place) c.requires (is_other _ _ c.eq-in-items.ensures c.if-eq-3.false) (differs _ _ c.ne.ensures c.if-ne.true))
     says)
 
-pub parse_items-returns-in_err-expect-2-clause-led : goal.parse_items-returns-in_err-expect-2-clause-led
-parse_items-returns-in_err-expect-2-clause-led g t c = λ n s e. handed s _ _ c.from_residual-in_err-expect-2.ensures.1
-    (expected c.take-item.new.self.place c.next_is-in-items.new.self.place c.expect-then-next_is-2.new.self.place c.args.close c.in_err-expect-2.field-0.0 c.next_is-in-items.ensures.stays (c.if-next_is-2.ensures.answer.0 refl) c.in_err-expect-2.ensures.takes)
-
-pub parse_items-returns-then-next_is-2-clause-led : goal.parse_items-returns-then-next_is-2-clause-led
-parse_items-returns-then-next_is-2-clause-led g t c = λ n s e.
-    let (d, i, r) = c.items.invariant.reached n s e in
-    let item = c.in_ok-parse_part.ensures.led n (form_of c.args.close ∷ s) (omega arith) in
-    let behind = behind_item c.args.close c.requires c.items.invariant.no_close i r item in
-    let comma_step = subst (λ z. behind_step (form_of c.args.close ∷ s) (token_of z (text_at c.take-item.new.self.place)) ≡ reads due.next_item (form_of c.args.close ∷ s)) (sym (differs_not c.in-Token.token Comma c.ne.ensures c.if-ne.false)) (comma_behind c.args.close s (text_at c.take-item.new.self.place) c.requires) in
-    let next = then_behind item.due_there c.in-Token.token behind item.is_behind c.in-Token.ensures.takes comma_step in
-    read_there (then_same c.args.close (moved c.next_is-in-items.ensures.stays next) c.in_ok-expect-2.ensures.takes (close_next n c.args.close s (text_at c.expect-then-next_is-2.new.self.place) c.requires)) (inl refl)
+pub parse_items-returns-then-eq-4-clause-led : goal.parse_items-returns-then-eq-4-clause-led
+parse_items-returns-then-eq-4-clause-led g t c = λ n s e.
+    let (at, there, none, due_at, children, first, go) = c.items.invariant.from in
+    let (d, i, r) = due_at n s e in
+    let item = c.in_ok-parse_part_after_token.ensures.led at there n (form_of c.args.close ∷ s) (omega arith) in
+    let behind = behind_item c.args.close c.requires none i r item in
+    let comma_step = subst (λ z. behind_step (form_of c.args.close ∷ s) (token_of z (text_at c.take-item.new.self.place)) ≡ reads due.next_item (form_of c.args.close ∷ s)) (sym (differs_not c.in-Token.mark Comma c.ne.ensures c.if-ne.false)) (comma_behind c.args.close s (text_at c.take-item.new.self.place) c.requires) in
+    let next = then_behind item.due_there c.in-Token.mark behind item.is_behind c.in-Token.ensures.takes comma_step in
+    read_there (then_class c.args.close next c.in-Token-item.ensures.takes (is_class _ _ c.eq-in-items-2.ensures c.if-eq-4.true) (close_next n c.args.close s (text_at c.take-item-in-items.new.self.place) c.requires)) (inl refl)
 
 pub parse_items-items-smaller : goal.parse_items-items-smaller
 parse_items-items-smaller g t c =
-    let item = c.in_ok-parse_part.ensures.led (c.args.levels + 1 + 0) (form_of c.args.close ∷ []) (omega arith) in
-    let one = tokens_less _ _ item.tokens item.taken in
-    let two = token_less _ _ c.in-Token.token c.in-Token.ensures.takes in
-    let three = ap left_at c.next_is-in-items.ensures.stays in
+    let (at, there, none, due_at, children, first, go) = c.items.invariant.from in
+    let item = c.in_ok-parse_part_after_token.ensures.led at there (c.args.levels + 1 + 0) (form_of c.args.close ∷ []) (omega arith) in
+    let one = value_less at c.items.self.place c.parse_part_after_token.new.self.place c.items.token there item in
+    let two = token_less _ _ c.in-Token.mark c.in-Token.ensures.takes in
+    let three = token_less _ _ c.in-Token-item.next c.in-Token-item.ensures.takes in
     omega arith
 
-pub parse_items-returns-in_err-parse_part-clause-asks : goal.parse_items-returns-in_err-parse_part-clause-asks
-parse_items-returns-in_err-parse_part-clause-asks g t c =
-    asks_items c.args.levels c.args.close c.args.self.now c.items.self c.parse_part.new.self c.items.invariant.reached c.items.invariant.asks c.parse_part.ensures.asks
+pub parse_items-returns-in_err-parse_part_after_token-clause-asks : goal.parse_items-returns-in_err-parse_part_after_token-clause-asks
+parse_items-returns-in_err-parse_part_after_token-clause-asks g t c =
+    let (at, there, none, due_at, children, first, go) = c.items.invariant.from in
+    asks_begun c.args.levels c.args.close c.items.token c.args.self.now c.items.self c.parse_part_after_token.new.self at due_at there c.items.invariant.asks c.parse_part_after_token.ensures.asks
 
 pub parse_items-returns-then-eq-3-clause-asks : goal.parse_items-returns-then-eq-3-clause-asks
 parse_items-returns-then-eq-3-clause-asks g t c =
-    asks_items c.args.levels c.args.close c.args.self.now c.items.self c.take-item.new.self c.items.invariant.reached c.items.invariant.asks (asks_value c.args.levels c.items.self c.parse_part.new.self c.take-item.new.self c.in_ok-parse_part.ensures.led c.parse_part.ensures.asks (asks_once c.parse_part.new.self c.take-item.new.self c.take-item.ensures.asks))
+    let (at, there, none, due_at, children, first, go) = c.items.invariant.from in
+    asks_item c.args.levels c.args.close c.args.self.now c.parse_part_after_token.new.self c.take-item.new.self at c.requires none due_at (c.in_ok-parse_part_after_token.ensures.led at there) (asks_begun c.args.levels c.args.close c.items.token c.args.self.now c.items.self c.parse_part_after_token.new.self at due_at there c.items.invariant.asks c.parse_part_after_token.ensures.asks) (asks_once c.parse_part_after_token.new.self c.take-item.new.self c.take-item.ensures.asks)
 
 pub parse_items-returns-then-ne-clause-asks : goal.parse_items-returns-then-ne-clause-asks
 parse_items-returns-then-ne-clause-asks g t c =
-    asks_items c.args.levels c.args.close c.args.self.now c.items.self c.take-item.new.self c.items.invariant.reached c.items.invariant.asks (asks_value c.args.levels c.items.self c.parse_part.new.self c.take-item.new.self c.in_ok-parse_part.ensures.led c.parse_part.ensures.asks (asks_once c.parse_part.new.self c.take-item.new.self c.take-item.ensures.asks))
+    let (at, there, none, due_at, children, first, go) = c.items.invariant.from in
+    asks_item c.args.levels c.args.close c.args.self.now c.parse_part_after_token.new.self c.take-item.new.self at c.requires none due_at (c.in_ok-parse_part_after_token.ensures.led at there) (asks_begun c.args.levels c.args.close c.items.token c.args.self.now c.items.self c.parse_part_after_token.new.self at due_at there c.items.invariant.asks c.parse_part_after_token.ensures.asks) (asks_once c.parse_part_after_token.new.self c.take-item.new.self c.take-item.ensures.asks)
 
-pub parse_items-returns-in_err-expect-2-clause-asks : goal.parse_items-returns-in_err-expect-2-clause-asks
-parse_items-returns-in_err-expect-2-clause-asks g t c =
-    asks_items c.args.levels c.args.close c.args.self.now c.items.self c.expect-then-next_is-2.new.self c.items.invariant.reached c.items.invariant.asks (asks_value c.args.levels c.items.self c.parse_part.new.self c.expect-then-next_is-2.new.self c.in_ok-parse_part.ensures.led c.parse_part.ensures.asks (asks_token c.parse_part.new.self c.take-item.new.self c.expect-then-next_is-2.new.self c.in-Token.token c.in-Token.ensures.takes c.take-item.ensures.asks (asks_looked c.take-item.new.self c.next_is-in-items.new.self c.expect-then-next_is-2.new.self c.next_is-in-items.ensures.stays c.next_is-in-items.ensures.asks (asks_once c.next_is-in-items.new.self c.expect-then-next_is-2.new.self c.expect-then-next_is-2.ensures.asks))))
-
-pub parse_items-returns-then-next_is-2-clause-asks : goal.parse_items-returns-then-next_is-2-clause-asks
-parse_items-returns-then-next_is-2-clause-asks g t c =
-    asks_items c.args.levels c.args.close c.args.self.now c.items.self c.expect-then-next_is-2.new.self c.items.invariant.reached c.items.invariant.asks (asks_value c.args.levels c.items.self c.parse_part.new.self c.expect-then-next_is-2.new.self c.in_ok-parse_part.ensures.led c.parse_part.ensures.asks (asks_token c.parse_part.new.self c.take-item.new.self c.expect-then-next_is-2.new.self c.in-Token.token c.in-Token.ensures.takes c.take-item.ensures.asks (asks_looked c.take-item.new.self c.next_is-in-items.new.self c.expect-then-next_is-2.new.self c.next_is-in-items.ensures.stays c.next_is-in-items.ensures.asks (asks_once c.next_is-in-items.new.self c.expect-then-next_is-2.new.self c.expect-then-next_is-2.ensures.asks))))
+pub parse_items-returns-then-eq-4-clause-asks : goal.parse_items-returns-then-eq-4-clause-asks
+parse_items-returns-then-eq-4-clause-asks g t c =
+    let (at, there, none, due_at, children, first, go) = c.items.invariant.from in
+    asks_item c.args.levels c.args.close c.args.self.now c.parse_part_after_token.new.self c.take-item-in-items.new.self at c.requires none due_at (c.in_ok-parse_part_after_token.ensures.led at there) (asks_begun c.args.levels c.args.close c.items.token c.args.self.now c.items.self c.parse_part_after_token.new.self at due_at there c.items.invariant.asks c.parse_part_after_token.ensures.asks) (asks_token c.parse_part_after_token.new.self c.take-item.new.self c.take-item-in-items.new.self c.in-Token.mark c.in-Token.ensures.takes c.take-item.ensures.asks (asks_once c.take-item.new.self c.take-item-in-items.new.self c.take-item-in-items.ensures.asks))
 
 pub parse_items-returns-then-eq-3-clause-tree : goal.parse_items-returns-then-eq-3-clause-tree
 parse_items-returns-then-eq-3-clause-tree g t c =
-    let (children, first, go) = c.items.invariant.tree in
-    let (d, i, r) = c.items.invariant.reached (c.args.levels + 1) [] (omega arith) in
-    let here : c.items.self.place.lexer.source ≡ c.args.self.now.place.lexer.source = source_reached r in
+    let (at, there, none, due_at, children, first, go) = c.items.invariant.from in
+    let (d, i, r) = due_at (c.args.levels + 1) [] (omega arith) in
+    let here : at.lexer.source ≡ c.args.self.now.place.lexer.source = source_reached r in
     let part_due : TakesPart c.if-eq-2.ty children = elim c.if-eq-2.branch [
       | parse_items-then-eq-2 w ↦ subst (λ z. TakesPart z children) (sym w.ty-is) tt
       | parse_items-else-eq-2 w ↦ subst (λ z. TakesPart z children) (sym w.ty-is) tt
     ] in
-    let (n, is, grown) = part_added (λ (s : List ℕ) cs ps. g.P.Builder.are_parts c.args.builder s c.if-eq-2.ty cs ps) c.items.parts c.parse_part.new.parts children (IsParsed c.args.levels c.items.self.place c.parse_part.new.self.place) here (c.in_ok-parse_part.ensures.kept c.if-eq-2.ty children part_due) first in
-    let behind : c.parse_part.new.self.place.lexer.source ≡ c.args.self.now.place.lexer.source = source_parsed c.args.levels c.items.self.place c.parse_part.new.self.place n is ∙ here in
-    let token : c.take-item.new.self.place.lexer.source ≡ c.args.self.now.place.lexer.source = source_item c.parse_part.new.self.place c.take-item.new.self.place c.in-Token.token c.in-Token.ensures.takes ∙ behind in
-    whole_built (g.P.Builder.is_made c.args.builder) (λ (s : List ℕ) cs ps. g.P.Builder.are_parts c.args.builder s c.if-eq-2.ty cs ps) c.args.self.now.place c.take-item.new.self.place c.if-eq-2.ty c.span-start.result.start c.whole.result c.parse_part.new.parts (children ++ n ∷ []) (IsOfItems c.args.levels c.args.close c.args.self.now.place c.take-item.new.self.place) token grown c.whole.ensures
+    let (n, is, grown) = part_added (λ (s : List ℕ) cs ps. g.P.Builder.are_parts c.args.builder s c.if-eq-2.ty cs ps) c.items.parts c.parse_part_after_token.new.parts children (IsParsed c.args.levels at c.parse_part_after_token.new.self.place) here (c.in_ok-parse_part_after_token.ensures.kept at there c.if-eq-2.ty children part_due) first in
+    let behind : c.parse_part_after_token.new.self.place.lexer.source ≡ c.args.self.now.place.lexer.source = source_parsed c.args.levels at c.parse_part_after_token.new.self.place n is ∙ here in
+    let marked : c.take-item.new.self.place.lexer.source ≡ c.args.self.now.place.lexer.source = source_item c.parse_part_after_token.new.self.place c.take-item.new.self.place c.in-Token.mark c.in-Token.ensures.takes ∙ behind in
+    whole_built (g.P.Builder.is_made c.args.builder) (λ (s : List ℕ) cs ps. g.P.Builder.are_parts c.args.builder s c.if-eq-2.ty cs ps) c.args.self.now.place c.take-item.new.self.place c.if-eq-2.ty c.span-start.result.start c.whole.result c.parse_part_after_token.new.parts (children ++ n ∷ []) (IsOfItems c.args.levels c.args.close c.args.self.now.place c.take-item.new.self.place) marked grown c.whole.ensures
     (items_made c.args.levels c.args.close c.args.self.now.place c.take-item.new.self.place c.if-eq-2.ty c.span-start.result.start (children ++ n ∷ []) _ refl (elim c.if-eq-2.branch [
       | parse_items-then-eq-2 w ↦ w.ty-is ∙ sym (ap items_type (is_class c.args.close ParenClose c.eq-2.ensures w.if-eq-2.true))
       | parse_items-else-eq-2 w ↦ w.ty-is ∙ sym (type_of_items c.args.close c.requires (is_other _ _ c.eq-2.ensures w.if-eq-2.false))
-    ]) (ap (λ (z : Range ℕ). z.start) c.span-start.ensures) (go n c.parse_part.new.self.place c.take-item.new.self.place [] is (inl (class_as _ _ _ c.args.close c.in-Token.ensures.takes (is_class _ _ c.eq-in-items.ensures c.if-eq-3.true)))) (λ k. some_there children _ n refl))
+    ]) (ap (λ (z : Range ℕ). z.start) c.span-start.ensures) (go n c.parse_part_after_token.new.self.place c.take-item.new.self.place [] is (inl (class_as _ _ _ c.args.close c.in-Token.ensures.takes (is_class _ _ c.eq-in-items.ensures c.if-eq-3.true)))) (λ k. some_there children _ n refl))
 
-pub parse_items-returns-then-next_is-2-clause-tree : goal.parse_items-returns-then-next_is-2-clause-tree
-parse_items-returns-then-next_is-2-clause-tree g t c =
-    let (children, first, go) = c.items.invariant.tree in
-    let (d, i, r) = c.items.invariant.reached (c.args.levels + 1) [] (omega arith) in
-    let here : c.items.self.place.lexer.source ≡ c.args.self.now.place.lexer.source = source_reached r in
+pub parse_items-returns-then-eq-4-clause-tree : goal.parse_items-returns-then-eq-4-clause-tree
+parse_items-returns-then-eq-4-clause-tree g t c =
+    let (at, there, none, due_at, children, first, go) = c.items.invariant.from in
+    let (d, i, r) = due_at (c.args.levels + 1) [] (omega arith) in
+    let here : at.lexer.source ≡ c.args.self.now.place.lexer.source = source_reached r in
     let part_due : TakesPart c.if-eq-2.ty children = elim c.if-eq-2.branch [
       | parse_items-then-eq-2 w ↦ subst (λ z. TakesPart z children) (sym w.ty-is) tt
       | parse_items-else-eq-2 w ↦ subst (λ z. TakesPart z children) (sym w.ty-is) tt
     ] in
-    let (n, is, grown) = part_added (λ (s : List ℕ) cs ps. g.P.Builder.are_parts c.args.builder s c.if-eq-2.ty cs ps) c.items.parts c.parse_part.new.parts children (IsParsed c.args.levels c.items.self.place c.parse_part.new.self.place) here (c.in_ok-parse_part.ensures.kept c.if-eq-2.ty children part_due) first in
-    let behind : c.parse_part.new.self.place.lexer.source ≡ c.args.self.now.place.lexer.source = source_parsed c.args.levels c.items.self.place c.parse_part.new.self.place n is ∙ here in
-    let token : c.take-item.new.self.place.lexer.source ≡ c.args.self.now.place.lexer.source = source_item c.parse_part.new.self.place c.take-item.new.self.place c.in-Token.token c.in-Token.ensures.takes ∙ behind in
-    let stays = c.next_is-in-items.ensures.stays in
-    let close : c.expect-then-next_is-2.new.self.place.lexer.source ≡ c.args.self.now.place.lexer.source = source_item c.next_is-in-items.new.self.place c.expect-then-next_is-2.new.self.place c.args.close c.in_ok-expect-2.ensures.takes ∙ (ap (λ (z : Place). z.lexer.source) stays ∙ token) in
-    whole_built (g.P.Builder.is_made c.args.builder) (λ (s : List ℕ) cs ps. g.P.Builder.are_parts c.args.builder s c.if-eq-2.ty cs ps) c.args.self.now.place c.expect-then-next_is-2.new.self.place c.if-eq-2.ty c.span-start.result.start c.whole-then-next_is-2.result c.parse_part.new.parts (children ++ n ∷ []) (IsOfItems c.args.levels c.args.close c.args.self.now.place c.expect-then-next_is-2.new.self.place) close grown c.whole-then-next_is-2.ensures
-    (items_made c.args.levels c.args.close c.args.self.now.place c.expect-then-next_is-2.new.self.place c.if-eq-2.ty c.span-start.result.start (children ++ n ∷ []) _ refl (elim c.if-eq-2.branch [
+    let (n, is, grown) = part_added (λ (s : List ℕ) cs ps. g.P.Builder.are_parts c.args.builder s c.if-eq-2.ty cs ps) c.items.parts c.parse_part_after_token.new.parts children (IsParsed c.args.levels at c.parse_part_after_token.new.self.place) here (c.in_ok-parse_part_after_token.ensures.kept at there c.if-eq-2.ty children part_due) first in
+    let behind : c.parse_part_after_token.new.self.place.lexer.source ≡ c.args.self.now.place.lexer.source = source_parsed c.args.levels at c.parse_part_after_token.new.self.place n is ∙ here in
+    let marked : c.take-item.new.self.place.lexer.source ≡ c.args.self.now.place.lexer.source = source_item c.parse_part_after_token.new.self.place c.take-item.new.self.place c.in-Token.mark c.in-Token.ensures.takes ∙ behind in
+    let close : c.take-item-in-items.new.self.place.lexer.source ≡ c.args.self.now.place.lexer.source = source_item c.take-item.new.self.place c.take-item-in-items.new.self.place c.in-Token-item.next c.in-Token-item.ensures.takes ∙ marked in
+    whole_built (g.P.Builder.is_made c.args.builder) (λ (s : List ℕ) cs ps. g.P.Builder.are_parts c.args.builder s c.if-eq-2.ty cs ps) c.args.self.now.place c.take-item-in-items.new.self.place c.if-eq-2.ty c.span-start.result.start c.whole-then-eq-4.result c.parse_part_after_token.new.parts (children ++ n ∷ []) (IsOfItems c.args.levels c.args.close c.args.self.now.place c.take-item-in-items.new.self.place) close grown c.whole-then-eq-4.ensures
+    (items_made c.args.levels c.args.close c.args.self.now.place c.take-item-in-items.new.self.place c.if-eq-2.ty c.span-start.result.start (children ++ n ∷ []) _ refl (elim c.if-eq-2.branch [
       | parse_items-then-eq-2 w ↦ w.ty-is ∙ sym (ap items_type (is_class c.args.close ParenClose c.eq-2.ensures w.if-eq-2.true))
       | parse_items-else-eq-2 w ↦ w.ty-is ∙ sym (type_of_items c.args.close c.requires (is_other _ _ c.eq-2.ensures w.if-eq-2.false))
-    ]) (ap (λ (z : Range ℕ). z.start) c.span-start.ensures) (go n c.parse_part.new.self.place c.expect-then-next_is-2.new.self.place [] is (inr (
+    ]) (ap (λ (z : Range ℕ). z.start) c.span-start.ensures) (go n c.parse_part_after_token.new.self.place c.take-item-in-items.new.self.place [] is (inr (
       c.take-item.new.self.place,
       class_as _ _ _ Comma c.in-Token.ensures.takes (differs_not _ _ c.ne.ensures c.if-ne.false),
-      subst (λ z. TakesClass c.args.close z c.expect-then-next_is-2.new.self.place) stays c.in_ok-expect-2.ensures.takes,
+      class_as _ _ _ c.args.close c.in-Token-item.ensures.takes (is_class _ _ c.eq-in-items-2.ensures c.if-eq-4.true),
     ))) (λ k. some_there children _ n refl))
 
 pub parse_items-items-preserved : goal.parse_items-items-preserved
-parse_items-items-preserved g t c = record {
-  asks =
-      asks_items c.args.levels c.args.close c.args.self.now c.items.self c.next_is-in-items.new.self c.items.invariant.reached c.items.invariant.asks (asks_value c.args.levels c.items.self c.parse_part.new.self c.next_is-in-items.new.self c.in_ok-parse_part.ensures.led c.parse_part.ensures.asks (asks_token c.parse_part.new.self c.take-item.new.self c.next_is-in-items.new.self c.in-Token.token c.in-Token.ensures.takes c.take-item.ensures.asks (asks_once c.take-item.new.self c.next_is-in-items.new.self c.next_is-in-items.ensures.asks)));
-  no_close = subst (λ z. (next : Place) × TakesItem z (Some (Ok c.args.close)) next → ⊥) (sym c.next_is-in-items.ensures.stays) (λ next. untrue _ c.if-next_is-2.false (c.next_is-in-items.ensures.answer.1 next));
-  reached = λ n s e.
-      let (d, i, r) = c.items.invariant.reached n s e in
-      let item = c.in_ok-parse_part.ensures.led n (form_of c.args.close ∷ s) (omega arith) in
-      let behind = behind_item c.args.close c.requires c.items.invariant.no_close i r item in
-      let comma_step = subst (λ z. behind_step (form_of c.args.close ∷ s) (token_of z (text_at c.take-item.new.self.place)) ≡ reads due.next_item (form_of c.args.close ∷ s)) (sym (differs_not c.in-Token.token Comma c.ne.ensures c.if-ne.false)) (comma_behind c.args.close s (text_at c.take-item.new.self.place) c.requires) in
-      let next = then_behind item.due_there c.in-Token.token behind item.is_behind c.in-Token.ensures.takes comma_step in
-      (due.next_item, inr refl, moved c.next_is-in-items.ensures.stays next);
-  tree =
-      let (children, first, go) = c.items.invariant.tree in
-      let (d, i, r) = c.items.invariant.reached (c.args.levels + 1) [] (omega arith) in
-      let here : c.items.self.place.lexer.source ≡ c.args.self.now.place.lexer.source = source_reached r in
-      let part_due : TakesPart c.if-eq-2.ty children = elim c.if-eq-2.branch [
-        | parse_items-then-eq-2 w ↦ subst (λ z. TakesPart z children) (sym w.ty-is) tt
-        | parse_items-else-eq-2 w ↦ subst (λ z. TakesPart z children) (sym w.ty-is) tt
-      ] in
-      let (n, is, grown) = part_added (λ (s : List ℕ) cs ps. g.P.Builder.are_parts c.args.builder s c.if-eq-2.ty cs ps) c.items.parts c.parse_part.new.parts children (IsParsed c.args.levels c.items.self.place c.parse_part.new.self.place) here (c.in_ok-parse_part.ensures.kept c.if-eq-2.ty children part_due) first in
-      let behind : c.parse_part.new.self.place.lexer.source ≡ c.args.self.now.place.lexer.source = source_parsed c.args.levels c.items.self.place c.parse_part.new.self.place n is ∙ here in
-      let token : c.take-item.new.self.place.lexer.source ≡ c.args.self.now.place.lexer.source = source_item c.parse_part.new.self.place c.take-item.new.self.place c.in-Token.token c.in-Token.ensures.takes ∙ behind in
-      (children ++ n ∷ [], grown, items_next c.args.levels c.args.close c.args.self.now.place c.items.self.place c.parse_part.new.self.place c.take-item.new.self.place c.next_is-in-items.new.self.place children (children ++ n ∷ []) n go is (class_as _ _ _ Comma c.in-Token.ensures.takes (differs_not _ _ c.ne.ensures c.if-ne.false)) c.next_is-in-items.ensures.stays refl);
-}
+parse_items-items-preserved g t c =
+    let (at, there, none, due_at, children, first, go) = c.items.invariant.from in
+    let (d, i, r) = due_at (c.args.levels + 1) [] (omega arith) in
+    let here : at.lexer.source ≡ c.args.self.now.place.lexer.source = source_reached r in
+    let part_due : TakesPart c.if-eq-2.ty children = elim c.if-eq-2.branch [
+      | parse_items-then-eq-2 w ↦ subst (λ z. TakesPart z children) (sym w.ty-is) tt
+      | parse_items-else-eq-2 w ↦ subst (λ z. TakesPart z children) (sym w.ty-is) tt
+    ] in
+    let (n, is, grown) = part_added (λ (s : List ℕ) cs ps. g.P.Builder.are_parts c.args.builder s c.if-eq-2.ty cs ps) c.items.parts c.parse_part_after_token.new.parts children (IsParsed c.args.levels at c.parse_part_after_token.new.self.place) here (c.in_ok-parse_part_after_token.ensures.kept at there c.if-eq-2.ty children part_due) first in
+    record {
+      asks = asks_item c.args.levels c.args.close c.args.self.now c.parse_part_after_token.new.self c.take-item-in-items.new.self at c.requires none due_at (c.in_ok-parse_part_after_token.ensures.led at there) (asks_begun c.args.levels c.args.close c.items.token c.args.self.now c.items.self c.parse_part_after_token.new.self at due_at there c.items.invariant.asks c.parse_part_after_token.ensures.asks) (asks_token c.parse_part_after_token.new.self c.take-item.new.self c.take-item-in-items.new.self c.in-Token.mark c.in-Token.ensures.takes c.take-item.ensures.asks (asks_once c.take-item.new.self c.take-item-in-items.new.self c.take-item-in-items.ensures.asks));
+      from = (
+        c.take-item.new.self.place,
+        c.in-Token-item.ensures.takes,
+        other_next c.args.close c.in-Token-item.next c.take-item.new.self.place c.take-item-in-items.new.self.place (is_other _ _ c.eq-in-items-2.ensures c.if-eq-4.false) c.in-Token-item.ensures.takes,
+        λ n s e.
+            let (d, i, r) = due_at n s e in
+            let item = c.in_ok-parse_part_after_token.ensures.led at there n (form_of c.args.close ∷ s) (omega arith) in
+            let behind = behind_item c.args.close c.requires none i r item in
+            let comma_step = subst (λ z. behind_step (form_of c.args.close ∷ s) (token_of z (text_at c.take-item.new.self.place)) ≡ reads due.next_item (form_of c.args.close ∷ s)) (sym (differs_not c.in-Token.mark Comma c.ne.ensures c.if-ne.false)) (comma_behind c.args.close s (text_at c.take-item.new.self.place) c.requires) in
+            let next = then_behind item.due_there c.in-Token.mark behind item.is_behind c.in-Token.ensures.takes comma_step in
+            (due.next_item, inr refl, next),
+        children ++ n ∷ [],
+        grown,
+        items_next c.args.levels c.args.close c.args.self.now.place at c.parse_part_after_token.new.self.place c.take-item.new.self.place c.take-item.new.self.place children (children ++ n ∷ []) n go is (class_as _ _ _ Comma c.in-Token.ensures.takes (differs_not _ _ c.ne.ensures c.if-ne.false)) refl refl,
+      );
+    }
+
+pub parse_items-returns-in_err-parse_part_after_token-clause-memory : goal.parse_items-returns-in_err-parse_part_after_token-clause-memory
+parse_items-returns-in_err-parse_part_after_token-clause-memory g t c = error_handed (OnlyOutOfMemory (g.P.Builder.takes_memory c.args.builder) c.args.self.now.place) c.from_residual-in_err-parse_part_after_token.result c.in_err-parse_part_after_token.field-0.0 c.from_residual-in_err-parse_part_after_token.ensures.1
+    (let (at, there, none, due_at, children, first, go) = c.items.invariant.from in
+    let (d, i, r) = due_at (c.args.levels + 1) [] (omega arith) in
+    wants_reached (g.P.Builder.takes_memory c.args.builder) c.in_err-parse_part_after_token.field-0.0 r (c.in_err-parse_part_after_token.ensures.memory at there c.args.self.now.place.lexer.source c.if-eq-2.ty children first))
+
+pub parse_items-whole-requires : goal.parse_items-whole-requires
+parse_items-whole-requires g t c =
+    let (at, there, none, due_at, children, first, go) = c.items.invariant.from in
+    let (d, i, r) = due_at (c.args.levels + 1) [] (omega arith) in
+    let here : at.lexer.source ≡ c.args.self.now.place.lexer.source = source_reached r in
+    let part_due : TakesPart c.if-eq-2.ty children = elim c.if-eq-2.branch [
+      | parse_items-then-eq-2 w ↦ subst (λ z. TakesPart z children) (sym w.ty-is) tt
+      | parse_items-else-eq-2 w ↦ subst (λ z. TakesPart z children) (sym w.ty-is) tt
+    ] in
+    let (n, is, grown) = part_added (λ (s : List ℕ) cs ps. g.P.Builder.are_parts c.args.builder s c.if-eq-2.ty cs ps) c.items.parts c.parse_part_after_token.new.parts children (IsParsed c.args.levels at c.parse_part_after_token.new.self.place) here (c.in_ok-parse_part_after_token.ensures.kept at there c.if-eq-2.ty children part_due) first in
+    (c.args.self.now.place.lexer.source, children ++ n ∷ [], grown)
+
+pub parse_items-whole-requires-then-eq-4 : goal.parse_items-whole-requires-then-eq-4
+parse_items-whole-requires-then-eq-4 g t c =
+    let (at, there, none, due_at, children, first, go) = c.items.invariant.from in
+    let (d, i, r) = due_at (c.args.levels + 1) [] (omega arith) in
+    let here : at.lexer.source ≡ c.args.self.now.place.lexer.source = source_reached r in
+    let part_due : TakesPart c.if-eq-2.ty children = elim c.if-eq-2.branch [
+      | parse_items-then-eq-2 w ↦ subst (λ z. TakesPart z children) (sym w.ty-is) tt
+      | parse_items-else-eq-2 w ↦ subst (λ z. TakesPart z children) (sym w.ty-is) tt
+    ] in
+    let (n, is, grown) = part_added (λ (s : List ℕ) cs ps. g.P.Builder.are_parts c.args.builder s c.if-eq-2.ty cs ps) c.items.parts c.parse_part_after_token.new.parts children (IsParsed c.args.levels at c.parse_part_after_token.new.self.place) here (c.in_ok-parse_part_after_token.ensures.kept at there c.if-eq-2.ty children part_due) first in
+    (c.args.self.now.place.lexer.source, children ++ n ∷ [], grown)
+
+pub parse_items-returns-in_default : goal.parse_items-returns-in_default
+parse_items-returns-in_default g t c =
+    let (at, there, none, due_at, children, first, go) = c.items.invariant.from in
+    record {
+      led = λ n s e.
+          let (d, i, r) = due_at n s e in
+          let item = c.in_ok-parse_part_after_token.ensures.led at there n (form_of c.args.close ∷ s) (omega arith) in
+          let behind = behind_item c.args.close c.requires none i r item in
+          refuses_there s c.refuse_item.result c.refuse_item.ensures.never c.refuse_item.ensures.refused
+          (λ x says. fails_behind item.due_there (λ _. Unit {0}) x behind item.is_behind (λ k text apart. absurd (apart tt)) (item_fails (λ _. Unit {0}) c.take-item.result c.parse_part_after_token.new.self.place c.take-item.new.self.place x c.in_default.not-Token c.take-item.ensures.takes says));
+      tree = never_made _ c.refuse_item.result c.refuse_item.ensures.never;
+      memory = wants_refused (g.P.Builder.takes_memory c.args.builder) c.args.self.now.place c.refuse_item.result c.refuse_item.ensures.refused (λ x says. wants_fails (g.P.Builder.takes_memory c.args.builder) c.args.self.now.place c.parse_part_after_token.new.self.place c.take-item.new.self.place (λ _. Unit {0}) x (item_fails (λ _. Unit {0}) c.take-item.result c.parse_part_after_token.new.self.place c.take-item.new.self.place x c.in_default.not-Token c.take-item.ensures.takes says));
+      asks = asks_item c.args.levels c.args.close c.args.self.now c.parse_part_after_token.new.self c.take-item.new.self at c.requires none due_at (c.in_ok-parse_part_after_token.ensures.led at there) (asks_begun c.args.levels c.args.close c.items.token c.args.self.now c.items.self c.parse_part_after_token.new.self at due_at there c.items.invariant.asks c.parse_part_after_token.ensures.asks) (asks_once c.parse_part_after_token.new.self c.take-item.new.self c.take-item.ensures.asks);
+    }
+
+pub parse_items-returns-in_default-item : goal.parse_items-returns-in_default-item
+parse_items-returns-in_default-item g t c =
+    let (at, there, none, due_at, children, first, go) = c.items.invariant.from in
+    record {
+      led = λ n s e.
+          let (d, i, r) = due_at n s e in
+          let item = c.in_ok-parse_part_after_token.ensures.led at there n (form_of c.args.close ∷ s) (omega arith) in
+          let behind = behind_item c.args.close c.requires none i r item in
+          let comma_step = subst (λ z. behind_step (form_of c.args.close ∷ s) (token_of z (text_at c.take-item.new.self.place)) ≡ reads due.next_item (form_of c.args.close ∷ s)) (sym (differs_not c.in-Token.mark Comma c.ne.ensures c.if-ne.false)) (comma_behind c.args.close s (text_at c.take-item.new.self.place) c.requires) in
+          let next = then_behind item.due_there c.in-Token.mark behind item.is_behind c.in-Token.ensures.takes comma_step in
+          refuses_there s c.refuse_item-in_default-item.result c.refuse_item-in_default-item.ensures.never c.refuse_item-in_default-item.ensures.refused
+          (λ x says. fails (inl tt) (λ _. Unit {0}) x next (shallow n due.next_item (form_of c.args.close ∷ s) _ (omega arith)) (any_token n due.next_item (form_of c.args.close ∷ s) _ _) (item_fails (λ _. Unit {0}) c.take-item-in-items.result c.take-item.new.self.place c.take-item-in-items.new.self.place x c.in_default-item.not-Token c.take-item-in-items.ensures.takes says));
+      tree = never_made _ c.refuse_item-in_default-item.result c.refuse_item-in_default-item.ensures.never;
+      memory = wants_refused (g.P.Builder.takes_memory c.args.builder) c.args.self.now.place c.refuse_item-in_default-item.result c.refuse_item-in_default-item.ensures.refused (λ x says. wants_fails (g.P.Builder.takes_memory c.args.builder) c.args.self.now.place c.take-item.new.self.place c.take-item-in-items.new.self.place (λ _. Unit {0}) x (item_fails (λ _. Unit {0}) c.take-item-in-items.result c.take-item.new.self.place c.take-item-in-items.new.self.place x c.in_default-item.not-Token c.take-item-in-items.ensures.takes says));
+      asks = asks_item c.args.levels c.args.close c.args.self.now c.parse_part_after_token.new.self c.take-item-in-items.new.self at c.requires none due_at (c.in_ok-parse_part_after_token.ensures.led at there) (asks_begun c.args.levels c.args.close c.items.token c.args.self.now c.items.self c.parse_part_after_token.new.self at due_at there c.items.invariant.asks c.parse_part_after_token.ensures.asks) (asks_token c.parse_part_after_token.new.self c.take-item.new.self c.take-item-in-items.new.self c.in-Token.mark c.in-Token.ensures.takes c.take-item.ensures.asks (asks_once c.take-item.new.self c.take-item-in-items.new.self c.take-item-in-items.ensures.asks));
+    }
 
 pub parse_part-returns-then-levels-eq0-clause-led : goal.parse_part-returns-then-levels-eq0-clause-led
 parse_part-returns-then-levels-eq0-clause-led g t c = λ n s e. refuses_there s c.refuse_depth.result c.refuse_depth.ensures.never c.refuse_depth.ensures.refused
@@ -294,95 +410,16 @@ parse_part-returns-then-levels-eq0-clause-memory g t c = whatever_parts (λ (sou
     (wants_refused (g.P.Builder.takes_memory c.args.builder) c.args.self.now.place c.refuse_depth.result c.refuse_depth.ensures.refused
     (λ x says. wants_other (g.P.Builder.takes_memory c.args.builder) c.args.self.now.place x because.NestingTooDeep (kind_is says) (λ z. cc)))
 
-pub parse_part-returns-in_err-made-clause-led : goal.parse_part-returns-in_err-made-clause-led
-parse_part-returns-in_err-made-clause-led g t c = λ n s e. handed s _ _ c.from_residual.ensures.1 (c.in_err-made.ensures.led c.args.self.now.place c.in-Token.ensures.takes n s e)
-
-pub parse_part-returns-clause-led : goal.parse_part-returns-clause-led
-parse_part-returns-clause-led g t c = λ n s e. gives_or_memory c.push_part.result c.push_part.ensures.memory (c.in_ok-made.ensures.led c.args.self.now.place c.in-Token.ensures.takes n s e)
-
 pub parse_items-returns-in_err-expect-clause-memory : goal.parse_items-returns-in_err-expect-clause-memory
 parse_items-returns-in_err-expect-clause-memory g t c = error_handed (OnlyOutOfMemory (g.P.Builder.takes_memory c.args.builder) c.args.self.now.place) c.from_residual.result c.in_err-expect.field-0.0 c.from_residual.ensures.1 (wants_fails (g.P.Builder.takes_memory c.args.builder) c.args.self.now.place c.next_is.new.self.place c.expect.new.self.place (λ k. k ≡ c.args.close) c.in_err-expect.field-0.0 c.in_err-expect.ensures.takes)
 
 pub parse_items-returns-then-eq-clause-memory : goal.parse_items-returns-then-eq-clause-memory
 parse_items-returns-then-eq-clause-memory g t c = wants_refused (g.P.Builder.takes_memory c.args.builder) c.args.self.now.place c.refuse_empty.result c.refuse_empty.ensures.refused (λ x says. wants_other (g.P.Builder.takes_memory c.args.builder) c.args.self.now.place x because.EmptyTuple (kind_is says) (λ z. cc))
 
-pub parse_items-returns-in_err-parse_part-clause-memory : goal.parse_items-returns-in_err-parse_part-clause-memory
-parse_items-returns-in_err-parse_part-clause-memory g t c = error_handed (OnlyOutOfMemory (g.P.Builder.takes_memory c.args.builder) c.args.self.now.place) c.from_residual-in_err-parse_part.result c.in_err-parse_part.field-0.0 c.from_residual-in_err-parse_part.ensures.1
-    (let (d, i, r) = c.items.invariant.reached (c.args.levels + 1) [] (omega arith) in
-    let (children, first, go) = c.items.invariant.tree in
-    wants_reached (g.P.Builder.takes_memory c.args.builder) c.in_err-parse_part.field-0.0 r (c.in_err-parse_part.ensures.memory c.args.self.now.place.lexer.source c.if-eq-2.ty children first))
-
 pub parse_items-returns-then-ne-clause-memory : goal.parse_items-returns-then-ne-clause-memory
 parse_items-returns-then-ne-clause-memory g t c = wants_refused (g.P.Builder.takes_memory c.args.builder) c.args.self.now.place c.refuse_token.result c.refuse_token.ensures.refused (λ x says. wants_other (g.P.Builder.takes_memory c.args.builder) c.args.self.now.place x because.UnexpectedToken (kind_is says) (λ z. cc))
 
-pub parse_items-returns-in_err-expect-2-clause-memory : goal.parse_items-returns-in_err-expect-2-clause-memory
-parse_items-returns-in_err-expect-2-clause-memory g t c = error_handed (OnlyOutOfMemory (g.P.Builder.takes_memory c.args.builder) c.args.self.now.place) c.from_residual-in_err-expect-2.result c.in_err-expect-2.field-0.0 c.from_residual-in_err-expect-2.ensures.1 (wants_fails (g.P.Builder.takes_memory c.args.builder) c.args.self.now.place c.next_is-in-items.new.self.place c.expect-then-next_is-2.new.self.place (λ k. k ≡ c.args.close) c.in_err-expect-2.field-0.0 c.in_err-expect-2.ensures.takes)
-
-pub parse_part-returns-in-Alone-clause-kept : goal.parse_part-returns-in-Alone-clause-kept
-parse_part-returns-in-Alone-clause-kept g t c =
-    let n = node c.in-Alone.ty (span_at c.take-item.new.self.place) no_nodes in
-    let alone : IsAlone c.in-Token.token (text_at c.take-item.new.self.place) c.in-Alone.ty = front_alone c.in-Token.token (text_at c.take-item.new.self.place) c.slice.result.now c.value_start-front.result c.in-Alone.ty c.slice.ensures c.value_start-front.ensures c.in-Alone.is in
-    let source : c.take-item.new.self.place.lexer.source ≡ c.args.self.now.place.lexer.source = source_item c.args.self.now.place c.take-item.new.self.place c.in-Token.token c.in-Token.ensures.takes in
-    as_added c.push_leaf.result c.push_leaf.ensures.kept (λ kept whole children due are. (
-      n,
-      alone_parsed c.args.levels c.args.self.now.place c.take-item.new.self.place c.in-Token.token c.in-Alone.ty (omega arith) c.in-Token.ensures.takes alone,
-      subst (λ (s : List ℕ). g.P.Builder.are_parts c.args.builder s whole (children ++ n ∷ []) c.push_leaf.new.parts) source
-        (kept whole children due (subst (λ (s : List ℕ). g.P.Builder.are_parts c.args.builder s whole children c.args.parts.now) (sym source) are)),
-    ))
-
-pub parse_part-returns-in-Alone-clause-memory : goal.parse_part-returns-in-Alone-clause-memory
-parse_part-returns-in-Alone-clause-memory g t c = wants_any (λ (source : List ℕ) (of : NodeType) (children : List NodeTree). g.P.Builder.are_parts c.args.builder source of children c.args.parts.now) (g.P.Builder.takes_memory c.args.builder) (OnlyOutOfMemory (g.P.Builder.takes_memory c.args.builder) c.args.self.now.place) c.push_leaf.result c.push_leaf.ensures.takes (λ e takes. wants_taken (g.P.Builder.takes_memory c.args.builder) c.args.self.now.place e takes)
-
-pub parse_part-returns-in-Alone-clause-asks : goal.parse_part-returns-in-Alone-clause-asks
-parse_part-returns-in-Alone-clause-asks g t c = asks_once c.args.self.now c.take-item.new.self c.take-item.ensures.asks
-
-pub parse_part-returns-in_err-made-clause-memory : goal.parse_part-returns-in_err-made-clause-memory
-parse_part-returns-in_err-made-clause-memory g t c = error_handed (λ e. (source : List ℕ) (of : NodeType) (children : List NodeTree) → g.P.Builder.are_parts c.args.builder source of children c.args.parts.now → OnlyOutOfMemory (g.P.Builder.takes_memory c.args.builder) c.args.self.now.place e) c.from_residual.result c.in_err-made.field-0.0 c.from_residual.ensures.1
-    (λ source of children are. wants_less (g.P.Builder.takes_memory c.part-part.result) (g.P.Builder.takes_memory c.args.builder) c.args.self.now.place c.in_err-made.field-0.0
-    (λ takes. g.met.P.Builder.next_takes c.args.builder source of children c.args.parts.now are (subst (λ z. g.P.Builder.takes_memory z) c.part-part.ensures takes)) (c.in_err-made.ensures.memory c.args.self.now.place c.in-Token.ensures.takes))
-
-pub parse_part-returns-in_err-made-clause-asks : goal.parse_part-returns-in_err-made-clause-asks
-parse_part-returns-in_err-made-clause-asks g t c = asks_token c.args.self.now c.take-item.new.self c.parse_after_token.new.self c.in-Token.token c.in-Token.ensures.takes c.take-item.ensures.asks c.parse_after_token.ensures.asks
-
-pub parse_part-returns-clause-kept : goal.parse_part-returns-clause-kept
-parse_part-returns-clause-kept g t c =
-    let (n, is, of) = c.in_ok-made.ensures.tree in
-    let source : c.take-item.new.self.place.lexer.source ≡ c.args.self.now.place.lexer.source = source_item c.args.self.now.place c.take-item.new.self.place c.in-Token.token c.in-Token.ensures.takes in
-    let made = subst (λ z. g.P.Builder.is_made z c.take-item.new.self.place.lexer.source n c.in_ok-made.made) c.part-part.ensures of in
-    as_added c.push_part.result c.push_part.ensures.kept (λ kept whole children due are.
-    (n, is c.args.self.now.place c.in-Token.ensures.takes, (kept c.args.self.now.place.lexer.source whole children n due are (subst (λ (s : List ℕ). g.P.Builder.is_made (g.P.Builder.next c.args.builder c.args.parts.now) s n c.in_ok-made.made) source made))))
-
-pub parse_part-returns-clause-memory : goal.parse_part-returns-clause-memory
-parse_part-returns-clause-memory g t c = wants_any (λ (source : List ℕ) (of : NodeType) (children : List NodeTree). g.P.Builder.are_parts c.args.builder source of children c.args.parts.now) (g.P.Builder.takes_memory c.args.builder) (OnlyOutOfMemory (g.P.Builder.takes_memory c.args.builder) c.args.self.now.place) c.push_part.result c.push_part.ensures.takes (λ e takes. wants_taken (g.P.Builder.takes_memory c.args.builder) c.args.self.now.place e takes)
-
-pub parse_part-returns-clause-asks : goal.parse_part-returns-clause-asks
-parse_part-returns-clause-asks g t c = asks_token c.args.self.now c.take-item.new.self c.parse_after_token.new.self c.in-Token.token c.in-Token.ensures.takes c.take-item.ensures.asks c.parse_after_token.ensures.asks
-
 -- ---- parts that a value is made of are those of its node's children
-
-pub parse_items-whole-requires : goal.parse_items-whole-requires
-parse_items-whole-requires g t c =
-    let (children, first, go) = c.items.invariant.tree in
-    let (d, i, r) = c.items.invariant.reached (c.args.levels + 1) [] (omega arith) in
-    let here : c.items.self.place.lexer.source ≡ c.args.self.now.place.lexer.source = source_reached r in
-    let part_due : TakesPart c.if-eq-2.ty children = elim c.if-eq-2.branch [
-      | parse_items-then-eq-2 w ↦ subst (λ z. TakesPart z children) (sym w.ty-is) tt
-      | parse_items-else-eq-2 w ↦ subst (λ z. TakesPart z children) (sym w.ty-is) tt
-    ] in
-    let (n, is, grown) = part_added (λ (s : List ℕ) cs ps. g.P.Builder.are_parts c.args.builder s c.if-eq-2.ty cs ps) c.items.parts c.parse_part.new.parts children (IsParsed c.args.levels c.items.self.place c.parse_part.new.self.place) here (c.in_ok-parse_part.ensures.kept c.if-eq-2.ty children part_due) first in
-    (c.args.self.now.place.lexer.source, children ++ n ∷ [], grown)
-
-pub parse_items-whole-requires-then-next_is-2 : goal.parse_items-whole-requires-then-next_is-2
-parse_items-whole-requires-then-next_is-2 g t c =
-    let (children, first, go) = c.items.invariant.tree in
-    let (d, i, r) = c.items.invariant.reached (c.args.levels + 1) [] (omega arith) in
-    let here : c.items.self.place.lexer.source ≡ c.args.self.now.place.lexer.source = source_reached r in
-    let part_due : TakesPart c.if-eq-2.ty children = elim c.if-eq-2.branch [
-      | parse_items-then-eq-2 w ↦ subst (λ z. TakesPart z children) (sym w.ty-is) tt
-      | parse_items-else-eq-2 w ↦ subst (λ z. TakesPart z children) (sym w.ty-is) tt
-    ] in
-    let (n, is, grown) = part_added (λ (s : List ℕ) cs ps. g.P.Builder.are_parts c.args.builder s c.if-eq-2.ty cs ps) c.items.parts c.parse_part.new.parts children (IsParsed c.args.levels c.items.self.place c.parse_part.new.self.place) here (c.in_ok-parse_part.ensures.kept c.if-eq-2.ty children part_due) first in
-    (c.args.self.now.place.lexer.source, children ++ n ∷ [], grown)
 
 pub parse_after_token-returns-in-Some-clause-led : goal.parse_after_token-returns-in-Some-clause-led
 parse_after_token-returns-in-Some-clause-led g t c = λ first there n s e.
@@ -728,10 +765,6 @@ parse_items-returns-then-next_is-clause-tree g t c =
     none_built (g.P.Builder.is_made c.args.builder) c.args.self.now.place c.expect.new.self.place kind_of_node.List c.span-start.result.start c.whole_of_none.result (IsOfItems c.args.levels c.args.close c.args.self.now.place c.expect.new.self.place) source c.whole_of_none.ensures
     (items_none c.args.levels c.args.close c.args.self.now.place c.next_is.new.self.place c.expect.new.self.place c.span-start.result.start [] _ refl refl c.requires (is_other _ _ c.eq.ensures c.if-eq.false) (ap (λ (z : Range ℕ). z.start) c.span-start.ensures) stays c.in_ok-expect.ensures.takes)
 
-pub parse_part-returns-in-Alone-clause-led : goal.parse_part-returns-in-Alone-clause-led
-parse_part-returns-in-Alone-clause-led g t c = λ n s e. gives_or_memory c.push_leaf.result c.push_leaf.ensures.memory
-    (alone_led n s c.args.self.now.place c.take-item.new.self.place c.in-Token.token c.in-Alone.ty (omega arith) c.in-Token.ensures.takes (front_alone c.in-Token.token (text_at c.take-item.new.self.place) c.slice.result.now c.value_start-front.result c.in-Alone.ty c.slice.ensures c.value_start-front.ensures c.in-Alone.is))
-
 pub parse_part-returns-in_default : goal.parse_part-returns-in_default
 parse_part-returns-in_default g t c = record {
   led = λ n s e. refuses_there s c.refuse_item.result c.refuse_item.ensures.never c.refuse_item.ensures.refused
@@ -740,18 +773,6 @@ parse_part-returns-in_default g t c = record {
   memory = whatever_parts (λ (source : List ℕ) (of : NodeType) (children : List NodeTree). g.P.Builder.are_parts c.args.builder source of children c.args.parts.now) (OnlyOutOfMemory (g.P.Builder.takes_memory c.args.builder) c.args.self.now.place) c.refuse_item.result
       (wants_refused (g.P.Builder.takes_memory c.args.builder) c.args.self.now.place c.refuse_item.result c.refuse_item.ensures.refused (λ x says. wants_fails (g.P.Builder.takes_memory c.args.builder) c.args.self.now.place c.args.self.now.place c.take-item.new.self.place (λ _. Unit {0}) x (item_fails (λ _. Unit {0}) c.take-item.result c.args.self.now.place c.take-item.new.self.place x c.in_default.not-Token c.take-item.ensures.takes says)));
   asks = asks_once c.args.self.now c.take-item.new.self c.take-item.ensures.asks;
-}
-
-pub parse_items-returns-in_default : goal.parse_items-returns-in_default
-parse_items-returns-in_default g t c = record {
-  led = λ n s e.
-      let (d, i, r) = c.items.invariant.reached n s e in
-      let item = c.in_ok-parse_part.ensures.led n (form_of c.args.close ∷ s) (omega arith) in
-      refuses_there s c.refuse_item.result c.refuse_item.ensures.never c.refuse_item.ensures.refused
-      (λ x says. fails_behind item.due_there (λ _. Unit {0}) x (behind_item c.args.close c.requires c.items.invariant.no_close i r item) item.is_behind (λ k text apart. absurd (apart tt)) (item_fails (λ _. Unit {0}) c.take-item.result c.parse_part.new.self.place c.take-item.new.self.place x c.in_default.not-Token c.take-item.ensures.takes says));
-  tree = never_made _ c.refuse_item.result c.refuse_item.ensures.never;
-  memory = wants_refused (g.P.Builder.takes_memory c.args.builder) c.args.self.now.place c.refuse_item.result c.refuse_item.ensures.refused (λ x says. wants_fails (g.P.Builder.takes_memory c.args.builder) c.args.self.now.place c.parse_part.new.self.place c.take-item.new.self.place (λ _. Unit {0}) x (item_fails (λ _. Unit {0}) c.take-item.result c.parse_part.new.self.place c.take-item.new.self.place x c.in_default.not-Token c.take-item.ensures.takes says));
-  asks = asks_items c.args.levels c.args.close c.args.self.now c.items.self c.take-item.new.self c.items.invariant.reached c.items.invariant.asks (asks_value c.args.levels c.items.self c.parse_part.new.self c.take-item.new.self c.in_ok-parse_part.ensures.led c.parse_part.ensures.asks (asks_once c.parse_part.new.self c.take-item.new.self c.take-item.ensures.asks));
 }
 
 pub parse_entries-returns-in_default : goal.parse_entries-returns-in_default

@@ -1,4 +1,4 @@
-use Rattle.std.proofs.Common.{◌≡◌, ℕ, ◌+◌, ◌-◌, ◌*◌, length, List, [], ◌∷◌, ◌++◌, Some, Ok}
+use Rattle.std.proofs.Common.{◌≡◌, ℕ, ◌+◌, ◌-◌, ◌*◌, length, List, ◌∷◌, ◌++◌, Some, Ok}
 use Rattle.wave_grammar.specs.ParserPosition.{Place, TakesItem}
 use Rattle.wave_grammar.specs.PrefixAutomaton.{Expectation, StackSymbol, first_item}
 use Rattle.wave_grammar.specs.PrefixAutomaton as due
@@ -13,38 +13,45 @@ use Rattle.wave_tree.specs.Private.ParserState.{AsksFor}
 use Rattle.wave_tree.proofs.tokens.Tokens.+parser.Given as goal
 
 abbrev pub decreases-parse_part : goal.decreases-parse_part
-decreases-parse_part g l = 5 * l.levels
+decreases-parse_part g l = 7 * l.levels
+
+abbrev pub decreases-parse_part_after_token : goal.decreases-parse_part_after_token
+decreases-parse_part_after_token g l = 7 * l.levels - 1
+
+abbrev pub decreases-parse_nested_part : goal.decreases-parse_nested_part
+decreases-parse_nested_part g l = 7 * l.levels - 2
 
 abbrev pub decreases-parse_after_token : goal.decreases-parse_after_token
-decreases-parse_after_token g l = 5 * l.levels - 1
+decreases-parse_after_token g l = 7 * l.levels - 3
 
 abbrev pub decreases-parse_payload : goal.decreases-parse_payload
-decreases-parse_payload g l = 5 * l.levels + 1
+decreases-parse_payload g l = 7 * l.levels + 1
 
 abbrev pub decreases-parse_items : goal.decreases-parse_items
-decreases-parse_items g l = 5 * l.levels + 1
+decreases-parse_items g l = 7 * l.levels + 1
 
 abbrev pub decreases-parse_optional_payload : goal.decreases-parse_optional_payload
-decreases-parse_optional_payload g l = 5 * l.levels + 2
+decreases-parse_optional_payload g l = 7 * l.levels + 2
 
 abbrev pub invariant-parse_items-items : goal.invariant-parse_items-items
 invariant-parse_items-items g l = record {
   asks : AsksFor l.fn.self l.self;
-  no_close : (next : Place) × TakesItem l.self.place (Some (Ok l.close)) next → ⊥;
-  reached : (n : ℕ) (s : List StackSymbol) → n ≡ l.levels + 1 + length s →
-      (d : Expectation) × IsItemDue d × Reached n first_item (form_of l.close ∷ s) l.fn.self.place d (form_of l.close ∷ s) l.self.place;
-  tree : (children : List NodeTree) × g.P.Builder.are_parts l.builder l.fn.self.place.lexer.source l.ty children l.parts
-      × ((item : NodeTree) (m r : Place) (more : List NodeTree) → IsParsed l.levels l.self.place m item → AreFurther l.levels l.close m more r → AreClosedItems l.levels l.close l.fn.self.place (children ++ item ∷ more) r);
+  from : (at : Place) × TakesItem at (Some (Ok l.token)) l.self.place
+      × ((next : Place) × TakesItem at (Some (Ok l.close)) next → ⊥)
+      × ((n : ℕ) (s : List StackSymbol) → n ≡ l.levels + 1 + length s →
+      (d : Expectation) × IsItemDue d × Reached n first_item (form_of l.close ∷ s) l.fn.self.place d (form_of l.close ∷ s) at)
+      × (children : List NodeTree) × g.P.Builder.are_parts l.builder l.fn.self.place.lexer.source l.ty children l.parts
+      × ((item : NodeTree) (m r : Place) (more : List NodeTree) → IsParsed l.levels at m item → AreFurther l.levels l.close m more r → AreClosedItems l.levels l.close l.fn.self.place (children ++ item ∷ more) r);
 }
 
 abbrev pub decreases-parse_items-items : goal.decreases-parse_items-items
 decreases-parse_items-items g l = left_at l.self.place
 
 abbrev pub decreases-parse_entries : goal.decreases-parse_entries
-decreases-parse_entries g l = 5 * l.levels + 1
+decreases-parse_entries g l = 7 * l.levels + 1
 
 abbrev pub decreases-parse_braces : goal.decreases-parse_braces
-decreases-parse_braces g l = 5 * l.levels + 2
+decreases-parse_braces g l = 7 * l.levels + 2
 
 abbrev pub invariant-parse_entries-entries : goal.invariant-parse_entries-entries
 invariant-parse_entries-entries g l = record {
