@@ -4,3 +4,4 @@ pub mod NextToken
 pub mod Marks
 pub mod LexerSteps
 pub mod LexerRuns
+pub mod NumbersInTurn

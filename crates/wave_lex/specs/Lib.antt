@@ -17,3 +17,4 @@ pub mod ErrorDetails
 pub mod Machines
 pub mod NameMachine
 pub mod Classes
+pub mod NumbersInTurn

@@ -32,7 +32,8 @@ impl Count {
 }
 
 /// A count of questions. It takes no bytes: only clauses see it, as a number. `new` makes one that
-/// is zero, and only `Lexer::next_ticked` and `Found::next_of` change one, by one more.
+/// is zero, and only `Lexer::next_ticked`, `Found::next_of` and `Found::number_in_turn` change one: each
+/// adds one for an item that it takes.
 #[derive(Drop)]
 pub struct Asked {
     count: Count,

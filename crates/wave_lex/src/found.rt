@@ -1,5 +1,6 @@
 //! What a lexer takes, as the parser keeps it.
-ghost use Rattle.std.specs.Prelude.{◌≡◌, ◌↔◌, ◌+◌, IsTrue};
+ghost use Rattle.std.specs.Prelude.{◌≡◌, ◌↔◌, ◌+◌, false, IsTrue};
+ghost use Rattle.wave_lex.specs.NumbersInTurn.{TakesNumberInTurn};
 ghost use Rattle.wave_lex.specs.Tokenization.{NextIs, item_of};
 ghost use Rattle.wave_lex.specs.declared.found.Found.TheVariants as found;
 
@@ -26,6 +27,16 @@ impl Found {
         ensures counted { asked.new ≡ asked.old + 1 }
     {
         lexer.take(asked)
+    }
+
+    /// Takes a comma that stands at once and the number behind it, as two calls of `next_of` do; takes and
+    /// counts nothing where they don't stand there. Says whether they do.
+    #[inline(always)]
+    pub fn number_in_turn(lexer: &mut Lexer, asked: &mut Asked) -> bool
+        ensures taken { IsTrue result → TakesNumberInTurn lexer.old lexer.new × (asked.new ≡ asked.old + 2) }
+        ensures stays { result ≡ false → (lexer.new ≡ lexer.old) × (asked.new ≡ asked.old) }
+    {
+        lexer.take_number_in_turn(asked)
     }
 
     /// Whether it is a token of this class.

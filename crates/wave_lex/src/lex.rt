@@ -1,15 +1,18 @@
 //! Tokens of the text encoding, and the lexer that tokenizes a source.
-ghost use Rattle.std.specs.Prelude.{◌≡◌, ℕ, ◌+◌, Some, IfSome, slice_range, length};
+ghost use Rattle.std.specs.Prelude.{◌≡◌, ℕ, ◌+◌, false, IsTrue, Some, IfSome, slice_range, length};
 ghost use Rattle.std.specs.Iterator.{at_most};
 ghost use Rattle.wave_lex.specs.Errors.{class_name, name_class_name};
 ghost use Rattle.wave_lex.specs.LongestMatch.{Greatest, IsPrefixOf};
 ghost use Rattle.wave_lex.specs.Tokens.{shape, invalid};
+ghost use Rattle.wave_lex.specs.NumbersInTurn.{TakesNumberInTurn};
 ghost use Rattle.wave_lex.specs.Tokenization.{Lexed, Stands, NextIs, item_of, remainder_of, span};
 ghost use Rattle.wave_lex.specs.Classes.{class_of, ClassAt};
-ghost use Rattle.wave_lex.specs.Private.Reading.{TokenAt, IsMark, IsFirstMark};
+ghost use Rattle.wave_lex.specs.Private.Reading.{TokenAt, IsMark, IsFirstMark, IsNumberBehindComma};
 
 pub use self::func_name::FuncNameLexer;
-use self::scan::{char_at, gap_at, label_at, mark_at, multiline_at, number_at, string_at};
+use self::scan::{
+    begins_number, char_at, gap_at, label_at, mark_at, multiline_at, number_at, string_at,
+};
 use crate::asked::Asked;
 use crate::found::Found;
 use crate::machine::invalid::InvalidState;
@@ -217,6 +220,27 @@ fn token_at(text: &str) -> Option<(Token, usize)>
     Some((class, length))
 }
 
+/// The number behind the comma at the start, where they stand there: how many bytes the whitespace between
+/// them takes, and how many the number.
+#[inline(always)]
+fn number_behind_comma(text: &str) -> Option<(usize, usize)>
+    ensures { IfSome result (λ found. IsNumberBehindComma text.now found.0 found.1) }
+{
+    let bytes = text.as_bytes();
+    if bytes.len() == 0 || bytes[0] != b',' {
+        return None;
+    }
+    let rest = &text[1..];
+    let gap = gap_at(rest);
+    let number = &rest[gap..];
+    let first = number.as_bytes();
+    if first.len() == 0 || !begins_number(first[0]) {
+        return None;
+    }
+    let length = number_at(number)?;
+    Some((gap, length))
+}
+
 /// Tokenizes a source, one token after the other. Places are counted in bytes.
 #[derive(Drop)]
 pub struct Lexer<'source> {
@@ -310,6 +334,23 @@ impl<'source> Lexer<'source> {
             return Found::Token(mark);
         }
         self.advance()
+    }
+
+    /// Takes the comma that stands at once and the number behind it, counts two questions, and says whether
+    /// they stood there. Where they don't nothing is taken or counted.
+    #[inline(always)]
+    pub(crate) fn take_number_in_turn(&mut self, asked: &mut Asked) -> bool
+        ensures taken { IsTrue result → TakesNumberInTurn self.old self.new × (asked.new ≡ asked.old + 2) }
+        ensures stays { result ≡ false → (self.new ≡ self.old) × (asked.new ≡ asked.old) }
+    {
+        let Some((gap, length)) = number_behind_comma(self.remainder()) else {
+            return false;
+        };
+        asked.tick();
+        asked.tick();
+        self.start = self.end + 1 + gap;
+        self.end = self.start + length;
+        true
     }
 
     /// The item of which this was taken last.

@@ -95,7 +95,7 @@ impl<'src> Leaf<'src> {
     }
 
     /// The text, at a string that has no backslash between its quotes: what stands there.
-    fn run(&self) -> Option<&'src str>
+    pub(crate) fn run(&self) -> Option<&'src str>
         ensures { (source : List ℕ) → IsLeafIn source self.now → IfSome result (λ text. StandsFor source (leaf_node self.now) text.now) }
     {
         if self.ty != NodeType::String {

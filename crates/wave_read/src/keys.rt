@@ -12,6 +12,7 @@ ghost use Rattle.wave_read.specs.Reading.{IsOfType};
 use crate::error::ReadError;
 use crate::leaf::Leaf;
 use std::alloc::{AllocError, Global};
+use std::borrow::CowStr;
 use std::boxed::Box;
 use wave_grammar::form::NodeType;
 use wave_lex::error::ParserErrorKind;
@@ -88,6 +89,9 @@ impl<'src> Leaf<'src> {
         ensures within { RefusesInKey self.now result }
         ensures typed { IsOfType V.is_of (type.simple type.string) result }
     {
+        if let Some(text) = self.run() {
+            return self.made_string(alloc, CowStr::Borrowed(text));
+        }
         match self.as_str(alloc) {
             Ok(text) => self.made_string(alloc, text),
             Err(error) => Err(ReadError::of_error(alloc, error)),

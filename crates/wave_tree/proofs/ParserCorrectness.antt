@@ -9,3 +9,4 @@ pub mod LexerCalls
 pub mod ClassTests
 pub mod FlagLoop
 pub mod FlagsSorted
+pub mod NumbersInTurn

@@ -286,6 +286,7 @@ impl<'source> Tokens<'source> {
         let mut token = self.advance()?;
         let mut parts = no_parts(alloc, builder, ty);
         'items: loop {
+            self.push_numbers(alloc, builder, &mut parts, close, token)?;
             self.parse_part_after_token(alloc, builder, &mut parts, levels, token)?;
             let item = self.take();
             let Found::Token(mark) = item else {

@@ -1,6 +1,6 @@
 //! The tokens of a source, taken one by one, and what is made of them.
 ghost use Rattle.std.specs.Prelude.{◌≡◌, ◌≢◌, ◌↔◌, ℕ, ◌+◌, ◌-◌, ◌++◌, ◌≤◌, List, [], ◌∷◌};
-ghost use Rattle.std.specs.Prelude.{Some, None, Ok, Err, IfOk, IfErr, IsTrue};
+ghost use Rattle.std.specs.Prelude.{Some, None, Ok, Err, IfOk, IfErr, IsTrue, false};
 ghost use Rattle.wave_lex.specs.declared.error.ParserErrorKind.TheVariants as kind;
 ghost use Rattle.std.specs.String.{string_bytes};
 ghost use Rattle.wave_lex.specs.Errors.{class_name, repeated_name};
@@ -16,6 +16,7 @@ ghost use Rattle.wave_grammar.specs.NodeTree.{NodeTree, node, no_nodes, node_tre
 ghost use Rattle.wave_tree.specs.ParsedNodes.{IsNodeTaken, IsSound};
 ghost use Rattle.wave_tree.specs.FromStr.{IsValueTaken, RefusesValue, IsCausedBetween};
 ghost use Rattle.wave_tree.specs.ParserState.{BeginsRow, HoldsNoBrace, Finishes, StaysWithout};
+ghost use Rattle.wave_tree.specs.Private.ParsedNodes.{TakesNumber, IsRunAdded, AreNumbersAdded};
 ghost use Rattle.wave_tree.specs.Private.ParserState.{Stream, stream_of, asked_of, AsksFor, ahead_count, lexer_of, IsAhead, Advances, Expects, IsRefused};
 ghost use Rattle.wave_lex.specs.Errors.{LiesInText};
 ghost use Rattle.wave_tree.specs.ParserLaws.{LiesInSource};
@@ -157,6 +158,19 @@ impl<'source> Tokens<'source> {
             self.before = self.lexer.clone();
             let item = Found::next_of(&mut self.lexer, &mut self.asked);
             self.ahead = Some(item);
+        }
+    }
+
+    /// Takes a comma that stands at once and the number behind it, or nothing; says which.
+    #[inline(always)]
+    fn take_number(&mut self) -> bool
+        ensures taken { IsTrue result → TakesNumber self.old.place self.new.place }
+        ensures ahead { IsTrue result → (self.old.ahead ≡ 0) × (self.new.ahead ≡ 0) }
+        ensures stays { result ≡ false → self.new ≡ self.old }
+    {
+        match self.ahead {
+            Some(_) => false,
+            None => Found::number_in_turn(&mut self.lexer, &mut self.asked),
         }
     }
 
@@ -404,6 +418,60 @@ impl<'source> Tokens<'source> {
         match builder.push_leaf(alloc, parts, ty, self.span(), self.slice()) {
             Ok(()) => Ok(()),
             Err(_) => Err(self.out_of_memory()),
+        }
+    }
+
+    /// Where the last token, of this class, is a number in a list, by its close, adds it to the parts, and so
+    /// the numbers that stand behind it in turn, each after a comma; all but the last of them, which was taken
+    /// last then.
+    #[inline(always)]
+    pub(crate) fn push_numbers<P: Builder>(
+        &mut self,
+        alloc: Global,
+        builder: P,
+        parts: &mut P::Parts,
+        close: Token,
+        token: Token,
+    ) -> Result<(), ReadError>
+        ensures kept { IfOk result (λ _. AreNumbersAdded (P.are_parts builder) token self.old.place parts.old self.new.place parts.new) }
+        ensures memory { IfErr result (λ e. e.kind ≡ kind.OutOfMemory) }
+        ensures takes { IfErr result (λ _. (of : NodeType) (children : List NodeTree) → ((any : List NodeTree) → TakesPart of any)
+            → P.are_parts builder self.old.place.lexer.source of children parts.old → P.takes_memory builder) }
+        ensures asks { AsksFor self.old self.new }
+    {
+        if token != Token::Number {
+            return Ok(());
+        }
+        if close != Token::BracketClose {
+            return Ok(());
+        }
+        self.push_number_run(alloc, builder, parts)
+    }
+
+    /// The same where the last token is a number.
+    #[inline(never)]
+    fn push_number_run<P: Builder>(
+        &mut self,
+        alloc: Global,
+        builder: P,
+        parts: &mut P::Parts,
+    ) -> Result<(), ReadError>
+        ensures kept { IfOk result (λ _. IsRunAdded (P.are_parts builder) self.old.place parts.old self.new.place parts.new) }
+        ensures memory { IfErr result (λ e. e.kind ≡ kind.OutOfMemory) }
+        ensures takes { IfErr result (λ _. (of : NodeType) (children : List NodeTree) → ((any : List NodeTree) → TakesPart of any)
+            → P.are_parts builder self.old.place.lexer.source of children parts.old → P.takes_memory builder) }
+        ensures asks { AsksFor self.old self.new }
+    {
+        'numbers: loop {
+            let span = self.span();
+            let text = self.slice();
+            if !self.take_number() {
+                return Ok(());
+            }
+            match builder.push_leaf(alloc, parts, NodeType::Number, span, text) {
+                Ok(()) => {}
+                Err(_) => return Err(self.out_of_memory()),
+            }
         }
     }
 

@@ -65,12 +65,12 @@ group MultilineString = String
 group t = t
 
 -- the first scalar shows this class
-abbrev shows : Option Token → Token → Bool
+abbrev pub shows : Option Token → Token → Bool
 shows None t = false
 shows (Some u) t = nat_eq (number_of u) (number_of t)
 
 -- what the test shows is so
-shows_true : (o : Option Token) (t : Token) → shows o t ≡ true → o ≡ Some t
+pub shows_true : (o : Option Token) (t : Token) → shows o t ≡ true → o ≡ Some t
 shows_true None t e = cc
 shows_true (Some u) t e = ap Some (sym (of_number_of u) ∙ (ap of_number (eqb-true (number_of u) (number_of t) e) ∙ of_number_of t))
 

@@ -77,12 +77,12 @@ mark_stands m Comma s e = tt
 mark_stands m _ s e = absurd e
 
 -- a list with a first element is that one and the others
-first_then : (s : List ℕ) (m : ℕ) → 0 < length s → get_or s 0 0 ≡ m → s ≡ m ∷ drop 1 s
+pub first_then : (s : List ℕ) (m : ℕ) → 0 < length s → get_or s 0 0 ≡ m → s ≡ m ∷ drop 1 s
 first_then [] m l e = let w : ⊥ = omega arith in absurd w
 first_then (a ∷ s) m l e = ap (λ (z : ℕ). z ∷ s) e
 
 -- a mark at the start is the longest token there
-mark_token : (m : ℕ) (c : Token) (s b : List ℕ) → IsMark m c → b ≡ s → 0 < length b → get_or b 0 0 ≡ m → IsLongestToken s 1 c
+pub mark_token : (m : ℕ) (c : Token) (s b : List ℕ) → IsMark m c → b ≡ s → 0 < length b → get_or b 0 0 ≡ m → IsLongestToken s 1 c
 mark_token m c s b mark e l f =
     let bounds = mark_bounds m c mark in
     let front = subst (λ (z : Regex). Greatest (IsPrefixOf z s) (Some 1)) (mark_shape m c mark) (mark_here s b m e bounds.0 l f) in

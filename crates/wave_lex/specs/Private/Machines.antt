@@ -2,6 +2,7 @@
 use Rattle.std.specs.Prelude.{ℕ, zero, suc, ◌||◌, Bool, not, if◌then◌else◌, nat_eq, [], ◌∷◌, Option, Some, None}
 use Rattle.wave_lex.specs.Regex.{Regex}
 use Rattle.wave_lex.specs.Derive.{derivative_by}
+use Rattle.wave_lex.specs.Machines.{is_digit}
 use Rattle.wave_lex.specs.Tokens.{gap, invalid}
 use Rattle.wave_lex.specs.declared.machine.number.NumberState.TheVariants as n
 use Rattle.wave_lex.specs.declared.machine.number.NumberState.{NumberState}
@@ -14,6 +15,10 @@ use Rattle.wave_lex.specs.declared.machine.invalid.InvalidState.{InvalidState}
 abbrev pub after_sign : ℕ → NumberState
 after_sign zero = n.Start
 after_sign (suc k) = n.Minus
+
+-- `-` or a digit
+abbrev pub begins_number : ℕ → Bool
+begins_number b = nat_eq b 45 || is_digit b
 
 -- not `.`, `e` or `E`
 abbrev pub ends_whole : ℕ → Bool

@@ -1,7 +1,7 @@
 -- What the lexer's own functions answer.
-use Rattle.std.specs.Prelude.{◌≡◌, ℕ, ◌<◌, ◌≤◌, true, false, List, Option, Some, None, length, slice_index}
+use Rattle.std.specs.Prelude.{◌≡◌, ℕ, ◌<◌, ◌≤◌, true, false, List, Option, Some, None, length, drop, slice_index}
 use Rattle.wave_lex.specs.declared.lex.Token.{Token}
-use Rattle.wave_lex.specs.declared.lex.Token.TheVariants.{BraceOpen, BraceClose, ParenOpen, ParenClose, BracketOpen, BracketClose, Colon, Comma}
+use Rattle.wave_lex.specs.declared.lex.Token.TheVariants.{BraceOpen, BraceClose, ParenOpen, ParenClose, BracketOpen, BracketClose, Colon, Comma, Number}
 use Rattle.wave_lex.specs.declared.machine.label.LabelState.TheVariants.{Lower}
 use Rattle.wave_lex.specs.declared.machine.label.LabelTokenState.TheVariants.{Label}
 use Rattle.wave_lex.specs.Regex.{Regex}
@@ -26,6 +26,10 @@ IsMark m _ = ⊥
 -- a mark is the longest token at the start of r, and no whitespace stands before it
 abbrev pub IsFirstMark : List ℕ → Token → Type 0
 IsFirstMark r c = IsGap r 0 × IsLongestToken r 1 c
+
+-- a comma stands at the start of r, then g bytes of whitespace, then a number of k bytes
+abbrev pub IsNumberBehindComma : List ℕ → ℕ → ℕ → Type 0
+IsNumberBehindComma r g k = IsFirstMark r Comma × IsGap (drop 1 r) g × IsLongestToken (drop g (drop 1 r)) k Number
 
 -- what stands at the start of r
 abbrev pub TokenAt : List ℕ → Option (Token × ℕ) → Type 0

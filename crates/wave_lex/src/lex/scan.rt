@@ -4,7 +4,7 @@
 ghost use Rattle.std.specs.Prelude.{◌≡◌, ℕ, ◌<◌, ◌≤◌, true, false, Some, IfSome, is_some, length, drop, slice_index};
 ghost use Rattle.wave_lex.specs.LongestMatch.{Greatest, IsPrefixOf};
 ghost use Rattle.wave_lex.specs.Strings.{short_escape};
-ghost use Rattle.wave_lex.specs.Private.Machines.{after_sign, ends_whole, is_blank, is_plain};
+ghost use Rattle.wave_lex.specs.Private.Machines.{after_sign, begins_number, ends_whole, is_blank, is_plain};
 ghost use Rattle.wave_lex.specs.Machines.{is_digit, is_lower, number_rest, string_rest};
 ghost use Rattle.wave_lex.specs.Private.Reading.{LeadsTo, EndsWord, IsPlainRun, IsStep, IsWordStep};
 ghost use Rattle.wave_lex.specs.declared.machine.string.StringState.TheVariants.{Inside};
@@ -303,6 +303,13 @@ fn is_blank(byte: u8) -> bool
     ensures { result ≡ is_blank byte }
 {
     matches!(byte, b' ' | b'\t' | b'\n' | b'\r')
+}
+
+/// The byte is a minus or a digit.
+pub fn begins_number(byte: u8) -> bool
+    ensures { result ≡ begins_number byte }
+{
+    matches!(byte, b'-' | b'0'..=b'9')
 }
 
 /// The byte is a digit.

@@ -141,3 +141,26 @@ HasPartBehind Are n first new before after =
 -- an error is so, where parts were made of the first children of a node
 abbrev pub WithParts : {M : Type 0} → (List ℕ → NodeType → List NodeTree → M → Type 0) → M → (Diagnostic → Type 0) → Diagnostic → Type 0
 WithParts Are parts Is e = (source : List ℕ) (of : NodeType) (children : List NodeTree) → Are source of children parts → Is e
+
+-- a comma and a number were taken
+abbrev pub TakesNumber : Place → Place → Type 0
+TakesNumber p q = (comma : Place) × TakesClass class.Comma p comma × TakesClass class.Number comma q
+
+-- the number that was taken last at the place p was added to the parts of a list or a tuple, and a comma and the next number were taken
+pub record AddsNumber {M : Type 0} (Are : List ℕ → NodeType → List NodeTree → M → Type 0) (p : Place) (before : M) (q : Place) (after : M) : Type 0 where
+  pub added : (of : NodeType) (children : List NodeTree) → TakesPart of children → Are p.lexer.source of children before
+      → Are p.lexer.source of (children ++ node kind.Number (span_at p) no_nodes ∷ []) after
+  pub next : TakesNumber p q
+
+-- so it was at each of these places, the last one first
+abbrev pub AddsNumbers : {M : Type 0} → (List ℕ → NodeType → List NodeTree → M → Type 0) → List (Place × M) → Place → M → Place → M → Type 0
+AddsNumbers Are [] p before q after = (q ≡ p) × (after ≡ before)
+AddsNumbers Are (one ∷ earlier) p before q after = AddsNumbers Are earlier p before one.0 one.1 × AddsNumber Are one.0 one.1 q after
+
+-- so it was at some places, or nothing was done
+abbrev pub IsRunAdded : {M : Type 0} → (List ℕ → NodeType → List NodeTree → M → Type 0) → Place → M → Place → M → Type 0
+IsRunAdded {M} Are p before q after = (steps : List (Place × M)) × AddsNumbers Are steps p before q after
+
+-- and only where the token that was taken last is a number
+abbrev pub AreNumbersAdded : {M : Type 0} → (List ℕ → NodeType → List NodeTree → M → Type 0) → lex.Token → Place → M → Place → M → Type 0
+AreNumbersAdded {M} Are token p before q after = (steps : List (Place × M)) × AddsNumbers Are steps p before q after × (steps ≢ [] → token ≡ class.Number)

@@ -7,9 +7,9 @@ use Rattle.wave_grammar.specs.PrefixAutomaton as due
 use Rattle.wave_grammar.specs.SyntaxErrors.{Gives, IsBehind, LeadsBehindValue}
 use Rattle.std.specs.declared.ops.Range.{Range}
 use Rattle.wave_lex.specs.Tokenization.{span}
-use Rattle.wave_tree.specs.Private.TokenRoles.{form_of, IsClose}
+use Rattle.wave_tree.specs.Private.TokenRoles.{form_of}
 use Rattle.wave_lex.specs.declared.error.ParserErrorKind.TheVariants as because
-use Rattle.wave_tree.proofs.ParserCorrectness.Steps.{gives_or_memory, no_level, refuses_there, kind_is, here, here_is, handed, gives_then, fails, any_token, shallow, value_read, level_open, read_there, unexpected_there, no_paren, behind_bare, reached, fails_behind, then_behind, payload_other, unexpected_behind, expected, untrue, moved, then_class, then_behind_class, range_path, close_first, close_empty, close_next, then_same, then_refuses, item_refuses, item_read, then_reached, Reached, IsItemDue, no_close, empty_there, key_reads, no_key, brace_key, entries_other, close_behind, comma_behind, other_behind, token_less, tokens_less, no_colon, no_brace, gives_alike, paren_alike, colon_alike, item_fails, value_less, other_next}
+use Rattle.wave_tree.proofs.ParserCorrectness.Steps.{gives_or_memory, no_level, refuses_there, kind_is, here, here_is, handed, gives_then, fails, any_token, shallow, value_read, level_open, read_there, unexpected_there, no_paren, behind_bare, reached, fails_behind, then_behind, payload_other, unexpected_behind, expected, untrue, moved, then_class, then_behind_class, range_path, close_first, close_empty, close_next, then_same, then_refuses, item_refuses, then_reached, Reached, no_close, empty_there, key_reads, no_key, brace_key, entries_other, close_behind, comma_behind, other_behind, token_less, tokens_less, no_colon, no_brace, gives_alike, paren_alike, colon_alike, item_fails, value_less, other_next}
 use Rattle.wave_tree.specs.declared.role.ValueStart.{ValueStart}
 use Rattle.wave_tree.specs.declared.role.ValueStart.TheVariants as front
 use Rattle.wave_tree.specs.Private.ParserState.{IsAlone, IsValueStart}
@@ -26,6 +26,7 @@ use Rattle.wave_tree.proofs.ParserCorrectness.OutOfMemory.{wants_token, whatever
 use Rattle.wave_tree.proofs.ParserCorrectness.PartsDue.{key_next, value_next, payload_due, payload_parts}
 use Rattle.wave_tree.proofs.ParserCorrectness.BuiltNodes.{as_added, part_added, entry_added, built, whole_built, none_built, as_ok, never_made, source_item, source_parsed, source_reached}
 use Rattle.wave_grammar.specs.NodeParts.{IsOfParts, TakesPart}
+use Rattle.wave_tree.proofs.ParserCorrectness.NumbersInTurn.{asks_in_items, behind_item, numbers_less, still_in_items}
 use Rattle.wave_tree.proofs.ParserCorrectness.ClassTests.{is_class, is_other, differs, differs_not}
 use Rattle.wave_tree.proofs.ParserCorrectness.LexerCalls.{asks_none, asks_once, asks_token, asks_looked, asks_value, asks_begun, asks_item, asks_entries}
 use Rattle.wave_tree.proofs.tokens.Tokens.+parser.Goals as goal
@@ -117,11 +118,6 @@ parse_items-returns-then-next_is-clause-led g t c = λ n s e.
     read_there (then_same c.args.close (here_is n due.first_item (form_of c.args.close ∷ s) _ _ c.next_is.ensures.stays) c.in_ok-expect.ensures.takes
     (close_first n c.args.close s (text_at c.expect.new.self.place) c.requires (is_other _ _ c.eq.ensures c.if-eq.false))) (inl refl)
 
--- after an item that was read
-behind_item : {n : ℕ} {d e : Expectation} {s : List StackSymbol} {p q w : Place} (close : lex.Token) → IsClose close → ((next : Place) × TakesItem q (Some (Ok close)) next → ⊥) → IsItemDue e →
-    Reached n d (form_of close ∷ s) p e (form_of close ∷ s) q → (h : LeadsBehindValue n due.value (form_of close ∷ s) q w (form_of close ∷ s)) → Reached n d (form_of close ∷ s) p h.due_there (form_of close ∷ s) w
-behind_item {e = e} {s = s} {q = q} close is_close none i r h = then_reached r (item_read e i (no_close close s q is_close none) h)
-
 pub parse_part-returns : goal.parse_part-returns
 parse_part-returns g t c = record {
   led = λ n s e. c.parse_part_after_token.ensures.led c.args.self.now.place c.in-Token.ensures.takes n s e;
@@ -189,6 +185,10 @@ parse_items-returns-in_err-token-clause-memory g t c = error_handed (OnlyOutOfMe
 pub parse_items-items-init : goal.parse_items-items-init
 parse_items-items-init g t c = record {
   asks = asks_looked c.args.self.now c.next_is.new.self c.advance.new.self c.next_is.ensures.stays c.next_is.ensures.asks (asks_once c.next_is.new.self c.advance.new.self c.advance.ensures.asks);
+  takes = elim c.if-eq-2.branch as (λ _. (any : List NodeTree) → TakesPart c.if-eq-2.ty any) [
+    | parse_items-then-eq-2 w ↦ λ any. subst (λ z. TakesPart z any) (sym w.ty-is) tt
+    | parse_items-else-eq-2 w ↦ λ any. subst (λ z. TakesPart z any) (sym w.ty-is) tt
+  ];
   from = (
     c.next_is.new.self.place,
     c.in_ok-token.ensures.takes,
@@ -205,14 +205,14 @@ parse_items-items-init g t c = record {
 
 pub parse_items-returns-in_err-parse_part_after_token-clause-led : goal.parse_items-returns-in_err-parse_part_after_token-clause-led
 parse_items-returns-in_err-parse_part_after_token-clause-led g t c = λ n s e.
-    let (at, there, none, due_at, children, first, go) = c.items.invariant.from in
+    let (at, there, none, due_at, children, first, go) = still_in_items (λ s of cs ps. g.P.Builder.are_parts c.args.builder s of cs ps) c.if-eq-2.ty c.items.invariant.takes c.args.levels (omega arith) c.args.close c.requires c.args.self.now.place c.items.token c.items.self.place c.push_numbers.new.self.place c.items.parts c.push_numbers.new.parts c.items.invariant.from c.in_ok-push_numbers.ensures.kept in
     let (d, i, r) = due_at n s e in
     handed s _ _ c.from_residual-in_err-parse_part_after_token.ensures.1 (then_refuses c.in_err-parse_part_after_token.field-0.0 r
     (item_refuses d c.in_err-parse_part_after_token.field-0.0 i (no_close c.args.close s _ c.requires none) (c.in_err-parse_part_after_token.ensures.led at there n (form_of c.args.close ∷ s) (omega arith))))
 
 pub parse_items-returns-then-eq-3-clause-led : goal.parse_items-returns-then-eq-3-clause-led
 parse_items-returns-then-eq-3-clause-led g t c = λ n s e.
-    let (at, there, none, due_at, children, first, go) = c.items.invariant.from in
+    let (at, there, none, due_at, children, first, go) = still_in_items (λ s of cs ps. g.P.Builder.are_parts c.args.builder s of cs ps) c.if-eq-2.ty c.items.invariant.takes c.args.levels (omega arith) c.args.close c.requires c.args.self.now.place c.items.token c.items.self.place c.push_numbers.new.self.place c.items.parts c.push_numbers.new.parts c.items.invariant.from c.in_ok-push_numbers.ensures.kept in
     let (d, i, r) = due_at n s e in
     let item = c.in_ok-parse_part_after_token.ensures.led at there n (form_of c.args.close ∷ s) (omega arith) in
     let behind = behind_item c.args.close c.requires none i r item in
@@ -222,7 +222,7 @@ parse_items-returns-then-eq-3-clause-led g t c = λ n s e.
 
 pub parse_items-returns-then-ne-clause-led : goal.parse_items-returns-then-ne-clause-led
 parse_items-returns-then-ne-clause-led g t c = λ n s e.
-    let (at, there, none, due_at, children, first, go) = c.items.invariant.from in
+    let (at, there, none, due_at, children, first, go) = still_in_items (λ s of cs ps. g.P.Builder.are_parts c.args.builder s of cs ps) c.if-eq-2.ty c.items.invariant.takes c.args.levels (omega arith) c.args.close c.requires c.args.self.now.place c.items.token c.items.self.place c.push_numbers.new.self.place c.items.parts c.push_numbers.new.parts c.items.invariant.from c.in_ok-push_numbers.ensures.kept in
     let (d, i, r) = due_at n s e in
     let item = c.in_ok-parse_part_after_token.ensures.led at there n (form_of c.args.close ∷ s) (omega arith) in
     let behind = behind_item c.args.close c.requires none i r item in
@@ -232,7 +232,7 @@ parse_items-returns-then-ne-clause-led g t c = λ n s e.
 
 pub parse_items-returns-then-eq-4-clause-led : goal.parse_items-returns-then-eq-4-clause-led
 parse_items-returns-then-eq-4-clause-led g t c = λ n s e.
-    let (at, there, none, due_at, children, first, go) = c.items.invariant.from in
+    let (at, there, none, due_at, children, first, go) = still_in_items (λ s of cs ps. g.P.Builder.are_parts c.args.builder s of cs ps) c.if-eq-2.ty c.items.invariant.takes c.args.levels (omega arith) c.args.close c.requires c.args.self.now.place c.items.token c.items.self.place c.push_numbers.new.self.place c.items.parts c.push_numbers.new.parts c.items.invariant.from c.in_ok-push_numbers.ensures.kept in
     let (d, i, r) = due_at n s e in
     let item = c.in_ok-parse_part_after_token.ensures.led at there n (form_of c.args.close ∷ s) (omega arith) in
     let behind = behind_item c.args.close c.requires none i r item in
@@ -242,43 +242,53 @@ parse_items-returns-then-eq-4-clause-led g t c = λ n s e.
 
 pub parse_items-items-smaller : goal.parse_items-items-smaller
 parse_items-items-smaller g t c =
-    let (at, there, none, due_at, children, first, go) = c.items.invariant.from in
+    let (at, there, none, due_at, children, first, go) = still_in_items (λ s of cs ps. g.P.Builder.are_parts c.args.builder s of cs ps) c.if-eq-2.ty c.items.invariant.takes c.args.levels (omega arith) c.args.close c.requires c.args.self.now.place c.items.token c.items.self.place c.push_numbers.new.self.place c.items.parts c.push_numbers.new.parts c.items.invariant.from c.in_ok-push_numbers.ensures.kept in
     let item = c.in_ok-parse_part_after_token.ensures.led at there (c.args.levels + 1 + 0) (form_of c.args.close ∷ []) (omega arith) in
-    let one = value_less at c.items.self.place c.parse_part_after_token.new.self.place c.items.token there item in
+    let zero = numbers_less (λ s of cs ps. g.P.Builder.are_parts c.args.builder s of cs ps) c.in_ok-push_numbers.ensures.kept.0 c.items.self.place c.push_numbers.new.self.place c.items.parts c.push_numbers.new.parts c.in_ok-push_numbers.ensures.kept.1 in
+    let one = value_less at c.push_numbers.new.self.place c.parse_part_after_token.new.self.place c.items.token there item in
     let two = token_less _ _ c.in-Token.mark c.in-Token.ensures.takes in
     let three = token_less _ _ c.in-Token-item.next c.in-Token-item.ensures.takes in
     omega arith
 
+pub parse_items-returns-in_err-push_numbers-clause-memory : goal.parse_items-returns-in_err-push_numbers-clause-memory
+parse_items-returns-in_err-push_numbers-clause-memory g t c =
+    let (at, there, none, due_at, children, are, go) = c.items.invariant.from in
+    let (d, i, r) = due_at (c.args.levels + 1) [] (omega arith) in
+    let source : c.items.self.place.lexer.source ≡ c.args.self.now.place.lexer.source = source_item at c.items.self.place c.items.token there ∙ source_reached r in
+    error_handed (OnlyOutOfMemory (g.P.Builder.takes_memory c.args.builder) c.args.self.now.place) c.from_residual-in_err-push_numbers.result c.in_err-push_numbers.field-0.0 c.from_residual-in_err-push_numbers.ensures.1
+    (λ k small. c.in_err-push_numbers.ensures.takes c.if-eq-2.ty children c.items.invariant.takes (subst (λ (s : List ℕ). g.P.Builder.are_parts c.args.builder s c.if-eq-2.ty children c.items.parts) (sym source) are))
+
+pub parse_items-returns-in_err-push_numbers-clause-asks : goal.parse_items-returns-in_err-push_numbers-clause-asks
+parse_items-returns-in_err-push_numbers-clause-asks g t c =
+    asks_in_items (λ s cs ps. g.P.Builder.are_parts c.args.builder s c.if-eq-2.ty cs ps) c.args.levels c.args.close c.items.token c.items.parts c.args.self.now c.items.self c.push_numbers.new.self c.items.invariant.from c.items.invariant.asks c.push_numbers.ensures.asks
+
 pub parse_items-returns-in_err-parse_part_after_token-clause-asks : goal.parse_items-returns-in_err-parse_part_after_token-clause-asks
 parse_items-returns-in_err-parse_part_after_token-clause-asks g t c =
-    let (at, there, none, due_at, children, first, go) = c.items.invariant.from in
-    asks_begun c.args.levels c.args.close c.items.token c.args.self.now c.items.self c.parse_part_after_token.new.self at due_at there c.items.invariant.asks c.parse_part_after_token.ensures.asks
+    let (at, there, none, due_at, children, first, go) = still_in_items (λ s of cs ps. g.P.Builder.are_parts c.args.builder s of cs ps) c.if-eq-2.ty c.items.invariant.takes c.args.levels (omega arith) c.args.close c.requires c.args.self.now.place c.items.token c.items.self.place c.push_numbers.new.self.place c.items.parts c.push_numbers.new.parts c.items.invariant.from c.in_ok-push_numbers.ensures.kept in
+    asks_begun c.args.levels c.args.close c.items.token c.args.self.now c.push_numbers.new.self c.parse_part_after_token.new.self at due_at there (asks_in_items (λ s cs ps. g.P.Builder.are_parts c.args.builder s c.if-eq-2.ty cs ps) c.args.levels c.args.close c.items.token c.items.parts c.args.self.now c.items.self c.push_numbers.new.self c.items.invariant.from c.items.invariant.asks c.push_numbers.ensures.asks) c.parse_part_after_token.ensures.asks
 
 pub parse_items-returns-then-eq-3-clause-asks : goal.parse_items-returns-then-eq-3-clause-asks
 parse_items-returns-then-eq-3-clause-asks g t c =
-    let (at, there, none, due_at, children, first, go) = c.items.invariant.from in
-    asks_item c.args.levels c.args.close c.args.self.now c.parse_part_after_token.new.self c.take-item.new.self at c.requires none due_at (c.in_ok-parse_part_after_token.ensures.led at there) (asks_begun c.args.levels c.args.close c.items.token c.args.self.now c.items.self c.parse_part_after_token.new.self at due_at there c.items.invariant.asks c.parse_part_after_token.ensures.asks) (asks_once c.parse_part_after_token.new.self c.take-item.new.self c.take-item.ensures.asks)
+    let (at, there, none, due_at, children, first, go) = still_in_items (λ s of cs ps. g.P.Builder.are_parts c.args.builder s of cs ps) c.if-eq-2.ty c.items.invariant.takes c.args.levels (omega arith) c.args.close c.requires c.args.self.now.place c.items.token c.items.self.place c.push_numbers.new.self.place c.items.parts c.push_numbers.new.parts c.items.invariant.from c.in_ok-push_numbers.ensures.kept in
+    asks_item c.args.levels c.args.close c.args.self.now c.parse_part_after_token.new.self c.take-item.new.self at c.requires none due_at (c.in_ok-parse_part_after_token.ensures.led at there) (asks_begun c.args.levels c.args.close c.items.token c.args.self.now c.push_numbers.new.self c.parse_part_after_token.new.self at due_at there (asks_in_items (λ s cs ps. g.P.Builder.are_parts c.args.builder s c.if-eq-2.ty cs ps) c.args.levels c.args.close c.items.token c.items.parts c.args.self.now c.items.self c.push_numbers.new.self c.items.invariant.from c.items.invariant.asks c.push_numbers.ensures.asks) c.parse_part_after_token.ensures.asks) (asks_once c.parse_part_after_token.new.self c.take-item.new.self c.take-item.ensures.asks)
 
 pub parse_items-returns-then-ne-clause-asks : goal.parse_items-returns-then-ne-clause-asks
 parse_items-returns-then-ne-clause-asks g t c =
-    let (at, there, none, due_at, children, first, go) = c.items.invariant.from in
-    asks_item c.args.levels c.args.close c.args.self.now c.parse_part_after_token.new.self c.take-item.new.self at c.requires none due_at (c.in_ok-parse_part_after_token.ensures.led at there) (asks_begun c.args.levels c.args.close c.items.token c.args.self.now c.items.self c.parse_part_after_token.new.self at due_at there c.items.invariant.asks c.parse_part_after_token.ensures.asks) (asks_once c.parse_part_after_token.new.self c.take-item.new.self c.take-item.ensures.asks)
+    let (at, there, none, due_at, children, first, go) = still_in_items (λ s of cs ps. g.P.Builder.are_parts c.args.builder s of cs ps) c.if-eq-2.ty c.items.invariant.takes c.args.levels (omega arith) c.args.close c.requires c.args.self.now.place c.items.token c.items.self.place c.push_numbers.new.self.place c.items.parts c.push_numbers.new.parts c.items.invariant.from c.in_ok-push_numbers.ensures.kept in
+    asks_item c.args.levels c.args.close c.args.self.now c.parse_part_after_token.new.self c.take-item.new.self at c.requires none due_at (c.in_ok-parse_part_after_token.ensures.led at there) (asks_begun c.args.levels c.args.close c.items.token c.args.self.now c.push_numbers.new.self c.parse_part_after_token.new.self at due_at there (asks_in_items (λ s cs ps. g.P.Builder.are_parts c.args.builder s c.if-eq-2.ty cs ps) c.args.levels c.args.close c.items.token c.items.parts c.args.self.now c.items.self c.push_numbers.new.self c.items.invariant.from c.items.invariant.asks c.push_numbers.ensures.asks) c.parse_part_after_token.ensures.asks) (asks_once c.parse_part_after_token.new.self c.take-item.new.self c.take-item.ensures.asks)
 
 pub parse_items-returns-then-eq-4-clause-asks : goal.parse_items-returns-then-eq-4-clause-asks
 parse_items-returns-then-eq-4-clause-asks g t c =
-    let (at, there, none, due_at, children, first, go) = c.items.invariant.from in
-    asks_item c.args.levels c.args.close c.args.self.now c.parse_part_after_token.new.self c.take-item-in-items.new.self at c.requires none due_at (c.in_ok-parse_part_after_token.ensures.led at there) (asks_begun c.args.levels c.args.close c.items.token c.args.self.now c.items.self c.parse_part_after_token.new.self at due_at there c.items.invariant.asks c.parse_part_after_token.ensures.asks) (asks_token c.parse_part_after_token.new.self c.take-item.new.self c.take-item-in-items.new.self c.in-Token.mark c.in-Token.ensures.takes c.take-item.ensures.asks (asks_once c.take-item.new.self c.take-item-in-items.new.self c.take-item-in-items.ensures.asks))
+    let (at, there, none, due_at, children, first, go) = still_in_items (λ s of cs ps. g.P.Builder.are_parts c.args.builder s of cs ps) c.if-eq-2.ty c.items.invariant.takes c.args.levels (omega arith) c.args.close c.requires c.args.self.now.place c.items.token c.items.self.place c.push_numbers.new.self.place c.items.parts c.push_numbers.new.parts c.items.invariant.from c.in_ok-push_numbers.ensures.kept in
+    asks_item c.args.levels c.args.close c.args.self.now c.parse_part_after_token.new.self c.take-item-in-items.new.self at c.requires none due_at (c.in_ok-parse_part_after_token.ensures.led at there) (asks_begun c.args.levels c.args.close c.items.token c.args.self.now c.push_numbers.new.self c.parse_part_after_token.new.self at due_at there (asks_in_items (λ s cs ps. g.P.Builder.are_parts c.args.builder s c.if-eq-2.ty cs ps) c.args.levels c.args.close c.items.token c.items.parts c.args.self.now c.items.self c.push_numbers.new.self c.items.invariant.from c.items.invariant.asks c.push_numbers.ensures.asks) c.parse_part_after_token.ensures.asks) (asks_token c.parse_part_after_token.new.self c.take-item.new.self c.take-item-in-items.new.self c.in-Token.mark c.in-Token.ensures.takes c.take-item.ensures.asks (asks_once c.take-item.new.self c.take-item-in-items.new.self c.take-item-in-items.ensures.asks))
 
 pub parse_items-returns-then-eq-3-clause-tree : goal.parse_items-returns-then-eq-3-clause-tree
 parse_items-returns-then-eq-3-clause-tree g t c =
-    let (at, there, none, due_at, children, first, go) = c.items.invariant.from in
+    let (at, there, none, due_at, children, first, go) = still_in_items (λ s of cs ps. g.P.Builder.are_parts c.args.builder s of cs ps) c.if-eq-2.ty c.items.invariant.takes c.args.levels (omega arith) c.args.close c.requires c.args.self.now.place c.items.token c.items.self.place c.push_numbers.new.self.place c.items.parts c.push_numbers.new.parts c.items.invariant.from c.in_ok-push_numbers.ensures.kept in
     let (d, i, r) = due_at (c.args.levels + 1) [] (omega arith) in
     let here : at.lexer.source ≡ c.args.self.now.place.lexer.source = source_reached r in
-    let part_due : TakesPart c.if-eq-2.ty children = elim c.if-eq-2.branch [
-      | parse_items-then-eq-2 w ↦ subst (λ z. TakesPart z children) (sym w.ty-is) tt
-      | parse_items-else-eq-2 w ↦ subst (λ z. TakesPart z children) (sym w.ty-is) tt
-    ] in
-    let (n, is, grown) = part_added (λ (s : List ℕ) cs ps. g.P.Builder.are_parts c.args.builder s c.if-eq-2.ty cs ps) c.items.parts c.parse_part_after_token.new.parts children (IsParsed c.args.levels at c.parse_part_after_token.new.self.place) here (c.in_ok-parse_part_after_token.ensures.kept at there c.if-eq-2.ty children part_due) first in
+    let part_due = c.items.invariant.takes children in
+    let (n, is, grown) = part_added (λ (s : List ℕ) cs ps. g.P.Builder.are_parts c.args.builder s c.if-eq-2.ty cs ps) c.push_numbers.new.parts c.parse_part_after_token.new.parts children (IsParsed c.args.levels at c.parse_part_after_token.new.self.place) here (c.in_ok-parse_part_after_token.ensures.kept at there c.if-eq-2.ty children part_due) first in
     let behind : c.parse_part_after_token.new.self.place.lexer.source ≡ c.args.self.now.place.lexer.source = source_parsed c.args.levels at c.parse_part_after_token.new.self.place n is ∙ here in
     let marked : c.take-item.new.self.place.lexer.source ≡ c.args.self.now.place.lexer.source = source_item c.parse_part_after_token.new.self.place c.take-item.new.self.place c.in-Token.mark c.in-Token.ensures.takes ∙ behind in
     whole_built (g.P.Builder.is_made c.args.builder) (λ (s : List ℕ) cs ps. g.P.Builder.are_parts c.args.builder s c.if-eq-2.ty cs ps) c.args.self.now.place c.take-item.new.self.place c.if-eq-2.ty c.span-start.result.start c.whole.result c.parse_part_after_token.new.parts (children ++ n ∷ []) (IsOfItems c.args.levels c.args.close c.args.self.now.place c.take-item.new.self.place) marked grown c.whole.ensures
@@ -289,14 +299,11 @@ parse_items-returns-then-eq-3-clause-tree g t c =
 
 pub parse_items-returns-then-eq-4-clause-tree : goal.parse_items-returns-then-eq-4-clause-tree
 parse_items-returns-then-eq-4-clause-tree g t c =
-    let (at, there, none, due_at, children, first, go) = c.items.invariant.from in
+    let (at, there, none, due_at, children, first, go) = still_in_items (λ s of cs ps. g.P.Builder.are_parts c.args.builder s of cs ps) c.if-eq-2.ty c.items.invariant.takes c.args.levels (omega arith) c.args.close c.requires c.args.self.now.place c.items.token c.items.self.place c.push_numbers.new.self.place c.items.parts c.push_numbers.new.parts c.items.invariant.from c.in_ok-push_numbers.ensures.kept in
     let (d, i, r) = due_at (c.args.levels + 1) [] (omega arith) in
     let here : at.lexer.source ≡ c.args.self.now.place.lexer.source = source_reached r in
-    let part_due : TakesPart c.if-eq-2.ty children = elim c.if-eq-2.branch [
-      | parse_items-then-eq-2 w ↦ subst (λ z. TakesPart z children) (sym w.ty-is) tt
-      | parse_items-else-eq-2 w ↦ subst (λ z. TakesPart z children) (sym w.ty-is) tt
-    ] in
-    let (n, is, grown) = part_added (λ (s : List ℕ) cs ps. g.P.Builder.are_parts c.args.builder s c.if-eq-2.ty cs ps) c.items.parts c.parse_part_after_token.new.parts children (IsParsed c.args.levels at c.parse_part_after_token.new.self.place) here (c.in_ok-parse_part_after_token.ensures.kept at there c.if-eq-2.ty children part_due) first in
+    let part_due = c.items.invariant.takes children in
+    let (n, is, grown) = part_added (λ (s : List ℕ) cs ps. g.P.Builder.are_parts c.args.builder s c.if-eq-2.ty cs ps) c.push_numbers.new.parts c.parse_part_after_token.new.parts children (IsParsed c.args.levels at c.parse_part_after_token.new.self.place) here (c.in_ok-parse_part_after_token.ensures.kept at there c.if-eq-2.ty children part_due) first in
     let behind : c.parse_part_after_token.new.self.place.lexer.source ≡ c.args.self.now.place.lexer.source = source_parsed c.args.levels at c.parse_part_after_token.new.self.place n is ∙ here in
     let marked : c.take-item.new.self.place.lexer.source ≡ c.args.self.now.place.lexer.source = source_item c.parse_part_after_token.new.self.place c.take-item.new.self.place c.in-Token.mark c.in-Token.ensures.takes ∙ behind in
     let close : c.take-item-in-items.new.self.place.lexer.source ≡ c.args.self.now.place.lexer.source = source_item c.take-item.new.self.place c.take-item-in-items.new.self.place c.in-Token-item.next c.in-Token-item.ensures.takes ∙ marked in
@@ -312,16 +319,14 @@ parse_items-returns-then-eq-4-clause-tree g t c =
 
 pub parse_items-items-preserved : goal.parse_items-items-preserved
 parse_items-items-preserved g t c =
-    let (at, there, none, due_at, children, first, go) = c.items.invariant.from in
+    let (at, there, none, due_at, children, first, go) = still_in_items (λ s of cs ps. g.P.Builder.are_parts c.args.builder s of cs ps) c.if-eq-2.ty c.items.invariant.takes c.args.levels (omega arith) c.args.close c.requires c.args.self.now.place c.items.token c.items.self.place c.push_numbers.new.self.place c.items.parts c.push_numbers.new.parts c.items.invariant.from c.in_ok-push_numbers.ensures.kept in
     let (d, i, r) = due_at (c.args.levels + 1) [] (omega arith) in
     let here : at.lexer.source ≡ c.args.self.now.place.lexer.source = source_reached r in
-    let part_due : TakesPart c.if-eq-2.ty children = elim c.if-eq-2.branch [
-      | parse_items-then-eq-2 w ↦ subst (λ z. TakesPart z children) (sym w.ty-is) tt
-      | parse_items-else-eq-2 w ↦ subst (λ z. TakesPart z children) (sym w.ty-is) tt
-    ] in
-    let (n, is, grown) = part_added (λ (s : List ℕ) cs ps. g.P.Builder.are_parts c.args.builder s c.if-eq-2.ty cs ps) c.items.parts c.parse_part_after_token.new.parts children (IsParsed c.args.levels at c.parse_part_after_token.new.self.place) here (c.in_ok-parse_part_after_token.ensures.kept at there c.if-eq-2.ty children part_due) first in
+    let part_due = c.items.invariant.takes children in
+    let (n, is, grown) = part_added (λ (s : List ℕ) cs ps. g.P.Builder.are_parts c.args.builder s c.if-eq-2.ty cs ps) c.push_numbers.new.parts c.parse_part_after_token.new.parts children (IsParsed c.args.levels at c.parse_part_after_token.new.self.place) here (c.in_ok-parse_part_after_token.ensures.kept at there c.if-eq-2.ty children part_due) first in
     record {
-      asks = asks_item c.args.levels c.args.close c.args.self.now c.parse_part_after_token.new.self c.take-item-in-items.new.self at c.requires none due_at (c.in_ok-parse_part_after_token.ensures.led at there) (asks_begun c.args.levels c.args.close c.items.token c.args.self.now c.items.self c.parse_part_after_token.new.self at due_at there c.items.invariant.asks c.parse_part_after_token.ensures.asks) (asks_token c.parse_part_after_token.new.self c.take-item.new.self c.take-item-in-items.new.self c.in-Token.mark c.in-Token.ensures.takes c.take-item.ensures.asks (asks_once c.take-item.new.self c.take-item-in-items.new.self c.take-item-in-items.ensures.asks));
+      takes = c.items.invariant.takes;
+      asks = asks_item c.args.levels c.args.close c.args.self.now c.parse_part_after_token.new.self c.take-item-in-items.new.self at c.requires none due_at (c.in_ok-parse_part_after_token.ensures.led at there) (asks_begun c.args.levels c.args.close c.items.token c.args.self.now c.push_numbers.new.self c.parse_part_after_token.new.self at due_at there (asks_in_items (λ s cs ps. g.P.Builder.are_parts c.args.builder s c.if-eq-2.ty cs ps) c.args.levels c.args.close c.items.token c.items.parts c.args.self.now c.items.self c.push_numbers.new.self c.items.invariant.from c.items.invariant.asks c.push_numbers.ensures.asks) c.parse_part_after_token.ensures.asks) (asks_token c.parse_part_after_token.new.self c.take-item.new.self c.take-item-in-items.new.self c.in-Token.mark c.in-Token.ensures.takes c.take-item.ensures.asks (asks_once c.take-item.new.self c.take-item-in-items.new.self c.take-item-in-items.ensures.asks));
       from = (
         c.take-item.new.self.place,
         c.in-Token-item.ensures.takes,
@@ -341,37 +346,31 @@ parse_items-items-preserved g t c =
 
 pub parse_items-returns-in_err-parse_part_after_token-clause-memory : goal.parse_items-returns-in_err-parse_part_after_token-clause-memory
 parse_items-returns-in_err-parse_part_after_token-clause-memory g t c = error_handed (OnlyOutOfMemory (g.P.Builder.takes_memory c.args.builder) c.args.self.now.place) c.from_residual-in_err-parse_part_after_token.result c.in_err-parse_part_after_token.field-0.0 c.from_residual-in_err-parse_part_after_token.ensures.1
-    (let (at, there, none, due_at, children, first, go) = c.items.invariant.from in
+    (let (at, there, none, due_at, children, first, go) = still_in_items (λ s of cs ps. g.P.Builder.are_parts c.args.builder s of cs ps) c.if-eq-2.ty c.items.invariant.takes c.args.levels (omega arith) c.args.close c.requires c.args.self.now.place c.items.token c.items.self.place c.push_numbers.new.self.place c.items.parts c.push_numbers.new.parts c.items.invariant.from c.in_ok-push_numbers.ensures.kept in
     let (d, i, r) = due_at (c.args.levels + 1) [] (omega arith) in
     wants_reached (g.P.Builder.takes_memory c.args.builder) c.in_err-parse_part_after_token.field-0.0 r (c.in_err-parse_part_after_token.ensures.memory at there c.args.self.now.place.lexer.source c.if-eq-2.ty children first))
 
 pub parse_items-whole-requires : goal.parse_items-whole-requires
 parse_items-whole-requires g t c =
-    let (at, there, none, due_at, children, first, go) = c.items.invariant.from in
+    let (at, there, none, due_at, children, first, go) = still_in_items (λ s of cs ps. g.P.Builder.are_parts c.args.builder s of cs ps) c.if-eq-2.ty c.items.invariant.takes c.args.levels (omega arith) c.args.close c.requires c.args.self.now.place c.items.token c.items.self.place c.push_numbers.new.self.place c.items.parts c.push_numbers.new.parts c.items.invariant.from c.in_ok-push_numbers.ensures.kept in
     let (d, i, r) = due_at (c.args.levels + 1) [] (omega arith) in
     let here : at.lexer.source ≡ c.args.self.now.place.lexer.source = source_reached r in
-    let part_due : TakesPart c.if-eq-2.ty children = elim c.if-eq-2.branch [
-      | parse_items-then-eq-2 w ↦ subst (λ z. TakesPart z children) (sym w.ty-is) tt
-      | parse_items-else-eq-2 w ↦ subst (λ z. TakesPart z children) (sym w.ty-is) tt
-    ] in
-    let (n, is, grown) = part_added (λ (s : List ℕ) cs ps. g.P.Builder.are_parts c.args.builder s c.if-eq-2.ty cs ps) c.items.parts c.parse_part_after_token.new.parts children (IsParsed c.args.levels at c.parse_part_after_token.new.self.place) here (c.in_ok-parse_part_after_token.ensures.kept at there c.if-eq-2.ty children part_due) first in
+    let part_due = c.items.invariant.takes children in
+    let (n, is, grown) = part_added (λ (s : List ℕ) cs ps. g.P.Builder.are_parts c.args.builder s c.if-eq-2.ty cs ps) c.push_numbers.new.parts c.parse_part_after_token.new.parts children (IsParsed c.args.levels at c.parse_part_after_token.new.self.place) here (c.in_ok-parse_part_after_token.ensures.kept at there c.if-eq-2.ty children part_due) first in
     (c.args.self.now.place.lexer.source, children ++ n ∷ [], grown)
 
 pub parse_items-whole-requires-then-eq-4 : goal.parse_items-whole-requires-then-eq-4
 parse_items-whole-requires-then-eq-4 g t c =
-    let (at, there, none, due_at, children, first, go) = c.items.invariant.from in
+    let (at, there, none, due_at, children, first, go) = still_in_items (λ s of cs ps. g.P.Builder.are_parts c.args.builder s of cs ps) c.if-eq-2.ty c.items.invariant.takes c.args.levels (omega arith) c.args.close c.requires c.args.self.now.place c.items.token c.items.self.place c.push_numbers.new.self.place c.items.parts c.push_numbers.new.parts c.items.invariant.from c.in_ok-push_numbers.ensures.kept in
     let (d, i, r) = due_at (c.args.levels + 1) [] (omega arith) in
     let here : at.lexer.source ≡ c.args.self.now.place.lexer.source = source_reached r in
-    let part_due : TakesPart c.if-eq-2.ty children = elim c.if-eq-2.branch [
-      | parse_items-then-eq-2 w ↦ subst (λ z. TakesPart z children) (sym w.ty-is) tt
-      | parse_items-else-eq-2 w ↦ subst (λ z. TakesPart z children) (sym w.ty-is) tt
-    ] in
-    let (n, is, grown) = part_added (λ (s : List ℕ) cs ps. g.P.Builder.are_parts c.args.builder s c.if-eq-2.ty cs ps) c.items.parts c.parse_part_after_token.new.parts children (IsParsed c.args.levels at c.parse_part_after_token.new.self.place) here (c.in_ok-parse_part_after_token.ensures.kept at there c.if-eq-2.ty children part_due) first in
+    let part_due = c.items.invariant.takes children in
+    let (n, is, grown) = part_added (λ (s : List ℕ) cs ps. g.P.Builder.are_parts c.args.builder s c.if-eq-2.ty cs ps) c.push_numbers.new.parts c.parse_part_after_token.new.parts children (IsParsed c.args.levels at c.parse_part_after_token.new.self.place) here (c.in_ok-parse_part_after_token.ensures.kept at there c.if-eq-2.ty children part_due) first in
     (c.args.self.now.place.lexer.source, children ++ n ∷ [], grown)
 
 pub parse_items-returns-in_default : goal.parse_items-returns-in_default
 parse_items-returns-in_default g t c =
-    let (at, there, none, due_at, children, first, go) = c.items.invariant.from in
+    let (at, there, none, due_at, children, first, go) = still_in_items (λ s of cs ps. g.P.Builder.are_parts c.args.builder s of cs ps) c.if-eq-2.ty c.items.invariant.takes c.args.levels (omega arith) c.args.close c.requires c.args.self.now.place c.items.token c.items.self.place c.push_numbers.new.self.place c.items.parts c.push_numbers.new.parts c.items.invariant.from c.in_ok-push_numbers.ensures.kept in
     record {
       led = λ n s e.
           let (d, i, r) = due_at n s e in
@@ -381,12 +380,12 @@ parse_items-returns-in_default g t c =
           (λ x says. fails_behind item.due_there (λ _. Unit {0}) x behind item.is_behind (λ k text apart. absurd (apart tt)) (item_fails (λ _. Unit {0}) c.take-item.result c.parse_part_after_token.new.self.place c.take-item.new.self.place x c.in_default.not-Token c.take-item.ensures.takes says));
       tree = never_made _ c.refuse_item.result c.refuse_item.ensures.never;
       memory = wants_refused (g.P.Builder.takes_memory c.args.builder) c.args.self.now.place c.refuse_item.result c.refuse_item.ensures.refused (λ x says. wants_fails (g.P.Builder.takes_memory c.args.builder) c.args.self.now.place c.parse_part_after_token.new.self.place c.take-item.new.self.place (λ _. Unit {0}) x (item_fails (λ _. Unit {0}) c.take-item.result c.parse_part_after_token.new.self.place c.take-item.new.self.place x c.in_default.not-Token c.take-item.ensures.takes says));
-      asks = asks_item c.args.levels c.args.close c.args.self.now c.parse_part_after_token.new.self c.take-item.new.self at c.requires none due_at (c.in_ok-parse_part_after_token.ensures.led at there) (asks_begun c.args.levels c.args.close c.items.token c.args.self.now c.items.self c.parse_part_after_token.new.self at due_at there c.items.invariant.asks c.parse_part_after_token.ensures.asks) (asks_once c.parse_part_after_token.new.self c.take-item.new.self c.take-item.ensures.asks);
+      asks = asks_item c.args.levels c.args.close c.args.self.now c.parse_part_after_token.new.self c.take-item.new.self at c.requires none due_at (c.in_ok-parse_part_after_token.ensures.led at there) (asks_begun c.args.levels c.args.close c.items.token c.args.self.now c.push_numbers.new.self c.parse_part_after_token.new.self at due_at there (asks_in_items (λ s cs ps. g.P.Builder.are_parts c.args.builder s c.if-eq-2.ty cs ps) c.args.levels c.args.close c.items.token c.items.parts c.args.self.now c.items.self c.push_numbers.new.self c.items.invariant.from c.items.invariant.asks c.push_numbers.ensures.asks) c.parse_part_after_token.ensures.asks) (asks_once c.parse_part_after_token.new.self c.take-item.new.self c.take-item.ensures.asks);
     }
 
 pub parse_items-returns-in_default-item : goal.parse_items-returns-in_default-item
 parse_items-returns-in_default-item g t c =
-    let (at, there, none, due_at, children, first, go) = c.items.invariant.from in
+    let (at, there, none, due_at, children, first, go) = still_in_items (λ s of cs ps. g.P.Builder.are_parts c.args.builder s of cs ps) c.if-eq-2.ty c.items.invariant.takes c.args.levels (omega arith) c.args.close c.requires c.args.self.now.place c.items.token c.items.self.place c.push_numbers.new.self.place c.items.parts c.push_numbers.new.parts c.items.invariant.from c.in_ok-push_numbers.ensures.kept in
     record {
       led = λ n s e.
           let (d, i, r) = due_at n s e in
@@ -398,7 +397,7 @@ parse_items-returns-in_default-item g t c =
           (λ x says. fails (inl tt) (λ _. Unit {0}) x next (shallow n due.next_item (form_of c.args.close ∷ s) _ (omega arith)) (any_token n due.next_item (form_of c.args.close ∷ s) _ _) (item_fails (λ _. Unit {0}) c.take-item-in-items.result c.take-item.new.self.place c.take-item-in-items.new.self.place x c.in_default-item.not-Token c.take-item-in-items.ensures.takes says));
       tree = never_made _ c.refuse_item-in_default-item.result c.refuse_item-in_default-item.ensures.never;
       memory = wants_refused (g.P.Builder.takes_memory c.args.builder) c.args.self.now.place c.refuse_item-in_default-item.result c.refuse_item-in_default-item.ensures.refused (λ x says. wants_fails (g.P.Builder.takes_memory c.args.builder) c.args.self.now.place c.take-item.new.self.place c.take-item-in-items.new.self.place (λ _. Unit {0}) x (item_fails (λ _. Unit {0}) c.take-item-in-items.result c.take-item.new.self.place c.take-item-in-items.new.self.place x c.in_default-item.not-Token c.take-item-in-items.ensures.takes says));
-      asks = asks_item c.args.levels c.args.close c.args.self.now c.parse_part_after_token.new.self c.take-item-in-items.new.self at c.requires none due_at (c.in_ok-parse_part_after_token.ensures.led at there) (asks_begun c.args.levels c.args.close c.items.token c.args.self.now c.items.self c.parse_part_after_token.new.self at due_at there c.items.invariant.asks c.parse_part_after_token.ensures.asks) (asks_token c.parse_part_after_token.new.self c.take-item.new.self c.take-item-in-items.new.self c.in-Token.mark c.in-Token.ensures.takes c.take-item.ensures.asks (asks_once c.take-item.new.self c.take-item-in-items.new.self c.take-item-in-items.ensures.asks));
+      asks = asks_item c.args.levels c.args.close c.args.self.now c.parse_part_after_token.new.self c.take-item-in-items.new.self at c.requires none due_at (c.in_ok-parse_part_after_token.ensures.led at there) (asks_begun c.args.levels c.args.close c.items.token c.args.self.now c.push_numbers.new.self c.parse_part_after_token.new.self at due_at there (asks_in_items (λ s cs ps. g.P.Builder.are_parts c.args.builder s c.if-eq-2.ty cs ps) c.args.levels c.args.close c.items.token c.items.parts c.args.self.now c.items.self c.push_numbers.new.self c.items.invariant.from c.items.invariant.asks c.push_numbers.ensures.asks) c.parse_part_after_token.ensures.asks) (asks_token c.parse_part_after_token.new.self c.take-item.new.self c.take-item-in-items.new.self c.in-Token.mark c.in-Token.ensures.takes c.take-item.ensures.asks (asks_once c.take-item.new.self c.take-item-in-items.new.self c.take-item-in-items.ensures.asks));
     }
 
 pub parse_part-returns-then-levels-eq0-clause-led : goal.parse_part-returns-then-levels-eq0-clause-led

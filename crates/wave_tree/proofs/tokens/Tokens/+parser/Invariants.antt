@@ -1,14 +1,13 @@
-use Rattle.std.proofs.Common.{◌≡◌, ℕ, ◌+◌, ◌-◌, ◌*◌, length, List, ◌∷◌, ◌++◌, Some, Ok}
-use Rattle.wave_grammar.specs.ParserPosition.{Place, TakesItem}
+use Rattle.std.proofs.Common.{◌≡◌, ℕ, ◌+◌, ◌-◌, ◌*◌, length, List, ◌++◌}
+use Rattle.wave_grammar.specs.ParserPosition.{Place}
 use Rattle.wave_grammar.specs.PrefixAutomaton.{Expectation, StackSymbol, first_item}
 use Rattle.wave_grammar.specs.PrefixAutomaton as due
-use Rattle.wave_tree.specs.Private.TokenRoles.{form_of}
 use Rattle.wave_grammar.specs.NodeTree.{NodeTree}
-use Rattle.wave_grammar.specs.NodeParts.{TakesKey}
+use Rattle.wave_grammar.specs.NodeParts.{TakesKey, TakesPart}
 use Rattle.wave_grammar.specs.declared.form.NodeType.TheVariants as kind
-use Rattle.wave_tree.specs.ParsedNodes.{IsParsed}
-use Rattle.wave_tree.specs.Private.ParsedNodes.{AreFurther, AreClosedItems, AreKeyedParts}
-use Rattle.wave_tree.proofs.ParserCorrectness.Steps.{Reached, IsItemDue, left_at}
+use Rattle.wave_tree.specs.Private.ParsedNodes.{AreKeyedParts}
+use Rattle.wave_tree.proofs.ParserCorrectness.NumbersInTurn.{IsInItems}
+use Rattle.wave_tree.proofs.ParserCorrectness.Steps.{Reached, left_at}
 use Rattle.wave_tree.specs.Private.ParserState.{AsksFor}
 use Rattle.wave_tree.proofs.tokens.Tokens.+parser.Given as goal
 
@@ -36,12 +35,8 @@ decreases-parse_optional_payload g l = 7 * l.levels + 2
 abbrev pub invariant-parse_items-items : goal.invariant-parse_items-items
 invariant-parse_items-items g l = record {
   asks : AsksFor l.fn.self l.self;
-  from : (at : Place) × TakesItem at (Some (Ok l.token)) l.self.place
-      × ((next : Place) × TakesItem at (Some (Ok l.close)) next → ⊥)
-      × ((n : ℕ) (s : List StackSymbol) → n ≡ l.levels + 1 + length s →
-      (d : Expectation) × IsItemDue d × Reached n first_item (form_of l.close ∷ s) l.fn.self.place d (form_of l.close ∷ s) at)
-      × (children : List NodeTree) × g.P.Builder.are_parts l.builder l.fn.self.place.lexer.source l.ty children l.parts
-      × ((item : NodeTree) (m r : Place) (more : List NodeTree) → IsParsed l.levels at m item → AreFurther l.levels l.close m more r → AreClosedItems l.levels l.close l.fn.self.place (children ++ item ∷ more) r);
+  takes : (any : List NodeTree) → TakesPart l.ty any;
+  from : IsInItems (λ s cs ps. g.P.Builder.are_parts l.builder s l.ty cs ps) l.levels l.close l.token l.fn.self.place l.self.place l.parts;
 }
 
 abbrev pub decreases-parse_items-items : goal.decreases-parse_items-items
