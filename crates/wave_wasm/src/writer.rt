@@ -668,11 +668,15 @@ fn short_escape(c: char) -> Option<&'static str>
     }
 }
 
-/// Whether the scalar is written by its number.
+/// Whether the scalar is written by its number. One of ASCII needs no table of categories.
+#[tactic(auto, using(crate::proofs::Escapes::PlainBytes::controls_escaped))]
 fn is_escaped(c: char) -> bool
     ensures { result ≡ is_escaped c }
 {
     use GeneralCategory::*;
+    if c.is_ascii() {
+        return c.is_ascii_control();
+    }
     match GeneralCategory::for_char(c) {
         Control
         | Format

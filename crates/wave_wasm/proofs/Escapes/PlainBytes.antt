@@ -1,6 +1,7 @@
 -- Bytes of ASCII that stand for themselves between quotes.
 use Rattle.std.proofs.Common.{ℕ, ◌≡◌, ◌<◌, zero, suc, length, All, List, [], ◌∷◌, ◌++◌, Bool, true, false, inl, inr, refl, sym, ap, subst, ◌∙◌, arith, get_or, nat_eq, bytes_eq}
 use Rattle.std.specs.Prelude.{not, ◌&&◌, ◌||◌}
+use Rattle.std.specs.Char.{is_ascii, is_ascii_control}
 use Rattle.std.specs.List.{flat_map}
 use Rattle.std.specs.Str.{chars}
 use Rattle.std.proofs.lemmas.Bool.{cases_lt}
@@ -11,7 +12,7 @@ use Rattle.std.proofs.lemmas.List.{get_or_default}
 use Rattle.std.proofs.lemmas.Str.Ascii.{IsAscii-from_all}
 use Rattle.ucd_category.proofs.Computing.{ucd_category}
 use Rattle.wave_wasm.specs.declared.plain.TheConstants.{PLAINS}
-use Rattle.wave_wasm.specs.Text.{escaped}
+use Rattle.wave_wasm.specs.Text.{escaped, is_escaped}
 use Rattle.wave_wasm.specs.Private.Text.{is_plain_byte}
 
 -- p holds of each number below n
@@ -83,3 +84,11 @@ plain_stands bs h = ap (λ (z : List ℕ). flat_map escaped z) (chars-IsAscii bs
 -- the table of bytes
 pub plain_table : (b : ℕ) → b < 256 → nat_eq (get_or PLAINS b 0) 46 ≡ is_plain_byte b
 plain_table b l = same_answer _ _ (each_below_at 256 b (λ k. same (nat_eq (get_or PLAINS k 0) 46) (is_plain_byte k)) refl l)
+
+controls_computed : each_below 128 (λ c. same (is_ascii_control c) (is_escaped c)) ≡ true
+unfolding ucd_category
+controls_computed = refl
+
+-- of ASCII the controls are written by their numbers
+pub controls_escaped : (c : ℕ) → is_ascii c ≡ true → is_ascii_control c ≡ is_escaped c
+controls_escaped c e = same_answer _ _ (each_below_at 128 c (λ x. same (is_ascii_control x) (is_escaped x)) controls_computed (grind (arith, nat_tests)))
