@@ -77,28 +77,7 @@ pub fn is_flat(kind: WasmTypeKind) -> bool
 {
     match kind {
         WasmTypeKind::Option | WasmTypeKind::Result => false,
-        WasmTypeKind::Bool
-        | WasmTypeKind::S8
-        | WasmTypeKind::S16
-        | WasmTypeKind::S32
-        | WasmTypeKind::S64
-        | WasmTypeKind::U8
-        | WasmTypeKind::U16
-        | WasmTypeKind::U32
-        | WasmTypeKind::U64
-        | WasmTypeKind::F32
-        | WasmTypeKind::F64
-        | WasmTypeKind::Char
-        | WasmTypeKind::String
-        | WasmTypeKind::List
-        | WasmTypeKind::FixedLengthList
-        | WasmTypeKind::Record
-        | WasmTypeKind::Tuple
-        | WasmTypeKind::Variant
-        | WasmTypeKind::Enum
-        | WasmTypeKind::Flags
-        | WasmTypeKind::Map
-        | WasmTypeKind::Unsupported => true,
+        _ => true,
     }
 }
 

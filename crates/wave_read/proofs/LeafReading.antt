@@ -1,7 +1,6 @@
 pub mod LabelKeys
 pub mod BetweenQuotes
 pub mod RefusedForms
-pub mod MatchedKinds
 pub mod SimpleTypes
 pub mod ReadAtOnce
 pub mod Strings

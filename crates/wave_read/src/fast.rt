@@ -34,19 +34,7 @@ impl<'src> Leaf<'src> {
             WasmTypeKind::Bool => if_made(V::make_bool(alloc, self.boolean()?)),
             WasmTypeKind::Char => if_made(V::make_char(alloc, self.scalar()?)),
             WasmTypeKind::String => self.read_run(alloc, ty),
-            WasmTypeKind::F32
-            | WasmTypeKind::F64
-            | WasmTypeKind::List
-            | WasmTypeKind::FixedLengthList
-            | WasmTypeKind::Record
-            | WasmTypeKind::Tuple
-            | WasmTypeKind::Variant
-            | WasmTypeKind::Enum
-            | WasmTypeKind::Option
-            | WasmTypeKind::Result
-            | WasmTypeKind::Flags
-            | WasmTypeKind::Map
-            | WasmTypeKind::Unsupported => None,
+            _ => None,
         }
     }
 

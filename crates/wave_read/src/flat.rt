@@ -34,28 +34,7 @@ pub(crate) fn flat_payload<'ty, T: WasmType>(ty: &'ty T, node: NodeType) -> Opti
                 None => None,
             },
         },
-        WasmTypeKind::Bool
-        | WasmTypeKind::S8
-        | WasmTypeKind::S16
-        | WasmTypeKind::S32
-        | WasmTypeKind::S64
-        | WasmTypeKind::U8
-        | WasmTypeKind::U16
-        | WasmTypeKind::U32
-        | WasmTypeKind::U64
-        | WasmTypeKind::F32
-        | WasmTypeKind::F64
-        | WasmTypeKind::Char
-        | WasmTypeKind::String
-        | WasmTypeKind::List
-        | WasmTypeKind::FixedLengthList
-        | WasmTypeKind::Record
-        | WasmTypeKind::Tuple
-        | WasmTypeKind::Variant
-        | WasmTypeKind::Enum
-        | WasmTypeKind::Flags
-        | WasmTypeKind::Map
-        | WasmTypeKind::Unsupported => None,
+        _ => None,
     }
 }
 
@@ -106,27 +85,6 @@ pub(crate) fn wrap<V: WasmValue>(
                 V::make_result_unchecked(alloc, ty, &mut payload),
             )
         }
-        WasmTypeKind::Bool
-        | WasmTypeKind::S8
-        | WasmTypeKind::S16
-        | WasmTypeKind::S32
-        | WasmTypeKind::S64
-        | WasmTypeKind::U8
-        | WasmTypeKind::U16
-        | WasmTypeKind::U32
-        | WasmTypeKind::U64
-        | WasmTypeKind::F32
-        | WasmTypeKind::F64
-        | WasmTypeKind::Char
-        | WasmTypeKind::String
-        | WasmTypeKind::List
-        | WasmTypeKind::FixedLengthList
-        | WasmTypeKind::Record
-        | WasmTypeKind::Tuple
-        | WasmTypeKind::Variant
-        | WasmTypeKind::Enum
-        | WasmTypeKind::Flags
-        | WasmTypeKind::Map
-        | WasmTypeKind::Unsupported => Err(ReadError::new(ParserErrorKind::InvalidType, span)),
+        _ => Err(ReadError::new(ParserErrorKind::InvalidType, span)),
     }
 }

@@ -59,27 +59,7 @@ impl<'src> Leaf<'src> {
             ),
             WasmTypeKind::Char => self.or_error_here(alloc, V::make_char(alloc, self.as_char()?)),
             WasmTypeKind::String => self.read_string_key(alloc),
-            WasmTypeKind::S8
-            | WasmTypeKind::S16
-            | WasmTypeKind::S32
-            | WasmTypeKind::S64
-            | WasmTypeKind::U8
-            | WasmTypeKind::U16
-            | WasmTypeKind::U32
-            | WasmTypeKind::U64
-            | WasmTypeKind::F32
-            | WasmTypeKind::F64
-            | WasmTypeKind::List
-            | WasmTypeKind::FixedLengthList
-            | WasmTypeKind::Record
-            | WasmTypeKind::Tuple
-            | WasmTypeKind::Variant
-            | WasmTypeKind::Enum
-            | WasmTypeKind::Option
-            | WasmTypeKind::Result
-            | WasmTypeKind::Flags
-            | WasmTypeKind::Map
-            | WasmTypeKind::Unsupported => self.read_whole(alloc, kind),
+            _ => self.read_whole(alloc, kind),
         }
     }
 

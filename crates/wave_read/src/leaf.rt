@@ -47,22 +47,7 @@ impl<'src> Leaf<'src> {
             WasmTypeKind::U16 => self.or_error_here(alloc, V::make_u16(alloc, self.as_number()?)),
             WasmTypeKind::U32 => self.or_error_here(alloc, V::make_u32(alloc, self.as_number()?)),
             WasmTypeKind::U64 => self.or_error_here(alloc, V::make_u64(alloc, self.as_number()?)),
-            WasmTypeKind::Bool
-            | WasmTypeKind::F32
-            | WasmTypeKind::F64
-            | WasmTypeKind::Char
-            | WasmTypeKind::String
-            | WasmTypeKind::List
-            | WasmTypeKind::FixedLengthList
-            | WasmTypeKind::Record
-            | WasmTypeKind::Tuple
-            | WasmTypeKind::Variant
-            | WasmTypeKind::Enum
-            | WasmTypeKind::Option
-            | WasmTypeKind::Result
-            | WasmTypeKind::Flags
-            | WasmTypeKind::Map
-            | WasmTypeKind::Unsupported => Err(self.unsupported(alloc, kind)),
+            _ => Err(self.unsupported(alloc, kind)),
         }
     }
 

@@ -68,20 +68,7 @@ fn read_directly<V: WasmValue>(leaf: &Leaf<'_>, alloc: Global, ty: &V::Type) -> 
             NodeType::ResultErr => read_alone(leaf, alloc, ty, false),
             _ => Err(leaf.error(ParserErrorKind::InvalidType)),
         },
-        WasmTypeKind::Bool
-        | WasmTypeKind::S8
-        | WasmTypeKind::S16
-        | WasmTypeKind::S32
-        | WasmTypeKind::S64
-        | WasmTypeKind::U8
-        | WasmTypeKind::U16
-        | WasmTypeKind::U32
-        | WasmTypeKind::U64
-        | WasmTypeKind::F32
-        | WasmTypeKind::F64
-        | WasmTypeKind::Char
-        | WasmTypeKind::String
-        | WasmTypeKind::Unsupported => leaf.read_simple(alloc, ty),
+        _ => leaf.read_simple(alloc, ty),
     }
 }
 
@@ -142,19 +129,6 @@ pub(crate) fn refuse_flags<V: WasmValue>(
         | WasmTypeKind::Enum
         | WasmTypeKind::Option
         | WasmTypeKind::Result => Err(ReadError::new(ParserErrorKind::InvalidType, span)),
-        WasmTypeKind::Bool
-        | WasmTypeKind::S8
-        | WasmTypeKind::S16
-        | WasmTypeKind::S32
-        | WasmTypeKind::S64
-        | WasmTypeKind::U8
-        | WasmTypeKind::U16
-        | WasmTypeKind::U32
-        | WasmTypeKind::U64
-        | WasmTypeKind::F32
-        | WasmTypeKind::F64
-        | WasmTypeKind::Char
-        | WasmTypeKind::String
-        | WasmTypeKind::Unsupported => refuse_form(alloc, ty, span),
+        _ => refuse_form(alloc, ty, span),
     }
 }

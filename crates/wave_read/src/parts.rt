@@ -81,20 +81,7 @@ impl<'ty, V: WasmValue> Partial<'ty, V::Type, V> {
             WasmTypeKind::Enum => Partial::wrong_form(),
             WasmTypeKind::Option => Partial::of_option(ty, of),
             WasmTypeKind::Result => Partial::of_result(ty, of),
-            WasmTypeKind::Bool
-            | WasmTypeKind::S8
-            | WasmTypeKind::S16
-            | WasmTypeKind::S32
-            | WasmTypeKind::S64
-            | WasmTypeKind::U8
-            | WasmTypeKind::U16
-            | WasmTypeKind::U32
-            | WasmTypeKind::U64
-            | WasmTypeKind::F32
-            | WasmTypeKind::F64
-            | WasmTypeKind::Char
-            | WasmTypeKind::String
-            | WasmTypeKind::Unsupported => Partial::Simple(ty),
+            _ => Partial::Simple(ty),
         }
     }
 
@@ -387,27 +374,6 @@ fn read_empty<V: WasmValue>(alloc: Global, ty: &V::Type, span: Span) -> Result<V
     match ty.kind() {
         WasmTypeKind::Flags => read_no_flags(alloc, ty, span),
         WasmTypeKind::Map => read_no_entries(alloc, ty, span),
-        WasmTypeKind::Bool
-        | WasmTypeKind::S8
-        | WasmTypeKind::S16
-        | WasmTypeKind::S32
-        | WasmTypeKind::S64
-        | WasmTypeKind::U8
-        | WasmTypeKind::U16
-        | WasmTypeKind::U32
-        | WasmTypeKind::U64
-        | WasmTypeKind::F32
-        | WasmTypeKind::F64
-        | WasmTypeKind::Char
-        | WasmTypeKind::String
-        | WasmTypeKind::List
-        | WasmTypeKind::FixedLengthList
-        | WasmTypeKind::Record
-        | WasmTypeKind::Tuple
-        | WasmTypeKind::Variant
-        | WasmTypeKind::Enum
-        | WasmTypeKind::Option
-        | WasmTypeKind::Result
-        | WasmTypeKind::Unsupported => Err(ReadError::new(ParserErrorKind::InvalidType, span)),
+        _ => Err(ReadError::new(ParserErrorKind::InvalidType, span)),
     }
 }

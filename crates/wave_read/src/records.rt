@@ -295,29 +295,7 @@ pub fn left_out<V: WasmValue>(
             Ok(val) => return Ok(val),
             Err(cause) => cause,
         },
-        WasmTypeKind::Bool
-        | WasmTypeKind::S8
-        | WasmTypeKind::S16
-        | WasmTypeKind::S32
-        | WasmTypeKind::S64
-        | WasmTypeKind::U8
-        | WasmTypeKind::U16
-        | WasmTypeKind::U32
-        | WasmTypeKind::U64
-        | WasmTypeKind::F32
-        | WasmTypeKind::F64
-        | WasmTypeKind::Char
-        | WasmTypeKind::String
-        | WasmTypeKind::List
-        | WasmTypeKind::FixedLengthList
-        | WasmTypeKind::Record
-        | WasmTypeKind::Tuple
-        | WasmTypeKind::Variant
-        | WasmTypeKind::Enum
-        | WasmTypeKind::Result
-        | WasmTypeKind::Flags
-        | WasmTypeKind::Map
-        | WasmTypeKind::Unsupported => missing(alloc, name),
+        _ => missing(alloc, name),
     };
     Err(ReadError::with_cause(alloc, span.start..span.end, refusal))
 }

@@ -25,27 +25,7 @@ impl<'src> Leaf<'src> {
             WasmTypeKind::Bool => self.read_bool(alloc),
             WasmTypeKind::Char => self.read_char(alloc),
             WasmTypeKind::String => self.read_string(alloc),
-            WasmTypeKind::S8
-            | WasmTypeKind::S16
-            | WasmTypeKind::S32
-            | WasmTypeKind::S64
-            | WasmTypeKind::U8
-            | WasmTypeKind::U16
-            | WasmTypeKind::U32
-            | WasmTypeKind::U64
-            | WasmTypeKind::F32
-            | WasmTypeKind::F64
-            | WasmTypeKind::List
-            | WasmTypeKind::FixedLengthList
-            | WasmTypeKind::Record
-            | WasmTypeKind::Tuple
-            | WasmTypeKind::Variant
-            | WasmTypeKind::Enum
-            | WasmTypeKind::Option
-            | WasmTypeKind::Result
-            | WasmTypeKind::Flags
-            | WasmTypeKind::Map
-            | WasmTypeKind::Unsupported => self.read_whole(alloc, kind),
+            _ => self.read_whole(alloc, kind),
         }
     }
 }
@@ -67,26 +47,6 @@ pub(crate) fn refuse_form<V: WasmValue>(
         WasmTypeKind::F32 | WasmTypeKind::F64 | WasmTypeKind::Unsupported => {
             Err(ReadError::unsupported(alloc, span, kind))
         }
-        WasmTypeKind::Bool
-        | WasmTypeKind::S8
-        | WasmTypeKind::S16
-        | WasmTypeKind::S32
-        | WasmTypeKind::S64
-        | WasmTypeKind::U8
-        | WasmTypeKind::U16
-        | WasmTypeKind::U32
-        | WasmTypeKind::U64
-        | WasmTypeKind::Char
-        | WasmTypeKind::String
-        | WasmTypeKind::List
-        | WasmTypeKind::FixedLengthList
-        | WasmTypeKind::Record
-        | WasmTypeKind::Tuple
-        | WasmTypeKind::Variant
-        | WasmTypeKind::Enum
-        | WasmTypeKind::Option
-        | WasmTypeKind::Result
-        | WasmTypeKind::Flags
-        | WasmTypeKind::Map => Err(ReadError::new(ParserErrorKind::InvalidType, span)),
+        _ => Err(ReadError::new(ParserErrorKind::InvalidType, span)),
     }
 }

@@ -83,26 +83,7 @@ impl Node {
             WasmTypeKind::F32 | WasmTypeKind::F64 | WasmTypeKind::Unsupported => {
                 Err(leaf.unsupported(alloc, kind))
             }
-            WasmTypeKind::S8
-            | WasmTypeKind::S16
-            | WasmTypeKind::S32
-            | WasmTypeKind::S64
-            | WasmTypeKind::U8
-            | WasmTypeKind::U16
-            | WasmTypeKind::U32
-            | WasmTypeKind::U64
-            | WasmTypeKind::Char
-            | WasmTypeKind::String
-            | WasmTypeKind::List
-            | WasmTypeKind::FixedLengthList
-            | WasmTypeKind::Record
-            | WasmTypeKind::Tuple
-            | WasmTypeKind::Variant
-            | WasmTypeKind::Enum
-            | WasmTypeKind::Option
-            | WasmTypeKind::Result
-            | WasmTypeKind::Flags
-            | WasmTypeKind::Map => Err(self.read_error(ParserErrorKind::InvalidType)),
+            _ => Err(self.read_error(ParserErrorKind::InvalidType)),
         }
     }
 

@@ -340,21 +340,7 @@ impl<'tokens, 'text> Reader<'tokens, 'text> {
             WasmTypeKind::Variant => self.variant(alloc, levels),
             WasmTypeKind::Enum => self.enumeration(alloc),
             WasmTypeKind::Flags => self.flags(alloc),
-            WasmTypeKind::Bool
-            | WasmTypeKind::S8
-            | WasmTypeKind::S16
-            | WasmTypeKind::S32
-            | WasmTypeKind::S64
-            | WasmTypeKind::U8
-            | WasmTypeKind::U16
-            | WasmTypeKind::U32
-            | WasmTypeKind::U64
-            | WasmTypeKind::F32
-            | WasmTypeKind::F64
-            | WasmTypeKind::Char
-            | WasmTypeKind::String
-            | WasmTypeKind::FixedLengthList
-            | WasmTypeKind::Unsupported => self.simple(kind),
+            _ => self.simple(kind),
         }
     }
 

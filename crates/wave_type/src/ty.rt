@@ -177,17 +177,7 @@ impl Type {
             WasmTypeKind::F64 => Some(Type::F64),
             WasmTypeKind::Char => Some(Type::CHAR),
             WasmTypeKind::String => Some(Type::STRING),
-            WasmTypeKind::List
-            | WasmTypeKind::FixedLengthList
-            | WasmTypeKind::Record
-            | WasmTypeKind::Tuple
-            | WasmTypeKind::Variant
-            | WasmTypeKind::Enum
-            | WasmTypeKind::Option
-            | WasmTypeKind::Result
-            | WasmTypeKind::Flags
-            | WasmTypeKind::Map
-            | WasmTypeKind::Unsupported => None,
+            _ => None,
         }
     }
 

@@ -169,17 +169,7 @@ impl<W: TextWrite> Writer<W> {
             WasmTypeKind::F32 | WasmTypeKind::F64 | WasmTypeKind::Unsupported => {
                 Err(WriterError::UnsupportedType)
             }
-            WasmTypeKind::Bool
-            | WasmTypeKind::S8
-            | WasmTypeKind::S16
-            | WasmTypeKind::S32
-            | WasmTypeKind::S64
-            | WasmTypeKind::U8
-            | WasmTypeKind::U16
-            | WasmTypeKind::U32
-            | WasmTypeKind::U64
-            | WasmTypeKind::Char
-            | WasmTypeKind::String => self.write_leaf(val),
+            _ => self.write_leaf(val),
         }
     }
 
@@ -391,19 +381,7 @@ impl<W: TextWrite> Writer<W> {
             WasmTypeKind::U64 => self.write_number(val.unwrap_u64()),
             WasmTypeKind::Char => self.write_char(val.unwrap_char()),
             WasmTypeKind::String => self.write_string(val.unwrap_string()),
-            WasmTypeKind::F32
-            | WasmTypeKind::F64
-            | WasmTypeKind::List
-            | WasmTypeKind::FixedLengthList
-            | WasmTypeKind::Record
-            | WasmTypeKind::Tuple
-            | WasmTypeKind::Variant
-            | WasmTypeKind::Enum
-            | WasmTypeKind::Option
-            | WasmTypeKind::Result
-            | WasmTypeKind::Flags
-            | WasmTypeKind::Map
-            | WasmTypeKind::Unsupported => unreachable!(),
+            _ => unreachable!(),
         }
     }
 

@@ -1,5 +1,5 @@
 -- Leaves and flags at types that take neither.
-use Rattle.std.proofs.Common.{ℕ, ◌≡◌, ◌≢◌, ◌⊎◌, inl, inr, List, Bool, true, false, Err, refl, ◌∙◌, sym, subst}
+use Rattle.std.proofs.Common.{ℕ, ◌≡◌, ◌≢◌, ◌⊎◌, inl, inr, List, Err, ◌∙◌, sym, subst}
 use Rattle.wave_grammar.specs.FaultOrder.{Order}
 use Rattle.wave_wasm.specs.Types as type
 use Rattle.wave_wasm.specs.Types.{TypeTree, kind_of}
@@ -16,7 +16,6 @@ use Rattle.wave_grammar.specs.declared.form.NodeType.TheVariants as kind
 use Rattle.wave_read.specs.Leaves.{IsSimpleOrUnreadable}
 use Rattle.wave_grammar.specs.NodeParts.{IsOneToken}
 use Rattle.wave_read.specs.Reading.{IsReadAs}
-use Rattle.wave_wasm.proofs.TypesOfValues.MatchedKinds.{Passes, apart}
 use Rattle.wave_read.specs.Flat.{IsFlatAt}
 use Rattle.wave_read.proofs.PayloadReading.CaseNodes.{variant_other_form}
 use Rattle.wave_read.proofs.LeafReading.Enums.{enum_other_form}
@@ -41,7 +40,7 @@ pub flags_no_row : IsNoRow kind.Flags
 flags_no_row = (λ e. cc, λ e. cc, λ e. cc, λ e. cc)
 
 -- a type of no kind with parts or names
-others_simple : (T : TypeTree) (k : WasmTypeKind) → k ≡ kind_of T → k ≢ kinds.List → k ≢ kinds.FixedLengthList → k ≢ kinds.Record → k ≢ kinds.Tuple → k ≢ kinds.Variant → k ≢ kinds.Enum → k ≢ kinds.Option → k ≢ kinds.Result → k ≢ kinds.Flags → k ≢ kinds.Map → IsSimpleOrUnreadable T
+pub others_simple : (T : TypeTree) (k : WasmTypeKind) → k ≡ kind_of T → k ≢ kinds.List → k ≢ kinds.FixedLengthList → k ≢ kinds.Record → k ≢ kinds.Tuple → k ≢ kinds.Variant → k ≢ kinds.Enum → k ≢ kinds.Option → k ≢ kinds.Result → k ≢ kinds.Flags → k ≢ kinds.Map → IsSimpleOrUnreadable T
 others_simple (type.simple S) k is list fixed record_kind tuple variant enum option result flags map = tt
 others_simple (type.unreadable u) k is list fixed record_kind tuple variant enum option result flags map = tt
 others_simple (type.list E) k is list fixed record_kind tuple variant enum option result flags map = absurd (list is)
@@ -54,27 +53,6 @@ others_simple (type.option P) k is list fixed record_kind tuple variant enum opt
 others_simple (type.result A B) k is list fixed record_kind tuple variant enum option result flags map = absurd (result is)
 others_simple (type.flags names) k is list fixed record_kind tuple variant enum option result flags map = absurd (flags is)
 others_simple (type.map K W) k is list fixed record_kind tuple variant enum option result flags map = absurd (map is)
-
--- of no names or parts
-abbrev pub is_simple : WasmTypeKind → Bool
-is_simple kinds.List = false
-is_simple kinds.FixedLengthList = false
-is_simple kinds.Record = false
-is_simple kinds.Tuple = false
-is_simple kinds.Variant = false
-is_simple kinds.Enum = false
-is_simple kinds.Option = false
-is_simple kinds.Result = false
-is_simple kinds.Flags = false
-is_simple kinds.Map = false
-is_simple _ = true
-
--- so at one of these the type is such a one
-pub named_simple : (T : TypeTree) (k : WasmTypeKind) → k ≡ kind_of T → Passes is_simple k → IsSimpleOrUnreadable T
-named_simple T k is one = others_simple T k is (no kinds.List refl) (no kinds.FixedLengthList refl) (no kinds.Record refl) (no kinds.Tuple refl) (no kinds.Variant refl) (no kinds.Enum refl) (no kinds.Option refl) (no kinds.Result refl) (no kinds.Flags refl) (no kinds.Map refl)
-  where
-    no : (j : WasmTypeKind) → is_simple j ≡ false → k ≢ j
-    no = apart is_simple refl k one
 
 module _ {V : Type 0} (tree : V → Value) (of : V → TypeTree → Type 0) (Full : TypeTree → Type 0) (o w : Order) (T : TypeTree) (k : WasmTypeKind) (is : k ≡ kind_of T) (source : List ℕ) (n : NodeTree) (e : Diagnostic) (refused : RefusedAs why.InvalidType n e) where
   -- such a node at a list, a tuple, a record or a map

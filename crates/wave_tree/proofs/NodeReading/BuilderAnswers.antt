@@ -1,5 +1,5 @@
 -- What the builder of a type makes of a node, and what a keyword is at a type.
-use Rattle.std.proofs.Common.{◌≡◌, ◌≢◌, ◌⊎◌, inl, inr, ℕ, List, Bool, true, false, Option, Some, None, Bor, Result, Ok, Err, refl, sym, subst, ◌∙◌}
+use Rattle.std.proofs.Common.{◌≡◌, ◌≢◌, ◌⊎◌, inl, inr, ℕ, List, Option, Some, None, Bor, Result, Ok, Err, refl, sym, subst, ◌∙◌}
 use Rattle.std.specs.declared.ops.Range.{Range}
 use Rattle.wave_wasm.specs.Types.{TypeTree, kind_of}
 use Rattle.wave_wasm.specs.Borrowed.{shown}
@@ -20,7 +20,6 @@ use Rattle.wave_read.specs.Flat.{IsAround, IsAroundWhereDue}
 use Rattle.wave_grammar.specs.NodeAccessors.{RefusedAs}
 use Rattle.wave_grammar.specs.PartReading.{IsCaused}
 use Rattle.wave_read.specs.Reading.{IsReadAs, IsReadWhereDue}
-use Rattle.wave_wasm.proofs.TypesOfValues.MatchedKinds.{Passes, apart}
 use Rattle.wave_tree.specs.KeywordNodes.{RefusesKeyword}
 
 module _ {V S : Type 0} (tree : V → Value) (of : V → TypeTree → Type 0) (Full : TypeTree → Type 0) (o w : Order) (type_tree : S → TypeTree) where
@@ -80,18 +79,3 @@ other_keyword _ n e a b c h = h
 -- at another type
 pub keyword_other : (T : TypeTree) (k : WasmTypeKind) (n : NodeTree) (e : Diagnostic) → k ≡ kind_of T → k ≢ kinds.F32 → k ≢ kinds.F64 → k ≢ kinds.Unsupported → RefusedAs InvalidType n e → RefusesKeyword (kind_of T) n e
 keyword_other T k n e same a b c h = subst (λ (j : WasmTypeKind). RefusesKeyword j n e) same (other_keyword k n e a b c h)
-
--- no bools, and of values that can be read
-abbrev pub is_other_kind : WasmTypeKind → Bool
-is_other_kind kinds.Bool = false
-is_other_kind kinds.F32 = false
-is_other_kind kinds.F64 = false
-is_other_kind kinds.Unsupported = false
-is_other_kind _ = true
-
--- so one of these is none of the four others
-pub other_kind : (k : WasmTypeKind) → Passes is_other_kind k → (k ≢ kinds.Bool) × (k ≢ kinds.F32) × (k ≢ kinds.F64) × (k ≢ kinds.Unsupported)
-other_kind k one = (no kinds.Bool refl, no kinds.F32 refl, no kinds.F64 refl, no kinds.Unsupported refl)
-  where
-    no : (j : WasmTypeKind) → is_other_kind j ≡ false → k ≢ j
-    no = apart is_other_kind refl k one

@@ -29,20 +29,7 @@ impl Type {
             WasmTypeKind::Result => convert_result(alloc, ty),
             WasmTypeKind::Flags => Type::flags(alloc, &ty.flags_names(alloc)?),
             WasmTypeKind::Map => convert_map(alloc, ty),
-            WasmTypeKind::Bool
-            | WasmTypeKind::S8
-            | WasmTypeKind::S16
-            | WasmTypeKind::S32
-            | WasmTypeKind::S64
-            | WasmTypeKind::U8
-            | WasmTypeKind::U16
-            | WasmTypeKind::U32
-            | WasmTypeKind::U64
-            | WasmTypeKind::F32
-            | WasmTypeKind::F64
-            | WasmTypeKind::Char
-            | WasmTypeKind::String
-            | WasmTypeKind::Unsupported => Ok(Type::simple(kind)),
+            _ => Ok(Type::simple(kind)),
         }
     }
 }

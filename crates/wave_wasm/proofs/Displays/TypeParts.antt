@@ -1,6 +1,5 @@
 -- The text and the depth of a type, by the lists of its parts.
-use Rattle.std.proofs.Common.{ℕ, suc, ◌≡◌, List, ◌∷◌, ◌++◌, Bool, true, false, refl, sym, ap, ◌∙◌, map, max, codes, Option}
-use Rattle.wave_wasm.specs.declared.wasm.WasmTypeKind.{WasmTypeKind}
+use Rattle.std.proofs.Common.{ℕ, suc, ◌≡◌, List, ◌∷◌, ◌++◌, refl, sym, ap, ◌∙◌, map, max, codes, Option}
 use Rattle.wave_wasm.specs.declared.wasm.WasmTypeKind.TheVariants as kinds
 use Rattle.wave_wasm.specs.Types as type
 use Rattle.wave_wasm.specs.Types.{TypeTree, Simple, Types, Fields, Cases, MaybeType, simple_kind, kind_of, maybe_type, type_option, type_list, field_list, case_list, list_part, option_part, map_parts, result_parts, record_parts, tuple_parts, variant_parts, enum_names, flags_names}
@@ -8,40 +7,7 @@ use Rattle.wave_wasm.specs.Types.{depth, depth_of_maybe, depth_of_types, depth_o
 use Rattle.wave_wasm.specs.Commas.{behind_name, joined}
 use Rattle.wave_wasm.specs.TypeText.{type_text, type_texts, field_texts, case_texts, payload_text, angled, braced}
 use Rattle.wave_wasm.proofs.CanonicalText.Sequences.{depths}
-
--- ---- a simple type is of a kind of simple types
-
--- the kinds of simple types
-abbrev is_simple_kind : WasmTypeKind → Bool
-is_simple_kind kinds.Bool = true
-is_simple_kind kinds.S8 = true
-is_simple_kind kinds.S16 = true
-is_simple_kind kinds.S32 = true
-is_simple_kind kinds.S64 = true
-is_simple_kind kinds.U8 = true
-is_simple_kind kinds.U16 = true
-is_simple_kind kinds.U32 = true
-is_simple_kind kinds.U64 = true
-is_simple_kind kinds.Char = true
-is_simple_kind kinds.String = true
-is_simple_kind _ = false
-
-simple_has_kind : (S : Simple) → is_simple_kind (simple_kind S) ≡ true
-simple_has_kind type.bool = refl
-simple_has_kind (type.whole type.s8) = refl
-simple_has_kind (type.whole type.s16) = refl
-simple_has_kind (type.whole type.s32) = refl
-simple_has_kind (type.whole type.s64) = refl
-simple_has_kind (type.whole type.u8) = refl
-simple_has_kind (type.whole type.u16) = refl
-simple_has_kind (type.whole type.u32) = refl
-simple_has_kind (type.whole type.u64) = refl
-simple_has_kind type.char = refl
-simple_has_kind type.string = refl
-
--- a simple type is of no other kind
-not_simple : (S : Simple) (k : WasmTypeKind) → is_simple_kind k ≡ false → simple_kind S ≡ k → ⊥
-not_simple S k h e = let t = simple_has_kind S in let s = ap is_simple_kind e in cc
+use Rattle.wave_wasm.proofs.TypesOfValues.TypeOfKind.{not_simple}
 
 -- ---- types of many parts
 
@@ -64,7 +30,7 @@ tuple_is (type.tuple Ts) parts k e = record {
   text_is = ap (λ z. angled (codes "tuple") (joined z)) (types_text Ts ∙ ap (map type_text) (sym e));
   depth_is = ap suc (types_depth Ts ∙ ap (depths depth) (sym e));
 }
-tuple_is (type.simple S) parts k e = absurd (not_simple S kinds.Tuple refl k)
+tuple_is (type.simple S) parts k e = absurd (not_simple kinds.Tuple S (sym k) refl)
 tuple_is (type.unreadable type.f32) parts k e = absurd (cc)
 tuple_is (type.unreadable type.f64) parts k e = absurd (cc)
 tuple_is (type.unreadable type.unsupported) parts k e = absurd (cc)
@@ -92,7 +58,7 @@ record_is (type.record_type fs) parts k e = record {
   text_is = ap (braced (codes "record")) (fields_text fs ∙ ap (map field_text) (sym e));
   depth_is = ap suc (fields_depth fs ∙ ap (depths field_depth) (sym e));
 }
-record_is (type.simple S) parts k e = absurd (not_simple S kinds.Record refl k)
+record_is (type.simple S) parts k e = absurd (not_simple kinds.Record S (sym k) refl)
 record_is (type.unreadable type.f32) parts k e = absurd (cc)
 record_is (type.unreadable type.f64) parts k e = absurd (cc)
 record_is (type.unreadable type.unsupported) parts k e = absurd (cc)
@@ -124,7 +90,7 @@ variant_is (type.variant cs) parts k e = record {
   text_is = ap (braced (codes "variant")) (cases_text cs ∙ ap (map case_text) (sym e));
   depth_is = ap suc (cases_depth cs ∙ ap (depths case_depth) (sym e));
 }
-variant_is (type.simple S) parts k e = absurd (not_simple S kinds.Variant refl k)
+variant_is (type.simple S) parts k e = absurd (not_simple kinds.Variant S (sym k) refl)
 variant_is (type.unreadable type.f32) parts k e = absurd (cc)
 variant_is (type.unreadable type.f64) parts k e = absurd (cc)
 variant_is (type.unreadable type.unsupported) parts k e = absurd (cc)

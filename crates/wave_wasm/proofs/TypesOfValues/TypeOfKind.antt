@@ -60,7 +60,8 @@ kind_is_simple (type.whole type.u64) = refl
 kind_is_simple type.char = refl
 kind_is_simple type.string = refl
 
-not_simple : (k : WasmTypeKind) (S : Simple) → k ≡ simple_kind S → is_simple_kind k ≡ false → ⊥
+-- a simple type is of no other kind
+pub not_simple : (k : WasmTypeKind) (S : Simple) → k ≡ simple_kind S → is_simple_kind k ≡ false → ⊥
 not_simple k S e f = absurd (cc (sym (ap is_simple_kind e ∙ kind_is_simple S) ∙ f))
 
 unreadable_is_not : (u : Unreadable) → is_simple_kind (unreadable_kind u) ≡ false

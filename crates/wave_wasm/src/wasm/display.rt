@@ -289,20 +289,7 @@ fn push_type<T: WasmType>(alloc: Global, ty: &T, text: &mut String) -> Result<()
         WasmTypeKind::Result => push_result(alloc, ty, text),
         WasmTypeKind::Flags => push_names("flags", &ty.flags_names(alloc)?, text),
         WasmTypeKind::Map => push_map(alloc, ty, text),
-        WasmTypeKind::Bool
-        | WasmTypeKind::S8
-        | WasmTypeKind::S16
-        | WasmTypeKind::S32
-        | WasmTypeKind::S64
-        | WasmTypeKind::U8
-        | WasmTypeKind::U16
-        | WasmTypeKind::U32
-        | WasmTypeKind::U64
-        | WasmTypeKind::F32
-        | WasmTypeKind::F64
-        | WasmTypeKind::Char
-        | WasmTypeKind::String
-        | WasmTypeKind::Unsupported => text.push_str(kind.word()),
+        _ => text.push_str(kind.word()),
     }
 }
 

@@ -28,5 +28,5 @@ pub returns-in-Result : goal.returns-in-Result
 returns-in-Result g c = λ o w source n U flat place read.
     result_around g.V.WasmValue.tree g.V.WasmValue.is_of g.V.WasmValue.is_full o w (g.V.Type.WasmType.tree c.args.ty.now) U source n c.in-Ok.val c.make_result_unchecked.result c.or_error_at-in-Result.result (λ kind. cc (sym c.in-Result.is ∙ (c.kind.ensures ∙ kind))) flat (rw c.in-Ok.is at read) c.make_result_unchecked.ensures.made c.make_result_unchecked.ensures.full (c.or_error_at-in-Result.ensures n place)
 
-pub returns-in-Bool : goal.returns-in-Bool
-returns-in-Bool g c = λ o w source n U flat place read. absurd (none_flat (g.V.Type.WasmType.tree c.args.ty.now) c.kind.result c.kind.ensures c.in-Bool.is (type_of n) U flat)
+pub returns-in_default : goal.returns-in_default
+returns-in_default g c = λ o w source n U flat place read. absurd (none_flat (g.V.Type.WasmType.tree c.args.ty.now) c.kind.result c.kind.ensures c.in_default.not-Option c.in_default.not-Result (type_of n) U flat)

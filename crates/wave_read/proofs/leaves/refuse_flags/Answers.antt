@@ -2,7 +2,7 @@ use Rattle.std.proofs.Common.{inl, inr, sym, subst, ◌∙◌}
 use Rattle.wave_grammar.specs.declared.form.NodeType.{NodeType}
 use Rattle.wave_wasm.specs.Types.{TypeTree}
 use Rattle.wave_read.specs.Flat.{IsFlatAt}
-use Rattle.wave_read.proofs.LeafReading.RefusedForms.{flags_refused, named_simple}
+use Rattle.wave_read.proofs.LeafReading.RefusedForms.{flags_refused, others_simple}
 use Rattle.wave_read.proofs.leaves.refuse_flags.Goals as goal
 
 pub returns-in-Flags : goal.returns-in-Flags
@@ -12,6 +12,6 @@ returns-in-Flags g c = λ o w source n ty place.
     (subst (λ (of : NodeType). (U : TypeTree) → IsFlatAt (g.V.Type.WasmType.tree c.args.ty.now) of U → ⊥) (sym ty) c.requires.flat)
     (elim c.in-Flags.is [ inl is ↦ absurd (c.requires.kind (sym c.kind.ensures ∙ is)) | inr other ↦ other ])
 
-pub returns-in-Bool : goal.returns-in-Bool
-returns-in-Bool g c = λ o w source n ty place.
-    c.refuse_form.ensures.read o w source n place (inr ty) (named_simple (g.V.Type.WasmType.tree c.args.ty.now) c.kind.result c.kind.ensures c.in-Bool.is)
+pub returns-in_default : goal.returns-in_default
+returns-in_default g c = λ o w source n ty place.
+    c.refuse_form.ensures.read o w source n place (inr ty) (others_simple (g.V.Type.WasmType.tree c.args.ty.now) c.kind.result c.kind.ensures c.in_default.not-List c.in_default.not-FixedLengthList c.in_default.not-Record c.in_default.not-Tuple c.in_default.not-Variant c.in_default.not-Enum c.in_default.not-Option c.in_default.not-Result c.in_default.not-Flags c.in_default.not-Map)

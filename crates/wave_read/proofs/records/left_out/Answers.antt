@@ -14,8 +14,7 @@ use Rattle.wave_read.specs.Errors.{IsRefusedBy}
 use Rattle.wave_read.proofs.ReadErrors.HandedOn.{made_at}
 use Rattle.wave_grammar.proofs.Fields.LeftOut.{missing, left_made}
 use Rattle.wave_read.specs.Private.RecordParts.{IsMissingOrMemory}
-use Rattle.wave_read.proofs.PayloadReading.KindsWithoutForm.{no_option}
-use Rattle.wave_read.proofs.records.left_out.Goals.{in-Option+in-Err, in-Bool}
+use Rattle.wave_read.proofs.records.left_out.Goals.{in-Option+in-Err, in_default}
 use Rattle.wave_read.proofs.records.left_out.Goals as goal
 
 -- the constructor of `none` refused
@@ -42,7 +41,7 @@ pub returns-clause-answer : goal.returns-clause-answer
 returns-clause-answer g c = λ n place distinct.
     elim c.match-kind.branch [
       | in-Option+in-Err w ↦ none_refused g.V.WasmValue.tree g.V.WasmValue.is_of g.V.WasmValue.is_full (g.V.Type.WasmType.tree c.args.ty.now) c.args.name.now n w.in-Err.cause c.match-kind.refusal c.with_cause.result w.in-Option.ensures distinct w.in-Err.ensures.full w.refusal-is c.with_cause.ensures.refusal (c.with_cause.ensures.span ∙ sym place)
-      | in-Bool w ↦ missing_or_memory g.V.WasmValue.is_full (g.V.Type.WasmType.tree c.args.ty.now) c.kind.result c.args.name.now n w.missing-refusal.result c.match-kind.refusal c.with_cause.result c.kind.ensures (no_option c.kind.result w.in-Bool.is) w.missing-refusal.ensures w.refusal-is c.with_cause.ensures.refusal (c.with_cause.ensures.span ∙ sym place)
+      | in_default w ↦ missing_or_memory g.V.WasmValue.is_full (g.V.Type.WasmType.tree c.args.ty.now) c.kind.result c.args.name.now n w.missing-refusal.result c.match-kind.refusal c.with_cause.result c.kind.ensures w.in_default.not-Option w.missing-refusal.ensures w.refusal-is c.with_cause.ensures.refusal (c.with_cause.ensures.span ∙ sym place)
     ]
 
 pub returns-clause-within : goal.returns-clause-within

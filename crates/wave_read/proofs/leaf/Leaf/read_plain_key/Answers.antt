@@ -14,7 +14,6 @@ use Rattle.wave_read.specs.Leaves.{leaf_node}
 use Rattle.wave_grammar.specs.FaultOrder.{in_text}
 use Rattle.wave_read.specs.Reading.{IsOfType}
 use Rattle.wave_read.proofs.LeafReading.SimpleTypes.{whole_of}
-use Rattle.wave_read.proofs.LeafReading.MatchedKinds.{none_word}
 use Rattle.wave_read.proofs.ReadErrors.HandedOn.{key_made, made_in, leaf_anew, leaf_of, none_of}
 use Rattle.wave_read.proofs.leaf.Leaf.read_plain_key.Goals as goal
 
@@ -26,10 +25,9 @@ pub returns-in_ok-as_bool_key-in-Bool-clause-answer : goal.returns-in_ok-as_bool
 returns-in_ok-as_bool_key-in-Bool-clause-answer g c = λ source here K p key is token.
     key_made g.V.WasmValue.tree g.V.WasmValue.is_of g.V.WasmValue.is_full (g.V.Type.WasmType.tree c.args.ty.now) K type.bool p key (leaf_node c.args.self.now) (value.bool c.in_ok-as_bool_key-in-Bool.field-0) c.make_bool.result c.or_error_here.result is (simple_is type.bool (g.V.Type.WasmType.tree c.args.ty.now) (sym c.in-Bool.is ∙ c.kind-kind.ensures)) refl (bool_key source (leaf_node c.args.self.now) p key c.in_ok-as_bool_key-in-Bool.field-0 token (c.in_ok-as_bool_key-in-Bool.ensures source here)) c.make_bool.ensures.made c.make_bool.ensures.full c.or_error_here.ensures
 
-pub returns-in-S8-clause-answer : goal.returns-in-S8-clause-answer
-returns-in-S8-clause-answer g c = λ source here K p key is token.
-    let none = none_word c.kind-kind.result c.in-S8.is in
-    whole_answers_key g.V.WasmValue.tree g.V.WasmValue.is_of g.V.WasmValue.is_full K c.kind-kind.result source (leaf_node c.args.self.now) p key c.read_whole.result (c.kind-kind.ensures ∙ ap kind_of is) none.0 none.1 none.2 token (c.read_whole.ensures source here)
+pub returns-in_default-clause-answer : goal.returns-in_default-clause-answer
+returns-in_default-clause-answer g c = λ source here K p key is token.
+    whole_answers_key g.V.WasmValue.tree g.V.WasmValue.is_of g.V.WasmValue.is_full K c.kind-kind.result source (leaf_node c.args.self.now) p key c.read_whole.result (c.kind-kind.ensures ∙ ap kind_of is) c.in_default.not-Bool c.in_default.not-Char c.in_default.not-String token (c.read_whole.ensures source here)
 
 pub returns-in_err-as_char-in-Char-clause-answer : goal.returns-in_err-as_char-in-Char-clause-answer
 returns-in_err-as_char-in-Char-clause-answer g c = λ source here K p key is token.
@@ -55,8 +53,8 @@ pub returns-in_ok-as_bool_key-in-Bool-clause-within : goal.returns-in_ok-as_bool
 returns-in_ok-as_bool_key-in-Bool-clause-within g c = λ source here key.
     made_in source (leaf_node c.args.self.now) c.make_bool.result c.or_error_here.result (inr key) c.or_error_here.ensures
 
-pub returns-in-S8-clause-within : goal.returns-in-S8-clause-within
-returns-in-S8-clause-within g c = λ source here key.
+pub returns-in_default-clause-within : goal.returns-in_default-clause-within
+returns-in_default-clause-within g c = λ source here key.
     all_in source (leaf_node c.args.self.now) c.read_whole.result (inr key) (whole_at g.V.WasmValue.tree g.V.WasmValue.is_of g.V.WasmValue.is_full c.kind-kind.result source (leaf_node c.args.self.now) c.read_whole.result (c.read_whole.ensures source here))
 
 pub returns-in_ok-as_char-in-Char-clause-within : goal.returns-in_ok-as_char-in-Char-clause-within
@@ -71,8 +69,8 @@ returns-in_ok-as_bool_key-in-Bool-clause-typed g c = λ source here.
     subst (λ (T : TypeTree). IsOfType g.V.WasmValue.is_of T c.or_error_here.result) (sym (simple_is type.bool (g.V.Type.WasmType.tree c.args.ty.now) (sym c.in-Bool.is ∙ c.kind-kind.ensures)))
     (leaf_of g.V.WasmValue.tree g.V.WasmValue.is_of g.V.WasmValue.is_full (value.bool c.in_ok-as_bool_key-in-Bool.field-0) (leaf_node c.args.self.now) c.or_error_here.result (leaf_anew g.V.WasmValue.tree g.V.WasmValue.is_of g.V.WasmValue.is_full (value.bool c.in_ok-as_bool_key-in-Bool.field-0) (leaf_node c.args.self.now) c.make_bool.result c.or_error_here.result c.make_bool.ensures.made c.make_bool.ensures.full c.or_error_here.ensures))
 
-pub returns-in-S8-clause-typed : goal.returns-in-S8-clause-typed
-returns-in-S8-clause-typed g c = λ source here.
+pub returns-in_default-clause-typed : goal.returns-in_default-clause-typed
+returns-in_default-clause-typed g c = λ source here.
     whole_of g.V.WasmValue.tree g.V.WasmValue.is_of g.V.WasmValue.is_full in_text in_text (g.V.Type.WasmType.tree c.args.ty.now) c.kind-kind.result source (leaf_node c.args.self.now) c.read_whole.result c.kind-kind.ensures (c.read_whole.ensures source here)
 
 pub returns-in_err-as_char-in-Char-clause-typed : goal.returns-in_err-as_char-in-Char-clause-typed

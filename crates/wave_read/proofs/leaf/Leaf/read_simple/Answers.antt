@@ -2,7 +2,6 @@ use Rattle.std.proofs.Common.{◌∙◌, sym}
 use Rattle.wave_wasm.specs.Types as type
 use Rattle.wave_read.specs.Leaves.{leaf_node}
 use Rattle.wave_read.proofs.LeafReading.SimpleTypes.{read_at_kind, whole_at_kind}
-use Rattle.wave_read.proofs.LeafReading.MatchedKinds.{none_word}
 use Rattle.wave_read.proofs.leaf.Leaf.read_simple.Goals as goal
 
 pub returns-in-Bool : goal.returns-in-Bool
@@ -17,7 +16,6 @@ pub returns-in-String : goal.returns-in-String
 returns-in-String g c = λ due o w source token here.
     read_at_kind g.V.WasmValue.tree g.V.WasmValue.is_of g.V.WasmValue.is_full o w type.string (g.V.Type.WasmType.tree c.args.ty.now) source (leaf_node c.args.self.now) c.read_string.result (sym c.in-String.is ∙ c.kind-kind.ensures) (c.read_string.ensures o w source token here)
 
-pub returns-in-S8 : goal.returns-in-S8
-returns-in-S8 g c = λ due o w source token here.
-    let none = none_word c.kind-kind.result c.in-S8.is in
-    whole_at_kind g.V.WasmValue.tree g.V.WasmValue.is_of g.V.WasmValue.is_full o w (g.V.Type.WasmType.tree c.args.ty.now) c.kind-kind.result source (leaf_node c.args.self.now) c.read_whole.result c.kind-kind.ensures none.0 none.1 none.2 due (c.read_whole.ensures source here)
+pub returns-in_default : goal.returns-in_default
+returns-in_default g c = λ due o w source token here.
+    whole_at_kind g.V.WasmValue.tree g.V.WasmValue.is_of g.V.WasmValue.is_full o w (g.V.Type.WasmType.tree c.args.ty.now) c.kind-kind.result source (leaf_node c.args.self.now) c.read_whole.result c.kind-kind.ensures c.in_default.not-Bool c.in_default.not-Char c.in_default.not-String due (c.read_whole.ensures source here)

@@ -3,7 +3,6 @@ use Rattle.std.proofs.lemmas.Int.{to_z-of_z}
 use Rattle.wave_wasm.specs.Types as type
 use Rattle.wave_grammar.proofs.ByKind.Wholes.{whole_refused, none_whole}
 use Rattle.wave_read.specs.Leaves.{leaf_node}
-use Rattle.wave_read.proofs.LeafReading.MatchedKinds.{no_whole}
 use Rattle.wave_read.proofs.ReadErrors.HandedOn.{whole_made}
 use Rattle.wave_read.proofs.leaf.Leaf.read_whole.Goals as goal
 
@@ -75,6 +74,6 @@ pub returns-in_ok-as_number-in-U64 : goal.returns-in_ok-as_number-in-U64
 returns-in_ok-as_number-in-U64 g c = λ source here.
     whole_made g.V.WasmValue.tree g.V.WasmValue.is_of g.V.WasmValue.is_full c.args.kind type.u64 source (leaf_node c.args.self.now) (pos c.in_ok-as_number-in-U64.field-0) (pos c.in_ok-as_number-in-U64.field-0) c.make_u64.result c.or_error_here-in-U64.result c.in-U64.is refl (c.in_ok-as_number-in-U64.ensures source here) c.make_u64.ensures.made c.make_u64.ensures.full c.or_error_here-in-U64.ensures
 
-pub returns-in-Bool : goal.returns-in-Bool
-returns-in-Bool g c = λ source here.
-    none_whole g.V.WasmValue.tree g.V.WasmValue.is_of g.V.WasmValue.is_full c.args.kind source (leaf_node c.args.self.now) c.unsupported.result (no_whole c.args.kind c.in-Bool.is) c.unsupported.ensures.cause c.unsupported.ensures.span
+pub returns-in_default : goal.returns-in_default
+returns-in_default g c = λ source here.
+    none_whole g.V.WasmValue.tree g.V.WasmValue.is_of g.V.WasmValue.is_full c.args.kind source (leaf_node c.args.self.now) c.unsupported.result (record { s8 = c.in_default.not-S8; s16 = c.in_default.not-S16; s32 = c.in_default.not-S32; s64 = c.in_default.not-S64; u8 = c.in_default.not-U8; u16 = c.in_default.not-U16; u32 = c.in_default.not-U32; u64 = c.in_default.not-U64 }) c.unsupported.ensures.cause c.unsupported.ensures.span

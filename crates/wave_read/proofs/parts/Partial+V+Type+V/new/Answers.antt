@@ -1,5 +1,5 @@
 use Rattle.std.proofs.Common.{◌∙◌, refl, sym}
-use Rattle.wave_read.proofs.LeafReading.RefusedForms.{named_simple}
+use Rattle.wave_read.proofs.LeafReading.RefusedForms.{others_simple}
 use Rattle.wave_read.proofs.LeafReading.Enums.{enum_other_form}
 use Rattle.wave_read.proofs.PartByPart.NoneRead.{no_label, sound, wrong}
 use Rattle.wave_read.proofs.LeafReading.PlainTypes.{plain_parts}
@@ -33,9 +33,9 @@ returns-in-Option-clause-begun g c = c.of_option.ensures
 pub returns-in-Result-clause-begun : goal.returns-in-Result-clause-begun
 returns-in-Result-clause-begun g c = c.of_result.ensures
 
-pub returns-in-Bool-clause-begun : goal.returns-in-Bool-clause-begun
-returns-in-Bool-clause-begun g c = sound g.V.Type.WasmType.tree g.V.WasmValue.tree g.V.WasmValue.is_of g.V.WasmValue.is_full _ c.args.of _ (λ f e. cc) (λ w source parts.
-    (refl, named_simple (g.V.Type.WasmType.tree c.args.ty.now) c.kind.result c.kind.ensures c.in-Bool.is, parts))
+pub returns-in_default-clause-begun : goal.returns-in_default-clause-begun
+returns-in_default-clause-begun g c = sound g.V.Type.WasmType.tree g.V.WasmValue.tree g.V.WasmValue.is_of g.V.WasmValue.is_full _ c.args.of _ (λ f e. cc) (λ w source parts.
+    (refl, others_simple (g.V.Type.WasmType.tree c.args.ty.now) c.kind.result c.kind.ensures c.in_default.not-List c.in_default.not-FixedLengthList c.in_default.not-Record c.in_default.not-Tuple c.in_default.not-Variant c.in_default.not-Enum c.in_default.not-Option c.in_default.not-Result c.in_default.not-Flags c.in_default.not-Map, parts))
 
 pub returns-in-Enum-clause-plain : goal.returns-in-Enum-clause-plain
 returns-in-Enum-clause-plain g c = λ plain. absurd ((plain_parts (g.V.Type.WasmType.tree c.args.ty.now) plain).enum (sym c.kind.ensures ∙ c.in-Enum.is))

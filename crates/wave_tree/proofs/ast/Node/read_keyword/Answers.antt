@@ -11,7 +11,7 @@ use Rattle.wave_grammar.proofs.ErrorSpans.Nodes.{at_in, form_at, caused_at}
 use Rattle.wave_read.specs.Leaves.{leaf_node}
 use Rattle.wave_read.proofs.LeafReading.SimpleTypes.{unreadable_is, has_values, caused_there}
 use Rattle.wave_tree.proofs.NodeReading.Children.{key_alone}
-use Rattle.wave_tree.proofs.NodeReading.BuilderAnswers.{keyword_unread, keyword_other, other_kind}
+use Rattle.wave_tree.proofs.NodeReading.BuilderAnswers.{keyword_unread, keyword_other}
 use Rattle.wave_tree.proofs.ast.Node.read_keyword.Goals as goal
 
 pub returns-in-Bool-clause-answer : goal.returns-in-Bool-clause-answer
@@ -41,14 +41,13 @@ returns-in-F32-clause-within g c =
     let place = sym (ap place_of c.leaf-leaf.ensures.node) in
     at_in c.args.src.now c.args.self.now c.unsupported.result (inr c.requires.key) (caused_at _ c.args.self.now c.unsupported.result (caused_there _ c.args.self.now (leaf_node c.leaf-leaf.result) c.unsupported.result place c.unsupported.ensures.cause) (c.unsupported.ensures.span ∙ sym place))
 
-pub returns-in-S8-clause-answer : goal.returns-in-S8-clause-answer
-returns-in-S8-clause-answer g c = λ K p key is token.
-    inr (inl (keyword_fault K c.args.src.now c.args.self.now p key c.read_error.result (λ same. (other_kind c.kind-kind.result c.in-S8.is).0 (c.kind-kind.ensures ∙ (ap kind_of is ∙ ap (λ S. kind_of (type.simple S)) same))) token c.requires.keyword.0 c.read_error.ensures))
+pub returns-in_default-clause-answer : goal.returns-in_default-clause-answer
+returns-in_default-clause-answer g c = λ K p key is token.
+    inr (inl (keyword_fault K c.args.src.now c.args.self.now p key c.read_error.result (λ same. c.in_default.not-Bool (c.kind-kind.ensures ∙ (ap kind_of is ∙ ap (λ S. kind_of (type.simple S)) same))) token c.requires.keyword.0 c.read_error.ensures))
 
-pub returns-in-S8-clause-other : goal.returns-in-S8-clause-other
-returns-in-S8-clause-other g c = λ other.
-    let kind = other_kind c.kind-kind.result c.in-S8.is in
-    keyword_other (g.V.Type.WasmType.tree c.args.ty.now) c.kind-kind.result c.args.self.now c.read_error.result c.kind-kind.ensures kind.1 kind.2 kind.3 c.read_error.ensures
+pub returns-in_default-clause-other : goal.returns-in_default-clause-other
+returns-in_default-clause-other g c = λ other.
+    keyword_other (g.V.Type.WasmType.tree c.args.ty.now) c.kind-kind.result c.args.self.now c.read_error.result c.kind-kind.ensures c.in_default.not-F32 c.in_default.not-F64 c.in_default.not-Unsupported c.read_error.ensures
 
-pub returns-in-S8-clause-within : goal.returns-in-S8-clause-within
-returns-in-S8-clause-within g c = at_in c.args.src.now c.args.self.now c.read_error.result (inr c.requires.key) (form_at c.args.self.now c.read_error.result c.read_error.ensures)
+pub returns-in_default-clause-within : goal.returns-in_default-clause-within
+returns-in_default-clause-within g c = at_in c.args.src.now c.args.self.now c.read_error.result (inr c.requires.key) (form_at c.args.self.now c.read_error.result c.read_error.ensures)

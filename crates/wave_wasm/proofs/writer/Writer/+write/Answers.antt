@@ -484,8 +484,8 @@ write_value-returns-in-Map-clause-writable g t c = c.write_map.ensures.writable
 pub write_value-returns-in-Map-clause-err : goal.write_value-returns-in-Map-clause-err
 write_value-returns-in-Map-clause-err g t c = c.write_map.ensures.err
 
-pub write_value-returns-in-Bool-clause-ok : goal.write_value-returns-in-Bool-clause-ok
-write_value-returns-in-Bool-clause-ok g t c = c.write_leaf.ensures.ok
+pub write_value-returns-in_default-clause-ok : goal.write_value-returns-in_default-clause-ok
+write_value-returns-in_default-clause-ok g t c = c.write_leaf.ensures.ok
 
 pub write_value-write_list-requires : goal.write_value-write_list-requires
 write_value-write_list-requires g t c κs within = (omega arith, (within.0, (within.1.0, (within.1.1, of_list_kind _ _ c.kind.ensures.kind c.in-List.is))))
@@ -494,7 +494,21 @@ pub write_value-write_map-requires : goal.write_value-write_map-requires
 write_value-write_map-requires g t c κs within = (omega arith, (within.0, (within.1.0, (within.1.1, (sym c.kind.ensures.kind ∙ c.in-Map.is, c.kind.ensures.formed)))))
 
 pub write_value-write_leaf-requires : goal.write_value-write_leaf-requires
-write_value-write_leaf-requires g t c = leaf_of _ _ c.kind.ensures.kind c.in-Bool.is
+write_value-write_leaf-requires g t c = leaf_of _ _ c.kind.ensures.kind (record {
+  list = c.in_default.not-List;
+  fixed = c.in_default.not-FixedLengthList;
+  record_kind = c.in_default.not-Record;
+  tuple = c.in_default.not-Tuple;
+  variant = c.in_default.not-Variant;
+  enum = c.in_default.not-Enum;
+  option = c.in_default.not-Option;
+  result = c.in_default.not-Result;
+  flags = c.in_default.not-Flags;
+  map = c.in_default.not-Map;
+  f32 = c.in_default.not-F32;
+  f64 = c.in_default.not-F64;
+  unsupported = c.in_default.not-Unsupported;
+})
 
 pub write_value-write_flags-requires : goal.write_value-write_flags-requires
 write_value-write_flags-requires g t c = sym c.kind.ensures.kind ∙ c.in-Flags.is
@@ -502,14 +516,14 @@ write_value-write_flags-requires g t c = sym c.kind.ensures.kind ∙ c.in-Flags.
 pub write_value-returns-in-Enum-clause-ok : goal.write_value-returns-in-Enum-clause-ok
 write_value-returns-in-Enum-clause-ok g t c = rw (ap text c.unwrap_enum.ensures) c.write_case.ensures.ok
 
-pub write_value-returns-in-Bool-clause-writable : goal.write_value-returns-in-Bool-clause-writable
-write_value-returns-in-Bool-clause-writable g t c =
-    let one = leaf_of _ _ c.kind.ensures.kind c.in-Bool.is in
+pub write_value-returns-in_default-clause-writable : goal.write_value-returns-in_default-clause-writable
+write_value-returns-in_default-clause-writable g t c =
+    let one = write_value-write_leaf-requires g t c.before in
     rw (ap has_text one.1) c.write_leaf.ensures.writable
 
-pub write_value-returns-in-Bool-clause-err : goal.write_value-returns-in-Bool-clause-err
-write_value-returns-in-Bool-clause-err g t c =
-    let one = leaf_of _ _ c.kind.ensures.kind c.in-Bool.is in
+pub write_value-returns-in_default-clause-err : goal.write_value-returns-in_default-clause-err
+write_value-returns-in_default-clause-err g t c =
+    let one = write_value-write_leaf-requires g t c.before in
     rw (ap has_text one.1) c.write_leaf.ensures.err
 
 pub write_value-write_record-requires : goal.write_value-write_record-requires
