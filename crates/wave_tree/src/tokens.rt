@@ -1,5 +1,5 @@
 //! The tokens of a source, taken one by one, and what is made of them.
-ghost use Rattle.std.specs.Prelude.{◌≡◌, ◌≢◌, ◌↔◌, ℕ, ◌+◌, ◌-◌, ◌++◌, ◌≤◌, List, [], ◌∷◌};
+ghost use Rattle.std.specs.Prelude.{◌≡◌, ◌≢◌, ◌↔◌, ◌⊎◌, ℕ, ◌+◌, ◌-◌, ◌++◌, ◌≤◌, List, [], ◌∷◌};
 ghost use Rattle.std.specs.Prelude.{Some, None, Ok, Err, IfOk, IfErr, IsTrue, false};
 ghost use Rattle.wave_lex.specs.declared.error.ParserErrorKind.TheVariants as kind;
 ghost use Rattle.std.specs.String.{string_bytes};
@@ -16,7 +16,7 @@ ghost use Rattle.wave_grammar.specs.NodeTree.{NodeTree, node, no_nodes, node_tre
 ghost use Rattle.wave_tree.specs.ParsedNodes.{IsNodeTaken, IsSound};
 ghost use Rattle.wave_tree.specs.FromStr.{IsValueTaken, RefusesValue, IsCausedBetween};
 ghost use Rattle.wave_tree.specs.ParserState.{BeginsRow, HoldsNoBrace, Finishes, StaysWithout};
-ghost use Rattle.wave_tree.specs.Private.ParsedNodes.{TakesNumber, IsRunAdded, AreNumbersAdded};
+ghost use Rattle.wave_tree.specs.Private.ParsedNodes.{TakesNumber, AreNumbersAdded};
 ghost use Rattle.wave_tree.specs.Private.ParserState.{Stream, stream_of, asked_of, AsksFor, ahead_count, lexer_of, IsAhead, Advances, Expects, IsRefused};
 ghost use Rattle.wave_lex.specs.Errors.{LiesInText};
 ghost use Rattle.wave_tree.specs.ParserLaws.{LiesInSource};
@@ -433,7 +433,8 @@ impl<'source> Tokens<'source> {
         close: Token,
         token: Token,
     ) -> Result<(), ReadError>
-        ensures kept { IfOk result (λ _. AreNumbersAdded (P.are_parts builder) token self.old.place parts.old self.new.place parts.new) }
+        ensures kept { IfOk result (λ _. AreNumbersAdded (P.are_parts builder) self.old.place parts.old self.new.place parts.new) }
+        ensures only { IfOk result (λ _. (token ≡ Token.Number) ⊎ ((self.new.place ≡ self.old.place) × (parts.new ≡ parts.old))) }
         ensures memory { IfErr result (λ e. e.kind ≡ kind.OutOfMemory) }
         ensures takes { IfErr result (λ _. (of : NodeType) (children : List NodeTree) → ((any : List NodeTree) → TakesPart of any)
             → P.are_parts builder self.old.place.lexer.source of children parts.old → P.takes_memory builder) }
@@ -456,7 +457,7 @@ impl<'source> Tokens<'source> {
         builder: P,
         parts: &mut P::Parts,
     ) -> Result<(), ReadError>
-        ensures kept { IfOk result (λ _. IsRunAdded (P.are_parts builder) self.old.place parts.old self.new.place parts.new) }
+        ensures kept { IfOk result (λ _. AreNumbersAdded (P.are_parts builder) self.old.place parts.old self.new.place parts.new) }
         ensures memory { IfErr result (λ e. e.kind ≡ kind.OutOfMemory) }
         ensures takes { IfErr result (λ _. (of : NodeType) (children : List NodeTree) → ((any : List NodeTree) → TakesPart of any)
             → P.are_parts builder self.old.place.lexer.source of children parts.old → P.takes_memory builder) }

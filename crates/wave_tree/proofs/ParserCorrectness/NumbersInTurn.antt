@@ -1,25 +1,25 @@
 -- Numbers of a list or a tuple that are taken in turn.
-use Rattle.std.proofs.Common.{◌≡◌, ◌≢◌, ℕ, ◌+◌, ◌<◌, ◌≤◌, List, [], ◌∷◌, ◌++◌, Some, Ok, refl, sym, ap, subst, ◌∙◌, inl, inr, arith}
+use Rattle.std.proofs.Common.{◌≡◌, ◌≢◌, ◌⊎◌, ℕ, ◌+◌, ◌<◌, ◌≤◌, List, [], ◌∷◌, ◌++◌, map, append_assoc, append-nil, Some, Ok, refl, sym, ap, subst, ◌∙◌, inl, inr, arith}
 use Rattle.wave_lex.specs.declared.lex.Token as lex
 use Rattle.wave_lex.specs.declared.lex.Token.TheVariants.{Comma, Number}
 use Rattle.wave_grammar.specs.Token.{Token}
-use Rattle.wave_grammar.specs.ParserPosition.{Place, TakesItem, TakesTokens, span_at, text_at, token_of}
+use Rattle.wave_grammar.specs.ParserPosition.{Place, TakesItem, TakesTokens, text_at, token_of}
 use Rattle.wave_grammar.specs.PrefixAutomaton.{Expectation, StackSymbol}
 use Rattle.wave_grammar.specs.PrefixAutomaton as due
 use Rattle.wave_grammar.specs.SyntaxErrors.{LeadsBehindValue}
 use Rattle.wave_grammar.specs.NodeParts.{TakesPart}
-use Rattle.wave_grammar.specs.NodeTree.{NodeTree, node, no_nodes}
+use Rattle.wave_grammar.specs.NodeTree.{NodeTree}
 use Rattle.wave_grammar.specs.declared.form.NodeType.{NodeType}
 use Rattle.wave_grammar.specs.declared.form.NodeType.TheVariants as kind
 use Rattle.wave_tree.specs.ParsedNodes.{IsParsed}
 use Rattle.wave_tree.specs.Private.ParserState.{Stream, AsksFor}
 use Rattle.wave_tree.specs.Private.TokenRoles.{form_of, IsClose}
-use Rattle.wave_tree.specs.Private.ParsedNodes.{AreFurther, AreClosedItems, TakesNumber, AddsNumber, AddsNumbers, IsRunAdded, AreNumbersAdded}
+use Rattle.wave_tree.specs.Private.ParsedNodes.{AreFurther, AreClosedItems, TakesNumber, number_node, AreNumbersInTurn, AreNumbersAdded}
 use Rattle.wave_tree.proofs.NodeCorrectness.Items.{items_next}
 use Rattle.wave_tree.proofs.ParserCorrectness.AloneTokens.{alone_parsed, alone_led}
 use Rattle.wave_tree.proofs.ParserCorrectness.BuiltNodes.{source_item, source_reached}
 use Rattle.wave_tree.proofs.ParserCorrectness.LexerCalls.{IsDueAt, asks_begun, asks_behind}
-use Rattle.wave_tree.proofs.ParserCorrectness.Steps.{Reached, IsItemDue, comma_behind, item_read, left_at, no_close, other_next, taken_count, token_less, token_there, tokens_join, then_behind, then_reached}
+use Rattle.wave_tree.proofs.ParserCorrectness.Steps.{Reached, IsItemDue, comma_behind, item_read, left_at, no_close, other_next, taken_count, token_less, token_there, then_behind, then_reached}
 
 -- after an item that was read
 pub behind_item : {n : ℕ} {d e : Expectation} {s : List StackSymbol} {p q w : Place} (close : lex.Token) → IsClose close → ((next : Place) × TakesItem q (Some (Ok close)) next → ⊥) → IsItemDue e →
@@ -39,15 +39,11 @@ number_apart : (close : lex.Token) → IsClose close → Number ≢ close
 number_apart close (inl e) q = let wrong = q ∙ e in cc
 number_apart close (inr e) q = let wrong = q ∙ e in cc
 
-module _ {M : Type 0} (Are : List ℕ → NodeType → List NodeTree → M → Type 0) (ty : NodeType) (takes : (any : List NodeTree) → TakesPart ty any) (levels : ℕ) (some : 0 < levels) (close : lex.Token) (is_close : IsClose close) (first : Place) where
-  -- so it is after a number that was added
-  number_in_items : (p q : Place) (a b : M) → IsInItems (λ s cs ps. Are s ty cs ps) levels close Number first p a → AddsNumber Are p a q b → IsInItems (λ s cs ps. Are s ty cs ps) levels close Number first q b
-  number_in_items p q a b (at, there, none, due_at, children, are, go) adds =
-      let (comma, comma_there, number_there) = adds.next in
-      let n = node kind.Number (span_at p) no_nodes in
-      let (d, i, r) = due_at (levels + 1) [] (omega arith) in
-      let source : p.lexer.source ≡ first.lexer.source = source_item at p Number there ∙ source_reached r in
-      let is : IsParsed levels at p n = alone_parsed levels at p Number kind.Number some there refl in (
+module _ (levels : ℕ) (some : 0 < levels) (close : lex.Token) (is_close : IsClose close) (first : Place) where
+  -- so it is after a number among the items
+  number_in_items : (p q : Place) (children : List NodeTree) → IsInItems (λ s cs all. cs ≡ all) levels close Number first p children → TakesNumber p q → IsInItems (λ s cs all. cs ≡ all) levels close Number first q (children ++ number_node p ∷ [])
+  number_in_items p q all (at, there, none, due_at, children, are, go) (comma, comma_there, number_there) =
+      let is : IsParsed levels at p (number_node p) = alone_parsed levels at p Number kind.Number some there refl in (
         comma,
         number_there,
         other_next close Number comma q (number_apart close is_close) number_there,
@@ -55,61 +51,75 @@ module _ {M : Type 0} (Are : List ℕ → NodeType → List NodeTree → M → T
             let (d, i, r) = due_at n s e in
             let item = alone_led n (form_of close ∷ s) at p Number kind.Number (omega arith) there refl in
             (due.next_item, inr refl, then_behind item.due_there Comma (behind_item close is_close none i r item) item.is_behind comma_there (comma_behind close s (text_at comma) is_close)),
-        children ++ n ∷ [],
-        subst (λ (z : List ℕ). Are z ty (children ++ n ∷ []) b) source (adds.added ty children (takes children) (subst (λ (z : List ℕ). Are z ty children a) (sym source) are)),
-        items_next levels close first at p comma comma children (children ++ n ∷ []) n go is comma_there refl refl,
+        children ++ number_node p ∷ [],
+        ap (λ (z : List NodeTree). z ++ number_node p ∷ []) are,
+        items_next levels close first at p comma comma children (children ++ number_node p ∷ []) (number_node p) go is comma_there refl refl,
       )
 
-  -- and after numbers that were
-  numbers_in_items : (steps : List (Place × M)) (p q : Place) (a b : M) → IsInItems (λ s cs ps. Are s ty cs ps) levels close Number first p a → AddsNumbers Are steps p a q b → IsInItems (λ s cs ps. Are s ty cs ps) levels close Number first q b
-  numbers_in_items [] p q a b h (place, parts) = subst (λ z. IsInItems (λ s cs ps. Are s ty cs ps) levels close Number first z b) (sym place) (subst (λ z. IsInItems (λ s cs ps. Are s ty cs ps) levels close Number first p z) (sym parts) h)
-  numbers_in_items (one ∷ earlier) p q a b h (before, last) = number_in_items one.0 q one.1 b (numbers_in_items earlier p one.0 a one.1 h before) last
+  -- and after numbers in turn
+  numbers_in_items : (places : List Place) (p q : Place) (children : List NodeTree) → IsInItems (λ s cs all. cs ≡ all) levels close Number first p children → AreNumbersInTurn p places q
+      → IsInItems (λ s cs all. cs ≡ all) levels close Number first q (children ++ map number_node places)
+  numbers_in_items [] p q children h same =
+      subst (λ z. IsInItems (λ s cs all. cs ≡ all) levels close Number first q z) (sym (append-nil children)) (subst (λ z. IsInItems (λ s cs all. cs ≡ all) levels close Number first z children) (sym same) h)
+  numbers_in_items (one ∷ more) p q children h (is, next, takes, rest) =
+      subst (λ z. IsInItems (λ s cs all. cs ≡ all) levels close Number first q (children ++ number_node z ∷ map number_node more)) (sym is)
+      (subst (λ z. IsInItems (λ s cs all. cs ≡ all) levels close Number first q z) (append_assoc children (number_node p ∷ []) (map number_node more))
+      (numbers_in_items more next q (children ++ number_node p ∷ []) (number_in_items p next children h takes) rest))
 
-  -- whatever token was taken last
-  pub still_in_items : (token : lex.Token) (p q : Place) (a b : M) → IsInItems (λ s cs ps. Are s ty cs ps) levels close token first p a → AreNumbersAdded Are token p a q b → IsInItems (λ s cs ps. Are s ty cs ps) levels close token first q b
-  still_in_items token p q a b h ([], (place, parts), only) = subst (λ z. IsInItems (λ s cs ps. Are s ty cs ps) levels close token first z b) (sym place) (subst (λ z. IsInItems (λ s cs ps. Are s ty cs ps) levels close token first p z) (sym parts) h)
-  still_in_items token p q a b h (one ∷ earlier, steps, only) =
-      let is : token ≡ Number = only (λ e. cc) in
-      subst (λ z. IsInItems (λ s cs ps. Are s ty cs ps) levels close z first q b) (sym is)
-      (numbers_in_items (one ∷ earlier) p q a b (subst (λ z. IsInItems (λ s cs ps. Are s ty cs ps) levels close z first p a) is h) steps)
+  -- a number that was taken among the items stands in the source
+  source_here : {M : Type 0} (Are : List ℕ → List NodeTree → M → Type 0) (p : Place) (parts : M) → IsInItems Are levels close Number first p parts → p.lexer.source ≡ first.lexer.source
+  source_here Are p parts (at, there, none, due_at, children, are, go) = let (d, i, r) = due_at (levels + 1) [] (omega arith) in source_item at p Number there ∙ source_reached r
+
+  -- so parts to which numbers in turn were added are made of the items before the last of them
+  pub still_in_items : {M : Type 0} (Are : List ℕ → NodeType → List NodeTree → M → Type 0) (ty : NodeType) → ((any : List NodeTree) → TakesPart ty any) → (token : lex.Token) (p q : Place) (a b : M) → IsInItems (λ s cs ps. Are s ty cs ps) levels close token first p a
+      → AreNumbersAdded Are p a q b → (token ≡ Number) ⊎ ((q ≡ p) × (b ≡ a)) → IsInItems (λ s cs ps. Are s ty cs ps) levels close token first q b
+  still_in_items Are ty takes token p q a b h added (inr (place, parts)) =
+      subst (λ z. IsInItems (λ s cs ps. Are s ty cs ps) levels close token first z b) (sym place) (subst (λ z. IsInItems (λ s cs ps. Are s ty cs ps) levels close token first p z) (sym parts) h)
+  still_in_items Are ty takes token p q a b h added (inl is) =
+      let here = subst (λ z. IsInItems (λ s cs ps. Are s ty cs ps) levels close z first p a) is h in
+      let (at, there, none, due_at, children, are, go) = here in
+      let all = numbers_in_items added.places p q children (at, there, none, due_at, children, refl, go) added.turn in
+      let (at', there', none', due', children', same, go') = all in
+      let then_are = added.added ty children takes (subst (λ (z : List ℕ). Are z ty children a) (sym (source_here (λ s cs ps. Are s ty cs ps) p a here)) are) in
+      subst (λ z. IsInItems (λ s cs ps. Are s ty cs ps) levels close z first q b) (sym is) (
+        at',
+        there',
+        none',
+        due',
+        children',
+        subst (λ (z : List NodeTree). Are first.lexer.source ty z b) (sym same) (subst (λ (z : List ℕ). Are z ty (children ++ map number_node added.places) b) (source_here (λ s cs ps. cs ≡ ps) q (children ++ map number_node added.places) all) then_are),
+        go',
+      )
 
 -- what is left gets no more
-pub numbers_less : {M : Type 0} (Are : List ℕ → NodeType → List NodeTree → M → Type 0) (steps : List (Place × M)) (p q : Place) (a b : M) → AddsNumbers Are steps p a q b → left_at q ≤ left_at p
-numbers_less Are [] p q a b (place, parts) = let same = ap left_at place in omega arith
-numbers_less Are (one ∷ earlier) p q a b (before, last) =
-    let (comma, comma_there, number_there) = last.next in
-    let more = numbers_less Are earlier p one.0 a one.1 before in
-    let this = token_less one.0 comma Comma comma_there in
-    let that = token_less comma q Number number_there in
+pub numbers_less : (places : List Place) (p q : Place) → AreNumbersInTurn p places q → left_at q ≤ left_at p
+numbers_less [] p q same = let e = ap left_at same in omega arith
+numbers_less (one ∷ more) p q (is, next, (comma, comma_there, number_there), rest) =
+    let fewer = numbers_less more next q rest in
+    let this = token_less p comma Comma comma_there in
+    let that = token_less comma next Number number_there in
     omega arith
+
+-- and one more number in turn
+pub numbers_more : (places : List Place) (p q r : Place) → AreNumbersInTurn p places q → TakesNumber q r → AreNumbersInTurn p (places ++ q ∷ []) r
+numbers_more [] p q r same takes = (same, r, subst (λ z. TakesNumber z r) same takes, refl)
+numbers_more (one ∷ more) p q r (is, next, takes, rest) last = (is, next, takes, numbers_more more next q r rest last)
 
 -- what was asked after the first token of an item
 pub asks_in_items : {M : Type 0} (Are : List ℕ → List NodeTree → M → Type 0) (levels : ℕ) (close token : lex.Token) (parts : M) (old this new : Stream) → IsInItems Are levels close token old.place this.place parts → AsksFor old this → AsksFor this new → AsksFor old new
 asks_in_items Are levels close token parts old this new (at, there, none, due_at, children, are, go) first then_more = asks_begun levels close token old this new at due_at there first then_more
 
 -- the tokens that were taken
-numbers_tokens : {M : Type 0} (Are : List ℕ → NodeType → List NodeTree → M → Type 0) (steps : List (Place × M)) (p q : Place) (a b : M) → AddsNumbers Are steps p a q b → (ts : List Token) × TakesTokens p ts q
-numbers_tokens Are [] p q a b (place, parts) = ([], sym place)
-numbers_tokens Are (one ∷ earlier) p q a b (before, last) =
-    let (ts, taken) = numbers_tokens Are earlier p one.0 a one.1 before in
-    let (comma, comma_there, number_there) = last.next in
-    let two = token_of Comma (text_at comma) ∷ token_of Number (text_at q) ∷ [] in
-    (ts ++ two, tokens_join p one.0 q ts two taken (comma, token_there one.0 comma Comma comma_there, (q, token_there comma q Number number_there, refl)))
+numbers_tokens : (places : List Place) (p q : Place) → AreNumbersInTurn p places q → (ts : List Token) × TakesTokens p ts q
+numbers_tokens [] p q same = ([], sym same)
+numbers_tokens (one ∷ more) p q (is, next, (comma, comma_there, number_there), rest) =
+    let (ts, taken) = numbers_tokens more next q rest in
+    (token_of Comma (text_at comma) ∷ token_of Number (text_at next) ∷ ts, (comma, token_there p comma Comma comma_there, (next, token_there comma next Number number_there, taken)))
 
 -- for one more two are asked for
-pub one_asked : {M : Type 0} (Are : List ℕ → NodeType → List NodeTree → M → Type 0) (old here new : Stream) (a b : M) → IsRunAdded Are old.place a here.place b → AsksFor old here → TakesNumber here.place new.place → new.ahead ≡ 0 → AsksFor old new
-one_asked Are old here new a b (steps, added) asks (comma, comma_there, number_there) none =
-    let (ts, taken) = numbers_tokens Are steps old.place here.place a b added in
+pub one_asked : (places : List Place) (old here new : Stream) → AreNumbersInTurn old.place places here.place → AsksFor old here → TakesNumber here.place new.place → new.ahead ≡ 0 → AsksFor old new
+one_asked places old here new turn asks (comma, comma_there, number_there) none =
+    let (ts, taken) = numbers_tokens places old.place here.place turn in
     let two = token_of Comma (text_at comma) ∷ token_of Number (text_at new.place) ∷ [] in
     let both : TakesTokens here.place two new.place = (comma, token_there here.place comma Comma comma_there, (new.place, token_there comma new.place Number number_there, refl)) in
     asks_behind old here new ts taken asks (λ n h. let fits = h two new.place both in let count = taken_count here.place new.place two both in omega arith)
-
--- parts stay parts
-pub numbers_parts : {M : Type 0} (Are : List ℕ → NodeType → List NodeTree → M → Type 0) (of : NodeType) (children : List NodeTree) → ((any : List NodeTree) → TakesPart of any) → (steps : List (Place × M)) (p q : Place) (a b : M) → AddsNumbers Are steps p a q b →
-    Are p.lexer.source of children a → (more : List NodeTree) × Are q.lexer.source of more b
-numbers_parts Are of children takes [] p q a b (place, parts) are = (children, subst (λ (z : Place). Are z.lexer.source of children b) (sym place) (subst (λ z. Are p.lexer.source of children z) (sym parts) are))
-numbers_parts Are of children takes (one ∷ earlier) p q a b (before, last) are =
-    let (more, then_are) = numbers_parts Are of children takes earlier p one.0 a one.1 before are in
-    let (comma, comma_there, number_there) = last.next in
-    let all = more ++ node kind.Number (span_at one.0) no_nodes ∷ [] in
-    (all, subst (λ (z : List ℕ). Are z of all b) (sym (source_item comma q Number number_there ∙ source_item one.0 comma Comma comma_there)) (last.added of more (takes more) then_are))

@@ -146,21 +146,18 @@ WithParts Are parts Is e = (source : List ℕ) (of : NodeType) (children : List 
 abbrev pub TakesNumber : Place → Place → Type 0
 TakesNumber p q = (comma : Place) × TakesClass class.Comma p comma × TakesClass class.Number comma q
 
--- the number that was taken last at the place p was added to the parts of a list or a tuple, and a comma and the next number were taken
-pub record AddsNumber {M : Type 0} (Are : List ℕ → NodeType → List NodeTree → M → Type 0) (p : Place) (before : M) (q : Place) (after : M) : Type 0 where
-  pub added : (of : NodeType) (children : List NodeTree) → TakesPart of children → Are p.lexer.source of children before
-      → Are p.lexer.source of (children ++ node kind.Number (span_at p) no_nodes ∷ []) after
-  pub next : TakesNumber p q
+-- the node of the number that was taken last
+abbrev pub number_node : Place → NodeTree
+number_node p = node kind.Number (span_at p) no_nodes
 
--- so it was at each of these places, the last one first
-abbrev pub AddsNumbers : {M : Type 0} → (List ℕ → NodeType → List NodeTree → M → Type 0) → List (Place × M) → Place → M → Place → M → Type 0
-AddsNumbers Are [] p before q after = (q ≡ p) × (after ≡ before)
-AddsNumbers Are (one ∷ earlier) p before q after = AddsNumbers Are earlier p before one.0 one.1 × AddsNumber Are one.0 one.1 q after
+-- at these places numbers were taken in turn, the first at p: behind each a comma and the next number, of which the last ends at q
+abbrev pub AreNumbersInTurn : Place → List Place → Place → Type 0
+AreNumbersInTurn p [] q = q ≡ p
+AreNumbersInTurn p (one ∷ more) q = (one ≡ p) × (next : Place) × TakesNumber p next × AreNumbersInTurn next more q
 
--- so it was at some places, or nothing was done
-abbrev pub IsRunAdded : {M : Type 0} → (List ℕ → NodeType → List NodeTree → M → Type 0) → Place → M → Place → M → Type 0
-IsRunAdded {M} Are p before q after = (steps : List (Place × M)) × AddsNumbers Are steps p before q after
-
--- and only where the token that was taken last is a number
-abbrev pub AreNumbersAdded : {M : Type 0} → (List ℕ → NodeType → List NodeTree → M → Type 0) → lex.Token → Place → M → Place → M → Type 0
-AreNumbersAdded {M} Are token p before q after = (steps : List (Place × M)) × AddsNumbers Are steps p before q after × (steps ≢ [] → token ≡ class.Number)
+-- numbers in turn were added to the parts of a list or a tuple, all but the one that ends at q
+pub record AreNumbersAdded {M : Type 0} (Are : List ℕ → NodeType → List NodeTree → M → Type 0) (p : Place) (before : M) (q : Place) (after : M) : Type 0 where
+  pub places : List Place
+  pub turn : AreNumbersInTurn p places q
+  pub added : (of : NodeType) (children : List NodeTree) → ((any : List NodeTree) → TakesPart of any) → Are p.lexer.source of children before
+      → Are q.lexer.source of (children ++ map number_node places) after

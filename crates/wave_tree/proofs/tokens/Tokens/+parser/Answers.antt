@@ -205,14 +205,14 @@ parse_items-items-init g t c = record {
 
 pub parse_items-returns-in_err-parse_part_after_token-clause-led : goal.parse_items-returns-in_err-parse_part_after_token-clause-led
 parse_items-returns-in_err-parse_part_after_token-clause-led g t c = λ n s e.
-    let (at, there, none, due_at, children, first, go) = still_in_items (λ s of cs ps. g.P.Builder.are_parts c.args.builder s of cs ps) c.if-eq-2.ty c.items.invariant.takes c.args.levels (omega arith) c.args.close c.requires c.args.self.now.place c.items.token c.items.self.place c.push_numbers.new.self.place c.items.parts c.push_numbers.new.parts c.items.invariant.from c.in_ok-push_numbers.ensures.kept in
+    let (at, there, none, due_at, children, first, go) = still_in_items c.args.levels (omega arith) c.args.close c.requires c.args.self.now.place (λ s of cs ps. g.P.Builder.are_parts c.args.builder s of cs ps) c.if-eq-2.ty c.items.invariant.takes c.items.token c.items.self.place c.push_numbers.new.self.place c.items.parts c.push_numbers.new.parts c.items.invariant.from c.in_ok-push_numbers.ensures.kept c.in_ok-push_numbers.ensures.only in
     let (d, i, r) = due_at n s e in
     handed s _ _ c.from_residual-in_err-parse_part_after_token.ensures.1 (then_refuses c.in_err-parse_part_after_token.field-0.0 r
     (item_refuses d c.in_err-parse_part_after_token.field-0.0 i (no_close c.args.close s _ c.requires none) (c.in_err-parse_part_after_token.ensures.led at there n (form_of c.args.close ∷ s) (omega arith))))
 
 pub parse_items-returns-then-eq-3-clause-led : goal.parse_items-returns-then-eq-3-clause-led
 parse_items-returns-then-eq-3-clause-led g t c = λ n s e.
-    let (at, there, none, due_at, children, first, go) = still_in_items (λ s of cs ps. g.P.Builder.are_parts c.args.builder s of cs ps) c.if-eq-2.ty c.items.invariant.takes c.args.levels (omega arith) c.args.close c.requires c.args.self.now.place c.items.token c.items.self.place c.push_numbers.new.self.place c.items.parts c.push_numbers.new.parts c.items.invariant.from c.in_ok-push_numbers.ensures.kept in
+    let (at, there, none, due_at, children, first, go) = still_in_items c.args.levels (omega arith) c.args.close c.requires c.args.self.now.place (λ s of cs ps. g.P.Builder.are_parts c.args.builder s of cs ps) c.if-eq-2.ty c.items.invariant.takes c.items.token c.items.self.place c.push_numbers.new.self.place c.items.parts c.push_numbers.new.parts c.items.invariant.from c.in_ok-push_numbers.ensures.kept c.in_ok-push_numbers.ensures.only in
     let (d, i, r) = due_at n s e in
     let item = c.in_ok-parse_part_after_token.ensures.led at there n (form_of c.args.close ∷ s) (omega arith) in
     let behind = behind_item c.args.close c.requires none i r item in
@@ -222,7 +222,7 @@ parse_items-returns-then-eq-3-clause-led g t c = λ n s e.
 
 pub parse_items-returns-then-ne-clause-led : goal.parse_items-returns-then-ne-clause-led
 parse_items-returns-then-ne-clause-led g t c = λ n s e.
-    let (at, there, none, due_at, children, first, go) = still_in_items (λ s of cs ps. g.P.Builder.are_parts c.args.builder s of cs ps) c.if-eq-2.ty c.items.invariant.takes c.args.levels (omega arith) c.args.close c.requires c.args.self.now.place c.items.token c.items.self.place c.push_numbers.new.self.place c.items.parts c.push_numbers.new.parts c.items.invariant.from c.in_ok-push_numbers.ensures.kept in
+    let (at, there, none, due_at, children, first, go) = still_in_items c.args.levels (omega arith) c.args.close c.requires c.args.self.now.place (λ s of cs ps. g.P.Builder.are_parts c.args.builder s of cs ps) c.if-eq-2.ty c.items.invariant.takes c.items.token c.items.self.place c.push_numbers.new.self.place c.items.parts c.push_numbers.new.parts c.items.invariant.from c.in_ok-push_numbers.ensures.kept c.in_ok-push_numbers.ensures.only in
     let (d, i, r) = due_at n s e in
     let item = c.in_ok-parse_part_after_token.ensures.led at there n (form_of c.args.close ∷ s) (omega arith) in
     let behind = behind_item c.args.close c.requires none i r item in
@@ -232,7 +232,7 @@ parse_items-returns-then-ne-clause-led g t c = λ n s e.
 
 pub parse_items-returns-then-eq-4-clause-led : goal.parse_items-returns-then-eq-4-clause-led
 parse_items-returns-then-eq-4-clause-led g t c = λ n s e.
-    let (at, there, none, due_at, children, first, go) = still_in_items (λ s of cs ps. g.P.Builder.are_parts c.args.builder s of cs ps) c.if-eq-2.ty c.items.invariant.takes c.args.levels (omega arith) c.args.close c.requires c.args.self.now.place c.items.token c.items.self.place c.push_numbers.new.self.place c.items.parts c.push_numbers.new.parts c.items.invariant.from c.in_ok-push_numbers.ensures.kept in
+    let (at, there, none, due_at, children, first, go) = still_in_items c.args.levels (omega arith) c.args.close c.requires c.args.self.now.place (λ s of cs ps. g.P.Builder.are_parts c.args.builder s of cs ps) c.if-eq-2.ty c.items.invariant.takes c.items.token c.items.self.place c.push_numbers.new.self.place c.items.parts c.push_numbers.new.parts c.items.invariant.from c.in_ok-push_numbers.ensures.kept c.in_ok-push_numbers.ensures.only in
     let (d, i, r) = due_at n s e in
     let item = c.in_ok-parse_part_after_token.ensures.led at there n (form_of c.args.close ∷ s) (omega arith) in
     let behind = behind_item c.args.close c.requires none i r item in
@@ -242,9 +242,9 @@ parse_items-returns-then-eq-4-clause-led g t c = λ n s e.
 
 pub parse_items-items-smaller : goal.parse_items-items-smaller
 parse_items-items-smaller g t c =
-    let (at, there, none, due_at, children, first, go) = still_in_items (λ s of cs ps. g.P.Builder.are_parts c.args.builder s of cs ps) c.if-eq-2.ty c.items.invariant.takes c.args.levels (omega arith) c.args.close c.requires c.args.self.now.place c.items.token c.items.self.place c.push_numbers.new.self.place c.items.parts c.push_numbers.new.parts c.items.invariant.from c.in_ok-push_numbers.ensures.kept in
+    let (at, there, none, due_at, children, first, go) = still_in_items c.args.levels (omega arith) c.args.close c.requires c.args.self.now.place (λ s of cs ps. g.P.Builder.are_parts c.args.builder s of cs ps) c.if-eq-2.ty c.items.invariant.takes c.items.token c.items.self.place c.push_numbers.new.self.place c.items.parts c.push_numbers.new.parts c.items.invariant.from c.in_ok-push_numbers.ensures.kept c.in_ok-push_numbers.ensures.only in
     let item = c.in_ok-parse_part_after_token.ensures.led at there (c.args.levels + 1 + 0) (form_of c.args.close ∷ []) (omega arith) in
-    let zero = numbers_less (λ s of cs ps. g.P.Builder.are_parts c.args.builder s of cs ps) c.in_ok-push_numbers.ensures.kept.0 c.items.self.place c.push_numbers.new.self.place c.items.parts c.push_numbers.new.parts c.in_ok-push_numbers.ensures.kept.1 in
+    let zero = numbers_less c.in_ok-push_numbers.ensures.kept.places c.items.self.place c.push_numbers.new.self.place c.in_ok-push_numbers.ensures.kept.turn in
     let one = value_less at c.push_numbers.new.self.place c.parse_part_after_token.new.self.place c.items.token there item in
     let two = token_less _ _ c.in-Token.mark c.in-Token.ensures.takes in
     let three = token_less _ _ c.in-Token-item.next c.in-Token-item.ensures.takes in
@@ -264,27 +264,27 @@ parse_items-returns-in_err-push_numbers-clause-asks g t c =
 
 pub parse_items-returns-in_err-parse_part_after_token-clause-asks : goal.parse_items-returns-in_err-parse_part_after_token-clause-asks
 parse_items-returns-in_err-parse_part_after_token-clause-asks g t c =
-    let (at, there, none, due_at, children, first, go) = still_in_items (λ s of cs ps. g.P.Builder.are_parts c.args.builder s of cs ps) c.if-eq-2.ty c.items.invariant.takes c.args.levels (omega arith) c.args.close c.requires c.args.self.now.place c.items.token c.items.self.place c.push_numbers.new.self.place c.items.parts c.push_numbers.new.parts c.items.invariant.from c.in_ok-push_numbers.ensures.kept in
+    let (at, there, none, due_at, children, first, go) = still_in_items c.args.levels (omega arith) c.args.close c.requires c.args.self.now.place (λ s of cs ps. g.P.Builder.are_parts c.args.builder s of cs ps) c.if-eq-2.ty c.items.invariant.takes c.items.token c.items.self.place c.push_numbers.new.self.place c.items.parts c.push_numbers.new.parts c.items.invariant.from c.in_ok-push_numbers.ensures.kept c.in_ok-push_numbers.ensures.only in
     asks_begun c.args.levels c.args.close c.items.token c.args.self.now c.push_numbers.new.self c.parse_part_after_token.new.self at due_at there (asks_in_items (λ s cs ps. g.P.Builder.are_parts c.args.builder s c.if-eq-2.ty cs ps) c.args.levels c.args.close c.items.token c.items.parts c.args.self.now c.items.self c.push_numbers.new.self c.items.invariant.from c.items.invariant.asks c.push_numbers.ensures.asks) c.parse_part_after_token.ensures.asks
 
 pub parse_items-returns-then-eq-3-clause-asks : goal.parse_items-returns-then-eq-3-clause-asks
 parse_items-returns-then-eq-3-clause-asks g t c =
-    let (at, there, none, due_at, children, first, go) = still_in_items (λ s of cs ps. g.P.Builder.are_parts c.args.builder s of cs ps) c.if-eq-2.ty c.items.invariant.takes c.args.levels (omega arith) c.args.close c.requires c.args.self.now.place c.items.token c.items.self.place c.push_numbers.new.self.place c.items.parts c.push_numbers.new.parts c.items.invariant.from c.in_ok-push_numbers.ensures.kept in
+    let (at, there, none, due_at, children, first, go) = still_in_items c.args.levels (omega arith) c.args.close c.requires c.args.self.now.place (λ s of cs ps. g.P.Builder.are_parts c.args.builder s of cs ps) c.if-eq-2.ty c.items.invariant.takes c.items.token c.items.self.place c.push_numbers.new.self.place c.items.parts c.push_numbers.new.parts c.items.invariant.from c.in_ok-push_numbers.ensures.kept c.in_ok-push_numbers.ensures.only in
     asks_item c.args.levels c.args.close c.args.self.now c.parse_part_after_token.new.self c.take-item.new.self at c.requires none due_at (c.in_ok-parse_part_after_token.ensures.led at there) (asks_begun c.args.levels c.args.close c.items.token c.args.self.now c.push_numbers.new.self c.parse_part_after_token.new.self at due_at there (asks_in_items (λ s cs ps. g.P.Builder.are_parts c.args.builder s c.if-eq-2.ty cs ps) c.args.levels c.args.close c.items.token c.items.parts c.args.self.now c.items.self c.push_numbers.new.self c.items.invariant.from c.items.invariant.asks c.push_numbers.ensures.asks) c.parse_part_after_token.ensures.asks) (asks_once c.parse_part_after_token.new.self c.take-item.new.self c.take-item.ensures.asks)
 
 pub parse_items-returns-then-ne-clause-asks : goal.parse_items-returns-then-ne-clause-asks
 parse_items-returns-then-ne-clause-asks g t c =
-    let (at, there, none, due_at, children, first, go) = still_in_items (λ s of cs ps. g.P.Builder.are_parts c.args.builder s of cs ps) c.if-eq-2.ty c.items.invariant.takes c.args.levels (omega arith) c.args.close c.requires c.args.self.now.place c.items.token c.items.self.place c.push_numbers.new.self.place c.items.parts c.push_numbers.new.parts c.items.invariant.from c.in_ok-push_numbers.ensures.kept in
+    let (at, there, none, due_at, children, first, go) = still_in_items c.args.levels (omega arith) c.args.close c.requires c.args.self.now.place (λ s of cs ps. g.P.Builder.are_parts c.args.builder s of cs ps) c.if-eq-2.ty c.items.invariant.takes c.items.token c.items.self.place c.push_numbers.new.self.place c.items.parts c.push_numbers.new.parts c.items.invariant.from c.in_ok-push_numbers.ensures.kept c.in_ok-push_numbers.ensures.only in
     asks_item c.args.levels c.args.close c.args.self.now c.parse_part_after_token.new.self c.take-item.new.self at c.requires none due_at (c.in_ok-parse_part_after_token.ensures.led at there) (asks_begun c.args.levels c.args.close c.items.token c.args.self.now c.push_numbers.new.self c.parse_part_after_token.new.self at due_at there (asks_in_items (λ s cs ps. g.P.Builder.are_parts c.args.builder s c.if-eq-2.ty cs ps) c.args.levels c.args.close c.items.token c.items.parts c.args.self.now c.items.self c.push_numbers.new.self c.items.invariant.from c.items.invariant.asks c.push_numbers.ensures.asks) c.parse_part_after_token.ensures.asks) (asks_once c.parse_part_after_token.new.self c.take-item.new.self c.take-item.ensures.asks)
 
 pub parse_items-returns-then-eq-4-clause-asks : goal.parse_items-returns-then-eq-4-clause-asks
 parse_items-returns-then-eq-4-clause-asks g t c =
-    let (at, there, none, due_at, children, first, go) = still_in_items (λ s of cs ps. g.P.Builder.are_parts c.args.builder s of cs ps) c.if-eq-2.ty c.items.invariant.takes c.args.levels (omega arith) c.args.close c.requires c.args.self.now.place c.items.token c.items.self.place c.push_numbers.new.self.place c.items.parts c.push_numbers.new.parts c.items.invariant.from c.in_ok-push_numbers.ensures.kept in
+    let (at, there, none, due_at, children, first, go) = still_in_items c.args.levels (omega arith) c.args.close c.requires c.args.self.now.place (λ s of cs ps. g.P.Builder.are_parts c.args.builder s of cs ps) c.if-eq-2.ty c.items.invariant.takes c.items.token c.items.self.place c.push_numbers.new.self.place c.items.parts c.push_numbers.new.parts c.items.invariant.from c.in_ok-push_numbers.ensures.kept c.in_ok-push_numbers.ensures.only in
     asks_item c.args.levels c.args.close c.args.self.now c.parse_part_after_token.new.self c.take-item-in-items.new.self at c.requires none due_at (c.in_ok-parse_part_after_token.ensures.led at there) (asks_begun c.args.levels c.args.close c.items.token c.args.self.now c.push_numbers.new.self c.parse_part_after_token.new.self at due_at there (asks_in_items (λ s cs ps. g.P.Builder.are_parts c.args.builder s c.if-eq-2.ty cs ps) c.args.levels c.args.close c.items.token c.items.parts c.args.self.now c.items.self c.push_numbers.new.self c.items.invariant.from c.items.invariant.asks c.push_numbers.ensures.asks) c.parse_part_after_token.ensures.asks) (asks_token c.parse_part_after_token.new.self c.take-item.new.self c.take-item-in-items.new.self c.in-Token.mark c.in-Token.ensures.takes c.take-item.ensures.asks (asks_once c.take-item.new.self c.take-item-in-items.new.self c.take-item-in-items.ensures.asks))
 
 pub parse_items-returns-then-eq-3-clause-tree : goal.parse_items-returns-then-eq-3-clause-tree
 parse_items-returns-then-eq-3-clause-tree g t c =
-    let (at, there, none, due_at, children, first, go) = still_in_items (λ s of cs ps. g.P.Builder.are_parts c.args.builder s of cs ps) c.if-eq-2.ty c.items.invariant.takes c.args.levels (omega arith) c.args.close c.requires c.args.self.now.place c.items.token c.items.self.place c.push_numbers.new.self.place c.items.parts c.push_numbers.new.parts c.items.invariant.from c.in_ok-push_numbers.ensures.kept in
+    let (at, there, none, due_at, children, first, go) = still_in_items c.args.levels (omega arith) c.args.close c.requires c.args.self.now.place (λ s of cs ps. g.P.Builder.are_parts c.args.builder s of cs ps) c.if-eq-2.ty c.items.invariant.takes c.items.token c.items.self.place c.push_numbers.new.self.place c.items.parts c.push_numbers.new.parts c.items.invariant.from c.in_ok-push_numbers.ensures.kept c.in_ok-push_numbers.ensures.only in
     let (d, i, r) = due_at (c.args.levels + 1) [] (omega arith) in
     let here : at.lexer.source ≡ c.args.self.now.place.lexer.source = source_reached r in
     let part_due = c.items.invariant.takes children in
@@ -299,7 +299,7 @@ parse_items-returns-then-eq-3-clause-tree g t c =
 
 pub parse_items-returns-then-eq-4-clause-tree : goal.parse_items-returns-then-eq-4-clause-tree
 parse_items-returns-then-eq-4-clause-tree g t c =
-    let (at, there, none, due_at, children, first, go) = still_in_items (λ s of cs ps. g.P.Builder.are_parts c.args.builder s of cs ps) c.if-eq-2.ty c.items.invariant.takes c.args.levels (omega arith) c.args.close c.requires c.args.self.now.place c.items.token c.items.self.place c.push_numbers.new.self.place c.items.parts c.push_numbers.new.parts c.items.invariant.from c.in_ok-push_numbers.ensures.kept in
+    let (at, there, none, due_at, children, first, go) = still_in_items c.args.levels (omega arith) c.args.close c.requires c.args.self.now.place (λ s of cs ps. g.P.Builder.are_parts c.args.builder s of cs ps) c.if-eq-2.ty c.items.invariant.takes c.items.token c.items.self.place c.push_numbers.new.self.place c.items.parts c.push_numbers.new.parts c.items.invariant.from c.in_ok-push_numbers.ensures.kept c.in_ok-push_numbers.ensures.only in
     let (d, i, r) = due_at (c.args.levels + 1) [] (omega arith) in
     let here : at.lexer.source ≡ c.args.self.now.place.lexer.source = source_reached r in
     let part_due = c.items.invariant.takes children in
@@ -319,7 +319,7 @@ parse_items-returns-then-eq-4-clause-tree g t c =
 
 pub parse_items-items-preserved : goal.parse_items-items-preserved
 parse_items-items-preserved g t c =
-    let (at, there, none, due_at, children, first, go) = still_in_items (λ s of cs ps. g.P.Builder.are_parts c.args.builder s of cs ps) c.if-eq-2.ty c.items.invariant.takes c.args.levels (omega arith) c.args.close c.requires c.args.self.now.place c.items.token c.items.self.place c.push_numbers.new.self.place c.items.parts c.push_numbers.new.parts c.items.invariant.from c.in_ok-push_numbers.ensures.kept in
+    let (at, there, none, due_at, children, first, go) = still_in_items c.args.levels (omega arith) c.args.close c.requires c.args.self.now.place (λ s of cs ps. g.P.Builder.are_parts c.args.builder s of cs ps) c.if-eq-2.ty c.items.invariant.takes c.items.token c.items.self.place c.push_numbers.new.self.place c.items.parts c.push_numbers.new.parts c.items.invariant.from c.in_ok-push_numbers.ensures.kept c.in_ok-push_numbers.ensures.only in
     let (d, i, r) = due_at (c.args.levels + 1) [] (omega arith) in
     let here : at.lexer.source ≡ c.args.self.now.place.lexer.source = source_reached r in
     let part_due = c.items.invariant.takes children in
@@ -346,13 +346,13 @@ parse_items-items-preserved g t c =
 
 pub parse_items-returns-in_err-parse_part_after_token-clause-memory : goal.parse_items-returns-in_err-parse_part_after_token-clause-memory
 parse_items-returns-in_err-parse_part_after_token-clause-memory g t c = error_handed (OnlyOutOfMemory (g.P.Builder.takes_memory c.args.builder) c.args.self.now.place) c.from_residual-in_err-parse_part_after_token.result c.in_err-parse_part_after_token.field-0.0 c.from_residual-in_err-parse_part_after_token.ensures.1
-    (let (at, there, none, due_at, children, first, go) = still_in_items (λ s of cs ps. g.P.Builder.are_parts c.args.builder s of cs ps) c.if-eq-2.ty c.items.invariant.takes c.args.levels (omega arith) c.args.close c.requires c.args.self.now.place c.items.token c.items.self.place c.push_numbers.new.self.place c.items.parts c.push_numbers.new.parts c.items.invariant.from c.in_ok-push_numbers.ensures.kept in
+    (let (at, there, none, due_at, children, first, go) = still_in_items c.args.levels (omega arith) c.args.close c.requires c.args.self.now.place (λ s of cs ps. g.P.Builder.are_parts c.args.builder s of cs ps) c.if-eq-2.ty c.items.invariant.takes c.items.token c.items.self.place c.push_numbers.new.self.place c.items.parts c.push_numbers.new.parts c.items.invariant.from c.in_ok-push_numbers.ensures.kept c.in_ok-push_numbers.ensures.only in
     let (d, i, r) = due_at (c.args.levels + 1) [] (omega arith) in
     wants_reached (g.P.Builder.takes_memory c.args.builder) c.in_err-parse_part_after_token.field-0.0 r (c.in_err-parse_part_after_token.ensures.memory at there c.args.self.now.place.lexer.source c.if-eq-2.ty children first))
 
 pub parse_items-whole-requires : goal.parse_items-whole-requires
 parse_items-whole-requires g t c =
-    let (at, there, none, due_at, children, first, go) = still_in_items (λ s of cs ps. g.P.Builder.are_parts c.args.builder s of cs ps) c.if-eq-2.ty c.items.invariant.takes c.args.levels (omega arith) c.args.close c.requires c.args.self.now.place c.items.token c.items.self.place c.push_numbers.new.self.place c.items.parts c.push_numbers.new.parts c.items.invariant.from c.in_ok-push_numbers.ensures.kept in
+    let (at, there, none, due_at, children, first, go) = still_in_items c.args.levels (omega arith) c.args.close c.requires c.args.self.now.place (λ s of cs ps. g.P.Builder.are_parts c.args.builder s of cs ps) c.if-eq-2.ty c.items.invariant.takes c.items.token c.items.self.place c.push_numbers.new.self.place c.items.parts c.push_numbers.new.parts c.items.invariant.from c.in_ok-push_numbers.ensures.kept c.in_ok-push_numbers.ensures.only in
     let (d, i, r) = due_at (c.args.levels + 1) [] (omega arith) in
     let here : at.lexer.source ≡ c.args.self.now.place.lexer.source = source_reached r in
     let part_due = c.items.invariant.takes children in
@@ -361,7 +361,7 @@ parse_items-whole-requires g t c =
 
 pub parse_items-whole-requires-then-eq-4 : goal.parse_items-whole-requires-then-eq-4
 parse_items-whole-requires-then-eq-4 g t c =
-    let (at, there, none, due_at, children, first, go) = still_in_items (λ s of cs ps. g.P.Builder.are_parts c.args.builder s of cs ps) c.if-eq-2.ty c.items.invariant.takes c.args.levels (omega arith) c.args.close c.requires c.args.self.now.place c.items.token c.items.self.place c.push_numbers.new.self.place c.items.parts c.push_numbers.new.parts c.items.invariant.from c.in_ok-push_numbers.ensures.kept in
+    let (at, there, none, due_at, children, first, go) = still_in_items c.args.levels (omega arith) c.args.close c.requires c.args.self.now.place (λ s of cs ps. g.P.Builder.are_parts c.args.builder s of cs ps) c.if-eq-2.ty c.items.invariant.takes c.items.token c.items.self.place c.push_numbers.new.self.place c.items.parts c.push_numbers.new.parts c.items.invariant.from c.in_ok-push_numbers.ensures.kept c.in_ok-push_numbers.ensures.only in
     let (d, i, r) = due_at (c.args.levels + 1) [] (omega arith) in
     let here : at.lexer.source ≡ c.args.self.now.place.lexer.source = source_reached r in
     let part_due = c.items.invariant.takes children in
@@ -370,7 +370,7 @@ parse_items-whole-requires-then-eq-4 g t c =
 
 pub parse_items-returns-in_default : goal.parse_items-returns-in_default
 parse_items-returns-in_default g t c =
-    let (at, there, none, due_at, children, first, go) = still_in_items (λ s of cs ps. g.P.Builder.are_parts c.args.builder s of cs ps) c.if-eq-2.ty c.items.invariant.takes c.args.levels (omega arith) c.args.close c.requires c.args.self.now.place c.items.token c.items.self.place c.push_numbers.new.self.place c.items.parts c.push_numbers.new.parts c.items.invariant.from c.in_ok-push_numbers.ensures.kept in
+    let (at, there, none, due_at, children, first, go) = still_in_items c.args.levels (omega arith) c.args.close c.requires c.args.self.now.place (λ s of cs ps. g.P.Builder.are_parts c.args.builder s of cs ps) c.if-eq-2.ty c.items.invariant.takes c.items.token c.items.self.place c.push_numbers.new.self.place c.items.parts c.push_numbers.new.parts c.items.invariant.from c.in_ok-push_numbers.ensures.kept c.in_ok-push_numbers.ensures.only in
     record {
       led = λ n s e.
           let (d, i, r) = due_at n s e in
@@ -385,7 +385,7 @@ parse_items-returns-in_default g t c =
 
 pub parse_items-returns-in_default-item : goal.parse_items-returns-in_default-item
 parse_items-returns-in_default-item g t c =
-    let (at, there, none, due_at, children, first, go) = still_in_items (λ s of cs ps. g.P.Builder.are_parts c.args.builder s of cs ps) c.if-eq-2.ty c.items.invariant.takes c.args.levels (omega arith) c.args.close c.requires c.args.self.now.place c.items.token c.items.self.place c.push_numbers.new.self.place c.items.parts c.push_numbers.new.parts c.items.invariant.from c.in_ok-push_numbers.ensures.kept in
+    let (at, there, none, due_at, children, first, go) = still_in_items c.args.levels (omega arith) c.args.close c.requires c.args.self.now.place (λ s of cs ps. g.P.Builder.are_parts c.args.builder s of cs ps) c.if-eq-2.ty c.items.invariant.takes c.items.token c.items.self.place c.push_numbers.new.self.place c.items.parts c.push_numbers.new.parts c.items.invariant.from c.in_ok-push_numbers.ensures.kept c.in_ok-push_numbers.ensures.only in
     record {
       led = λ n s e.
           let (d, i, r) = due_at n s e in
