@@ -1,5 +1,5 @@
 -- Which whole number the text of a number token is.
-use Rattle.std.specs.Prelude.{ℕ, ℤ, pos, neg_ℤ, ◌≡◌, ◌+◌, ◌-◌, ◌*◌, ◌^◌, ◌<◌, ◌≤◌, ◌==◌}
+use Rattle.std.specs.Prelude.{ℕ, ℤ, pos, neg_ℤ, ◌≡◌, ◌+◌, ◌-◌, ◌*◌, ◌==◌}
 use Rattle.std.specs.Prelude.{nat_le, ◌&&◌, true, false, if◌then◌else◌, List, [], ◌∷◌, Option, Some, None, option_map}
 use Rattle.wave_wasm.specs.Types.{Whole}
 use Rattle.wave_wasm.specs.Numbers.{is_signed, IsInRange}

@@ -1,5 +1,5 @@
 -- How the parts of a string are put together to its text, and what stands between the quotes of a char.
-use Rattle.std.specs.Prelude.{ℕ, ℤ, ◌≡◌, ◌≢◌, ◌⊎◌, ◌+◌, ◌++◌, List, [], ◌∷◌, Option, Some, None, encode_utf8, ◌≤◌, Result, Ok, Err}
+use Rattle.std.specs.Prelude.{ℕ, ◌≡◌, ◌≢◌, ◌⊎◌, ◌++◌, List, [], Option, Some, None, encode_utf8, Result, Ok, Err}
 use Rattle.std.specs.Char.{IsScalar}
 use Rattle.wave_lex.specs.Tokens.{backslash}
 use Rattle.wave_lex.specs.Strings.{IsEscape}

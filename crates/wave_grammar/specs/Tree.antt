@@ -1,6 +1,6 @@
 -- The tree of a text that is read without a type.
 use Rattle.std.specs.Prelude.{ℕ, zero, suc, ◌+◌, ◌<◌, ◌≡◌, ◌≢◌, ◌⊎◌, ◌++◌, max}
-use Rattle.std.specs.Prelude.{Bool, true, false, if◌then◌else◌, List, [], ◌∷◌, map, length, codes, nat_lt, ◌||◌}
+use Rattle.std.specs.Prelude.{Bool, true, false, if◌then◌else◌, List, [], ◌∷◌, map, length, codes, nat_lt}
 use Rattle.std.specs.Str.{bytes_eq}
 use Rattle.wave_wasm.specs.Names.{AreDistinct, is_one_of}
 use Rattle.wave_wasm.specs.Keywords.{case_label}
@@ -12,7 +12,7 @@ use Rattle.wave_grammar.specs.Token as token
 use Rattle.wave_grammar.specs.LeafTokens.{name_of}
 use Rattle.wave_grammar.specs.CommaSeparated.{Spelling, Items}
 use Rattle.wave_grammar.specs.TypedGrammar.{InParens, Never}
-use Rattle.std.proofs.Common.{ℕ, ◌-◌, ◌<◌, ◌≡◌, ◌≢◌, List, [], ◌∷◌, ◌∙◌}
+use Rattle.std.proofs.Common.{ℕ, ◌<◌, ◌≡◌, ◌≢◌, List, [], ◌∷◌}
 
 mutual
   -- a tree

@@ -1,10 +1,9 @@
 -- Fields that are found by their names.
-use Rattle.std.proofs.Common.{ℕ, ◌≡◌, ◌≢◌, ◌⊎◌, inl, inr, ◌<◌, ◌≤◌, ◌+◌, ◌*◌, ◌/◌, Bool, true, false, if◌then◌else◌, List, [], ◌∷◌, ◌++◌, Some, None, refl, ◌∙◌}
+use Rattle.std.proofs.Common.{ℕ, ◌≡◌, ◌⊎◌, inl, inr, Bool, true, false, if◌then◌else◌, List, [], ◌∷◌, Some, None, refl}
 use Rattle.std.specs.Str.{bytes_eq}
 use Rattle.std.proofs.lemmas.Slice.Eq.{bytes_eq-Decides}
 use Rattle.wave_wasm.specs.Names.{IsOneOf, IsNoneOf}
 use Rattle.wave_grammar.specs.TypedGrammar.{look_up, names_of}
-use Rattle.wave_grammar.specs.SpannedTree.{one}
 
 -- a name that is found is one of the names
 pub is_found : {A : Type 0} (fs : List (List ℕ × A)) (name : List ℕ) (x : A) → look_up fs name ≡ Some x → IsOneOf (names_of fs) name

@@ -7,7 +7,7 @@ use Rattle.wave_wasm.specs.Types.{Simple, Whole}
 use Rattle.wave_wasm.specs.Numbers.{IsInRange}
 use Rattle.wave_wasm.specs.Values as value
 use Rattle.wave_wasm.specs.Values.{Leaf}
-use Rattle.wave_wasm.specs.Text.{text, leaf_text}
+use Rattle.wave_wasm.specs.Text.{leaf_text}
 use Rattle.wave_lex.specs.declared.lex.Token.TheVariants as class
 use Rattle.wave_lex.specs.Tokens.{label_or_keyword}
 use Rattle.wave_lex.proofs.RegularShapes.Derivatives.{matches_from}

@@ -7,7 +7,7 @@ use Rattle.wave_lex.specs.declared.strings.StringPart.{StringPart}
 use Rattle.wave_lex.specs.declared.strings.StringPart.TheVariants.{Run, Char}
 use Rattle.wave_lex.specs.Errors.{Diagnostic}
 use Rattle.wave_lex.specs.Remaining.{Undecoded, LinesLeft}
-use Rattle.wave_lex.specs.Parts.{part_text, part_texts, PartIs, LinePartIs, LinesRunTo, LinesRun}
+use Rattle.wave_lex.specs.Parts.{part_text, part_texts, PartIs, LinePartIs, LinesRunTo}
 use Rattle.wave_lex.proofs.MultilineStrings.JoinedLines.{run_more, run_ended, run_refused, texts_more}
 use Rattle.wave_lex.proofs.StringDecoding.OneMeaning.{escape_head}
 use Rattle.wave_wasm.specs.Lists.{AllOf}

@@ -1,6 +1,6 @@
 -- Which whole number the text of a number token is.
-use Rattle.std.specs.Prelude.{ℕ, ℤ, ◌≡◌, ◌+◌, ◌-◌, ◌*◌, ◌^◌, ◌<◌, ◌≤◌, ◌==◌, ◌&&◌, if◌then◌else◌, List, [], ◌∷◌, Option, Some, None}
-use Rattle.wave_grammar.specs.NumberText.{all_digits, digits}
+use Rattle.std.specs.Prelude.{ℕ, ◌≡◌, ◌^◌, ◌<◌, ◌≤◌, List, Option, Some, None}
+use Rattle.wave_grammar.specs.NumberText.{all_digits}
 
 -- the digits stand for a number of 64 bits, and this one; or they don't
 abbrev pub IsMagnitude : List ℕ → Option ℕ → Type 0

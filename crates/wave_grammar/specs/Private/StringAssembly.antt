@@ -1,5 +1,5 @@
 -- How the parts of a string are put together to its text, and what stands between the quotes of a char.
-use Rattle.std.specs.Prelude.{ℕ, ℤ, ◌≡◌, ◌≢◌, ◌⊎◌, ◌+◌, ◌++◌, List, [], ◌∷◌, ◌≤◌}
+use Rattle.std.specs.Prelude.{ℕ, ◌≡◌, ◌++◌, List, []}
 use Rattle.wave_lex.specs.declared.strings.StringPart.{StringPart}
 use Rattle.wave_lex.specs.Remaining.{LinesLeft}
 use Rattle.wave_lex.specs.Parts.{part_texts, NoPartNext, LinesRun}
