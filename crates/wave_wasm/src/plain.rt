@@ -1,29 +1,39 @@
-//! Texts that stand for themselves between quotes, told by their bytes.
-ghost use Rattle.std.specs.Prelude.{◌≡◌, ℕ, ◌<◌, true, length, slice_index};
-ghost use Rattle.std.specs.Bool.{OnTrue};
-ghost use Rattle.std.specs.List.{flat_map};
-ghost use Rattle.std.specs.Str.{chars};
-ghost use Rattle.wave_wasm.specs.Text.{escaped};
+//! Runs of bytes that stand for themselves between quotes.
+ghost use Rattle.std.specs.Prelude.{◌≡◌, ℕ, ◌≤◌, ◌<◌, true, false, length, slice_index};
 ghost use Rattle.wave_wasm.specs.Private.Text.{is_plain_byte};
 
-/// Whether the text is of ASCII, and each scalar of it stands for itself between quotes.
-#[tactic(auto, using(crate::proofs::Escapes::PlainBytes::plain_stands))]
-pub fn stands_for_itself(text: &str) -> bool
-    ensures { OnTrue result (flat_map escaped (chars text.now) ≡ text.now) }
+/// Where the bytes of ASCII from a place on that stand for themselves between quotes end: the place of
+/// the first other byte, or of the end.
+pub fn plain_end(bytes: &[u8], from: usize) -> usize
+    requires { from ≤ length bytes.now }
+    ensures within { (from ≤ result) × (result ≤ length bytes.now) }
+    ensures plain { (i : ℕ) → from ≤ i → i < result → is_plain_byte (slice_index bytes.now i) ≡ true }
+    ensures longest { result < length bytes.now → is_plain_byte (slice_index bytes.now result) ≡ false }
 {
-    are_plain(text.as_bytes())
-}
-
-/// Whether each byte is of ASCII and stands for itself between quotes.
-fn are_plain(bytes: &[u8]) -> bool
-    ensures { OnTrue result ((i : ℕ) → i < length bytes.now → is_plain_byte (slice_index bytes.now i) ≡ true) }
-{
-    for byte in bytes {
-        if !is_plain_byte(*byte) {
-            return false;
+    for at in fours_end(bytes, from)..bytes.len() {
+        if !is_plain_byte(bytes[at]) {
+            return at;
         }
     }
-    true
+    bytes.len()
+}
+
+/// Where four such bytes at a time end.
+fn fours_end(bytes: &[u8], from: usize) -> usize
+    requires { from ≤ length bytes.now }
+    ensures within { (from ≤ result) × (result ≤ length bytes.now) }
+    ensures plain { (i : ℕ) → from ≤ i → i < result → is_plain_byte (slice_index bytes.now i) ≡ true }
+{
+    let mut at = from;
+    while bytes.len() - at >= 4
+        && is_plain_byte(bytes[at])
+        && is_plain_byte(bytes[at + 1])
+        && is_plain_byte(bytes[at + 2])
+        && is_plain_byte(bytes[at + 3])
+    {
+        at += 4;
+    }
+    at
 }
 
 /// A point at the place of each byte of ASCII that stands for itself between quotes, and a comma at every

@@ -1,7 +1,7 @@
 //! The canonical text of values.
 use crate::fingerprints::{all_differ, fingerprint};
 use crate::keyword::Keyword;
-use crate::plain::stands_for_itself;
+use crate::plain::plain_end;
 use crate::wasm::{WasmTypeKind, WasmValue};
 use itoa::{Buffer, Integer};
 use std::alloc::{AllocError, AllocFailed, Global};
@@ -88,6 +88,7 @@ impl TextWrite for String {
 
     ghost output = { λ s. record { written = string_bytes s; failures = 0 } };
 
+    #[inline(always)]
     fn write_str(&mut self, s: &str) -> Result<(), WriterError> {
         self.push_str(s)?;
         Ok(())
@@ -149,6 +150,7 @@ impl<W: TextWrite> Writer<W> {
     /// Appends the canonical text of the value. `UnsupportedType` is answered only where it has
     /// none, `Io` only where a write failed; a beginning of the text may stand then.
     #[cycle(write)]
+    #[inline(always)]
     pub fn write_value<V: WasmValue>(&mut self, alloc: Global, val: &V) -> Result<(), WriterError>
         ensures ok { OnOk result
             (Appended (text (V.tree val.now)) (W.output self.old) (W.output self.new)) }
@@ -368,9 +370,7 @@ impl<W: TextWrite> Writer<W> {
         ensures { Writes (text (V.tree val.now)) true result (W.output self.old) (W.output self.new) }
     {
         match val.kind() {
-            WasmTypeKind::Bool => {
-                self.write_text(if val.unwrap_bool() { "true" } else { "false" })
-            }
+            WasmTypeKind::Bool => self.write_either(val.unwrap_bool(), "true", "false"),
             WasmTypeKind::S8 => self.write_number(val.unwrap_s8()),
             WasmTypeKind::S16 => self.write_number(val.unwrap_s16()),
             WasmTypeKind::S32 => self.write_number(val.unwrap_s32()),
@@ -408,29 +408,19 @@ impl<W: TextWrite> Writer<W> {
     fn write_string(&mut self, s: &str) -> Result<(), WriterError>
         ensures { Writes (quoted s.now) true result (W.output self.old) (W.output self.new) }
     {
-        if stands_for_itself(s) {
-            return self.write_plain_string(s);
-        }
         self.write_text("\"")?;
         let mut start = 0;
-        for (at, c) in s.char_indices() {
+        let mut at = plain_end(s.as_bytes(), 0);
+        while let Some(c) = s[at..].chars().next() {
+            let next = at + c.len_utf8();
             if !is_plain(c) {
                 self.write_run(&s[start..at])?;
                 self.write_scalar(c)?;
-                start = at + c.len_utf8();
+                start = next;
             }
+            at = plain_end(s.as_bytes(), next);
         }
         self.write_run(&s[start..])?;
-        self.write_text("\"")
-    }
-
-    /// Writes a text that stands for itself, between double quotes.
-    fn write_plain_string(&mut self, s: &str) -> Result<(), WriterError>
-        requires { flat_map escaped (chars s.now) ≡ s.now }
-        ensures { Writes (quoted s.now) true result (W.output self.old) (W.output self.new) }
-    {
-        self.write_text("\"")?;
-        self.write_text(s)?;
         self.write_text("\"")
     }
 
@@ -470,12 +460,14 @@ impl<W: TextWrite> Writer<W> {
         Ok(())
     }
 
+    #[inline(always)]
     fn write_separator(&mut self, later: bool) -> Result<(), WriterError>
         ensures { Writes (comma_if later) true result (W.output self.old) (W.output self.new) }
     {
         if later { self.write_text(", ") } else { Ok(()) }
     }
 
+    #[inline(always)]
     fn write_either(&mut self, first: bool, a: &str, b: &str) -> Result<(), WriterError>
         ensures { Writes (if first then a.now else b.now) true result (W.output self.old) (W.output self.new) }
     {
@@ -486,6 +478,7 @@ impl<W: TextWrite> Writer<W> {
         }
     }
 
+    #[inline(always)]
     fn write_text(&mut self, s: &str) -> Result<(), WriterError>
         ensures { Writes s.now true result (W.output self.old) (W.output self.new) }
     {

@@ -1,15 +1,10 @@
 -- Bytes of ASCII that stand for themselves between quotes.
-use Rattle.std.proofs.Common.{ℕ, ◌≡◌, ◌<◌, zero, suc, length, All, List, [], ◌∷◌, ◌++◌, Bool, true, false, inl, inr, refl, sym, ap, subst, ◌∙◌, arith, get_or, nat_eq, bytes_eq}
+use Rattle.std.proofs.Common.{ℕ, ◌≡◌, ◌<◌, zero, suc, [], ◌∷◌, Bool, true, false, inl, inr, refl, sym, subst, arith, get_or, nat_eq, bytes_eq}
 use Rattle.std.specs.Prelude.{not, ◌&&◌, ◌||◌}
 use Rattle.std.specs.Char.{is_ascii, is_ascii_control}
-use Rattle.std.specs.List.{flat_map}
-use Rattle.std.specs.Str.{chars}
 use Rattle.std.proofs.lemmas.Bool.{cases_lt}
 use Rattle.std.proofs.lemmas.Bool.Decides.{nat_tests}
 use Rattle.std.proofs.lemmas.Slice.Eq.{bytes_eq-Decides}
-use Rattle.std.proofs.lemmas.Str.{chars-IsAscii}
-use Rattle.std.proofs.lemmas.List.{get_or_default}
-use Rattle.std.proofs.lemmas.Str.Ascii.{IsAscii-from_all}
 use Rattle.ucd_category.proofs.Computing.{ucd_category}
 use Rattle.wave_wasm.specs.declared.plain.TheConstants.{PLAINS}
 use Rattle.wave_wasm.specs.Text.{escaped, is_escaped}
@@ -55,31 +50,12 @@ unfolding escaped ucd_category lib.Utf8.encode
 plain_computed = refl
 
 -- a plain byte is ASCII
-plain_below : (b : ℕ) → is_plain_byte b ≡ true → b < 127
+pub plain_below : (b : ℕ) → is_plain_byte b ≡ true → b < 127
 plain_below b e = grind (arith, nat_tests)
 
 -- and it is written as it is
-plain_escaped : (b : ℕ) → is_plain_byte b ≡ true → escaped b ≡ b ∷ []
+pub plain_escaped : (b : ℕ) → is_plain_byte b ≡ true → escaped b ≡ b ∷ []
 plain_escaped b e = (bytes_eq-Decides (escaped b) (b ∷ [])).0 (where_true _ _ (each_below_at 127 b (λ x. not (is_plain_byte x) || bytes_eq (escaped x) (x ∷ [])) plain_computed (plain_below b e)) e)
-
-abbrev ArePlain : List ℕ → Type 0
-ArePlain bs = (i : ℕ) → i < length bs → is_plain_byte (get_or bs i 0) ≡ true
-
-others_plain : (b : ℕ) (bs : List ℕ) → ArePlain (b ∷ bs) → ArePlain bs
-others_plain b bs h i l = h (suc i) (omega arith)
-
-plain_ascii : (bs : List ℕ) → ArePlain bs → All (λ b. b < 128) bs
-plain_ascii bs h k d l = let same : get_or bs k d ≡ get_or bs k 0 = get_or_default bs k d 0 l in
-    omega (arith, same, plain_below (get_or bs k 0) (h k l))
-
-all_written : (bs : List ℕ) → ArePlain bs → flat_map escaped bs ≡ bs
-all_written [] h = refl
-all_written (b ∷ bs) h =
-    ap (λ (z : List ℕ). z ++ flat_map escaped bs) (plain_escaped b (h 0 (omega arith))) ∙ ap (λ (z : List ℕ). b ∷ z) (all_written bs (others_plain b bs h))
-
--- a text of plain bytes is written as it is
-pub plain_stands : (bs : List ℕ) → ArePlain bs → flat_map escaped (chars bs) ≡ bs
-plain_stands bs h = ap (λ (z : List ℕ). flat_map escaped z) (chars-IsAscii bs (IsAscii-from_all bs (plain_ascii bs h))) ∙ all_written bs h
 
 -- the table of bytes
 pub plain_table : (b : ℕ) → b < 256 → nat_eq (get_or PLAINS b 0) 46 ≡ is_plain_byte b
