@@ -4,6 +4,7 @@
 pub mod fingerprints;
 pub mod keyword;
 pub mod laws;
+pub(crate) mod numbers;
 pub(crate) mod plain;
 pub mod wasm;
 pub mod writer;

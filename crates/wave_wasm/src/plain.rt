@@ -10,6 +10,9 @@ pub fn plain_end(bytes: &[u8], from: usize) -> usize
     ensures plain { (i : ℕ) → from ≤ i → i < result → is_plain_byte (slice_index bytes.now i) ≡ true }
     ensures longest { result < length bytes.now → is_plain_byte (slice_index bytes.now result) ≡ false }
 {
+    if from < bytes.len() && !is_plain_byte(bytes[from]) {
+        return from;
+    }
     for at in fours_end(bytes, from)..bytes.len() {
         if !is_plain_byte(bytes[at]) {
             return at;

@@ -1,6 +1,7 @@
 //! The canonical text of values.
 use crate::fingerprints::{all_differ, fingerprint};
 use crate::keyword::Keyword;
+use crate::numbers::{AT_ONCE, FEW, ROOM, fill_row};
 use crate::plain::plain_end;
 use crate::wasm::{WasmTypeKind, WasmValue};
 use itoa::{Buffer, Integer};
@@ -108,7 +109,7 @@ impl<W: TextWrite> Model for Writer<W> {
 }
 
 impl<W: TextWrite> Writer<W> {
-    ghost use Rattle.std.specs.Prelude.{◌≡◌, ◌++◌, OnOk, IfErr, true, map, if◌then◌else◌};
+    ghost use Rattle.std.specs.Prelude.{◌≡◌, ◌≤◌, ◌++◌, OnOk, IfOk, IfErr, true, [], length, map, take, if◌then◌else◌};
     ghost use Rattle.std.specs.List.{flat_map, list_all};
     ghost use Rattle.std.specs.Str.{chars};
     ghost use Rattle.std.specs.Borrow.{Lends, sem};
@@ -118,11 +119,12 @@ impl<W: TextWrite> Writer<W> {
     ghost use Rattle.wave_wasm.specs.Values.{kind_of, IsWellFormed, flags_names};
     ghost use Rattle.wave_wasm.specs.Private.Values.{IsLeaf};
     ghost use Rattle.wave_wasm.specs.Keywords.{case_label};
-    ghost use Rattle.wave_wasm.specs.Private.Commas.{comma_if};
+    ghost use Rattle.wave_wasm.specs.Private.Commas.{comma_if, with_commas};
     ghost use Rattle.wave_wasm.specs.Commas.{enclosed};
+    ghost use Rattle.wave_wasm.specs.Lists.{AllOf};
     ghost use Rattle.wave_wasm.specs.ConstructorContracts.{IsOfListKind};
     ghost use Rattle.wave_wasm.specs.Borrowed.{texts, shown, shown_all};
-    ghost use Rattle.wave_wasm.specs.Text.{escaped, quoted, quoted_char, text, has_text};
+    ghost use Rattle.wave_wasm.specs.Text.{bool_text, escaped, quoted, quoted_char, text, has_text};
     ghost use Rattle.wave_wasm.specs.Private.Text.{number_escape, payload_text, has_payload_text};
 
     /// A writer into `out`.
@@ -215,7 +217,9 @@ impl<W: TextWrite> Writer<W> {
         let Some(last) = items.pop() else {
             return self.write_text(closing);
         };
-        for item in &items {
+        let front = items.as_slice();
+        let written = self.write_numbers(front)?;
+        for item in &front[written..] {
             self.write_value(alloc, *item)?;
             self.write_text(", ")?;
         }
@@ -370,7 +374,7 @@ impl<W: TextWrite> Writer<W> {
         ensures { Writes (text (V.tree val.now)) true result (W.output self.old) (W.output self.new) }
     {
         match val.kind() {
-            WasmTypeKind::Bool => self.write_either(val.unwrap_bool(), "true", "false"),
+            WasmTypeKind::Bool => self.write_bool(val.unwrap_bool()),
             WasmTypeKind::S8 => self.write_number(val.unwrap_s8()),
             WasmTypeKind::S16 => self.write_number(val.unwrap_s16()),
             WasmTypeKind::S32 => self.write_number(val.unwrap_s32()),
@@ -383,6 +387,52 @@ impl<W: TextWrite> Writer<W> {
             WasmTypeKind::String => self.write_string(val.unwrap_string()),
             _ => unreachable!(),
         }
+    }
+
+    #[inline(never)]
+    fn write_bool(&mut self, val: bool) -> Result<(), WriterError>
+        ensures { Writes (bool_text val) true result (W.output self.old) (W.output self.new) }
+    {
+        self.write_either(val, "true", "false")
+    }
+
+    /// Writes the whole numbers at the beginning of the items, each before a comma, many at once, and
+    /// returns how many these are. It may leave some.
+    fn write_numbers<V: WasmValue>(&mut self, items: &[&V]) -> Result<usize, WriterError>
+        ensures within { IfOk result (λ n. n ≤ length items.now) }
+        ensures ok { IfOk result
+            (λ n. Appended (with_commas (map (λ v. text (V.tree v.now)) (take n items.now))) (W.output self.old) (W.output self.new)) }
+        ensures leaves { IfOk result (λ n. AllOf (λ v. IsLeaf (V.tree v.now)) (take n items.now)) }
+        ensures err { IfErr result
+            (λ e. Refused (with_commas (map (λ v. text (V.tree v.now)) items.now)) true e (W.output self.old) (W.output self.new)) }
+    {
+        let mut at = 0;
+        while items.len() - at >= FEW {
+            let count = AT_ONCE.min(items.len() - at);
+            if !self.write_row(&items[at..at + count])? {
+                return Ok(at);
+            }
+            at += count;
+        }
+        Ok(at)
+    }
+
+    /// Writes the items, each before a comma, where all are whole numbers, and returns whether they are.
+    #[inline(never)]
+    fn write_row<V: WasmValue>(&mut self, items: &[&V]) -> Result<bool, WriterError>
+        requires { length items.now ≤ 16 }
+        ensures ok { IfOk result
+            (λ b. Appended (if b then with_commas (map (λ v. text (V.tree v.now)) items.now) else []) (W.output self.old) (W.output self.new)) }
+        ensures leaves { IfOk result (λ b. b ≡ true → AllOf (λ v. IsLeaf (V.tree v.now)) items.now) }
+        ensures err { IfErr result
+            (λ e. Refused (with_commas (map (λ v. text (V.tree v.now)) items.now)) true e (W.output self.old) (W.output self.new)) }
+    {
+        let mut room = [0; ROOM];
+        let Some(start) = fill_row(items, &mut room) else {
+            return Ok(false);
+        };
+        self.write_text(unsafe { str::from_utf8_unchecked(&room[start..]) })?;
+        Ok(true)
     }
 
     #[inline(never)]
