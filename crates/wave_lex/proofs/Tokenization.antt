@@ -1,5 +1,7 @@
 pub mod Classes
 pub mod OneCut
+pub mod TokenEnds
+pub mod Decimals
 pub mod NextToken
 pub mod Marks
 pub mod LexerSteps

@@ -1,8 +1,8 @@
 -- The display of a parsed call is such a call, with the same parameters.
-use Rattle.std.proofs.Common.{◌≡◌, ℕ, ◌≤◌, ◌<◌, List, [], ◌∷◌, ◌++◌, inl, inr, refl, sym, ap, subst, ◌∙◌, length, drop, length-append, length-take-le, arith}
+use Rattle.std.proofs.Common.{◌≡◌, ℕ, ◌≤◌, ◌<◌, List, [], ◌∷◌, ◌++◌, inl, inr, refl, sym, ap, subst, ◌∙◌, length, drop, arith}
 use Rattle.std.specs.Prelude.{encode_utf8_all, ◌↔◌}
 use Rattle.std.proofs.lemmas.Bool.{ltb-true}
-use Rattle.std.proofs.lemmas.List.{append-nil, take-append-drop}
+use Rattle.std.proofs.lemmas.List.{append-nil}
 use Rattle.std.proofs.lemmas.Str.{encode_same, encode_ascii}
 use Rattle.std.proofs.Math.Seq.{take-append_seam, drop-append_seam}
 use Rattle.wave_wasm.specs.Lists.{AllOf}
@@ -17,7 +17,6 @@ use Rattle.wave_lex.specs.declared.machine.name.Component.TheVariants as compone
 use Rattle.wave_lex.specs.declared.machine.name.Number.TheVariants as number
 use Rattle.wave_lex.specs.NameMachine.{name_rest, name_step}
 use Rattle.wave_lex.specs.FunctionName.{IsName}
-use Rattle.wave_lex.specs.LongestMatch.{IsPrefixOf}
 use Rattle.wave_lex.specs.Regex.{nothing, Matches}
 use Rattle.wave_lex.specs.Derive.{derivative, derivative_by}
 use Rattle.wave_lex.specs.Tokens.{function_name}
@@ -29,7 +28,8 @@ use Rattle.wave_grammar.specs.Tree.{Tree, MaybeTree, no_tree, a_tree, tuple, tre
 use Rattle.wave_grammar.specs.Calls.{SpellsParams, IsCall}
 use Rattle.wave_grammar.specs.DisplayLaws.{ShowsCallAgain, ShownCallKeepsMeaning}
 use Rattle.wave_grammar.proofs.Unambiguity.Levels.{takes-levels, all-within}
-use Rattle.wave_grammar.proofs.RoundTrip.Tokens.{goes_on, stops_here, reached, end_cut}
+use Rattle.wave_lex.proofs.Tokenization.TokenEnds.{EndsBefore, no_longer, front_there, reached}
+use Rattle.wave_grammar.proofs.RoundTrip.Tokens.{end_cut}
 use Rattle.wave_grammar.proofs.RoundTrip.Injective.{paren_open_cut, paren_close_cut}
 use Rattle.wave_grammar.proofs.Display.Tokens.{HasShape, cut_shapes}
 use Rattle.wave_grammar.proofs.Display.Trees.{Sound, AreSound, takes_sound, items_keep, sound_trees}
@@ -59,19 +59,12 @@ name_ends cs h = let (q, e) = reached NameState name_rest name_step name_steps (
 
 -- a name is the longest before a `(`
 name_there : (cs x r : List ℕ) → encode_utf8_all cs ≡ x → Matches function_name cs → IsName (x ++ 40 ∷ r) (length x)
-name_there cs x r e h =
-    (record { scalars = cs; fits = omega (arith, length-append x (40 ∷ r)); spelled = e ∙ sym (take-append_seam x (40 ∷ r)); has = h }, λ j f. no_longer j f)
+name_there cs x r e h = subst (λ (z : List ℕ). IsName (z ++ 40 ∷ r) (length z)) e (front_there function_name cs (40 ∷ r) h, no_longer function_name cs (40 ∷ r) ends)
   where
-    no_longer : (j : ℕ) → IsPrefixOf function_name (x ++ 40 ∷ r) j → j ≤ length x
-    no_longer j f =
-        let size : length (encode_utf8_all f.scalars) ≡ j = ap length f.spelled ∙ length-take-le j (x ++ 40 ∷ r) f.fits in
-        let long : length (encode_utf8_all cs) ≡ length x = ap length e in
-        elim (goes_on cs f.scalars (40 ∷ r) (drop j (x ++ 40 ∷ r)) (ap (λ (z : List ℕ). z ++ 40 ∷ r) e ∙ (sym (take-append-drop j (x ++ 40 ∷ r)) ∙ ap (λ (z : List ℕ). z ++ drop j (x ++ 40 ∷ r)) (sym f.spelled)))) as (λ _. j ≤ length x) [
-          | inl l ↦ omega arith
-          | inr (c, es, g, there) ↦
-              let same : c ≡ 40 = (encode_same c 40 _ r (sym there ∙ ap (λ (z : List ℕ). z ++ r) (sym (encode_ascii 40 (ltb-true 40 128 refl))))).0 in
-              stops_here function_name cs es c (ap (λ (z : ℕ). derivative z (derivative_by cs function_name)) same ∙ name_ends cs h) (subst (λ (z : List ℕ). Matches function_name z) g f.has)
-        ]
+    ends : EndsBefore function_name cs (40 ∷ r)
+    ends c rest there =
+        let same : c ≡ 40 = (encode_same c 40 rest r (sym there ∙ ap (λ (z : List ℕ). z ++ r) (sym (encode_ascii 40 (ltb-true 40 128 refl))))).0 in
+        ap (λ (z : ℕ). derivative z (derivative_by cs function_name)) same ∙ name_ends cs h
 
 -- the parameters of a call, displayed after its name
 call_of : (s name : List ℕ) (params others : MaybeTree) (x : List ℕ) (tokens : List Token) → IsCall s name params → CutsInto (40 ∷ x) tokens → SpellsParams 100 tokens others → (other : IsCall (name ++ 40 ∷ x) name others) × (other.tokens ≡ tokens)

@@ -109,16 +109,16 @@ flags_show n texts (l, all, o) r rest s cut bare =
 -- ---- words and labels
 
 none_token : IsOneToken (codes "none") (token.label (codes "none"))
-none_token = label_cut (codes "none") (matches_from (codes "none") label_or_keyword refl) refl
+none_token = label_cut (codes "none") (matches_from (codes "none") label_or_keyword refl)
 
 some_token : IsOneToken (codes "some") (token.label (codes "some"))
-some_token = label_cut (codes "some") (matches_from (codes "some") label_or_keyword refl) refl
+some_token = label_cut (codes "some") (matches_from (codes "some") label_or_keyword refl)
 
 ok_token : IsOneToken (codes "ok") (token.label (codes "ok"))
-ok_token = label_cut (codes "ok") (matches_from (codes "ok") label_or_keyword refl) refl
+ok_token = label_cut (codes "ok") (matches_from (codes "ok") label_or_keyword refl)
 
 err_token : IsOneToken (codes "err") (token.label (codes "err"))
-err_token = label_cut (codes "err") (matches_from (codes "err") label_or_keyword refl) refl
+err_token = label_cut (codes "err") (matches_from (codes "err") label_or_keyword refl)
 
 maybe_first : (payload : MaybeTree) → StopsFirst (shown_maybe payload)
 maybe_first no_tree r s = s

@@ -5,21 +5,22 @@ use Rattle.std.proofs.lemmas.Bool.Decides.{nat_tests}
 use Rattle.wave_wasm.specs.Lists.{AllOf}
 use Rattle.wave_lex.specs.declared.lex.Token.TheVariants as class
 use Rattle.wave_lex.specs.Regex.{Matches, is_within}
-use Rattle.wave_lex.specs.Derive.{nullable, derivative}
+use Rattle.wave_lex.specs.Derive.{nullable}
 use Rattle.wave_lex.specs.Tokens as shapes
 use Rattle.wave_lex.specs.Tokens.{shape}
 use Rattle.wave_lex.specs.Labels.{IsLabel}
 use Rattle.wave_lex.specs.Tokenization.{Front}
-use Rattle.wave_lex.proofs.RegularShapes.Derivatives.{matches_into}
 use Rattle.wave_lex.proofs.Machines.Multiline as multiline_state
 use Rattle.wave_lex.proofs.Machines.Multiline.{MultilineState, multiline_rest, multiline_step, multiline_steps}
 use Rattle.wave_grammar.specs.Token.{Token, CutsInto, lexeme_of, text_of, number, label, char, string, multiline}
 use Rattle.wave_grammar.specs.LeafTokens.{name_of}
 use Rattle.wave_grammar.specs.Tree.{IsKey}
-use Rattle.wave_grammar.proofs.RoundTrip.Tokens.{NoStopAfter, reached, no_stop, no_stop_after, stopped_cut, ascii_itself, number_ends, label_ends}
+use Rattle.wave_lex.proofs.RegularShapes.LabelWords.{spelled_by_itself}
+use Rattle.wave_lex.proofs.Tokenization.TokenEnds.{no_mark, none_follows}
+use Rattle.wave_grammar.proofs.RoundTrip.Tokens.{stops, NoStopAfter, stopped_cut, number_ends, label_ends}
 use Rattle.wave_grammar.proofs.RoundTrip.Strings.{character_ends, string_ends}
 use Rattle.wave_grammar.proofs.RoundTrip.Injective.{IsOneToken}
-use Rattle.wave_grammar.proofs.RoundTrip.Names.{ascii_text, label_name}
+use Rattle.wave_grammar.proofs.RoundTrip.Names.{label_name}
 
 -- the token's text has the shape of its class
 abbrev pub HasShape : Token → Type 0
@@ -33,7 +34,7 @@ front_shapes s (t ∷ ts) q (g, k, gap, long, text, front) = ((long.is.0.scalars
 pub cut_shapes : (s : List ℕ) (ts : List Token) → CutsInto s ts → AllOf HasShape ts
 cut_shapes s ts (q, front, end) = front_shapes s ts q front
 
-multiline_stops : (q : MultilineState) → nullable (multiline_rest q) ≡ true → no_stop (multiline_rest q) ≡ true
+multiline_stops : (q : MultilineState) → nullable (multiline_rest q) ≡ true → no_mark stops (multiline_rest q) ≡ true
 multiline_stops multiline_state.Start e = cc
 multiline_stops multiline_state.Open1 e = cc
 multiline_stops multiline_state.Open2 e = cc
@@ -44,10 +45,7 @@ multiline_stops multiline_state.Close e = refl
 
 -- no mark goes on with a multiline string
 multiline_ends : (cs : List ℕ) → Matches shapes.multiline_string cs → NoStopAfter class.MultilineString cs
-multiline_ends cs h b s =
-    let (q, e) = reached MultilineState multiline_rest multiline_step multiline_steps multiline_state.Start cs h in
-    let last : nullable (multiline_rest q) ≡ true = ap nullable (sym e) ∙ matches_into cs shapes.multiline_string h in
-    ap (derivative b) e ∙ no_stop_after (multiline_rest q) (multiline_stops q last) b s
+multiline_ends = none_follows MultilineState multiline_rest multiline_step multiline_steps stops multiline_state.Start multiline_stops
 
 -- the text of a key or of a leaf is that token, where a mark follows
 pub alone : (t : Token) → IsKey t → HasShape t → IsOneToken (text_of t) t
@@ -62,7 +60,7 @@ alone _ key h r rest s cut = absurd key
 
 -- a label's text is its scalars
 label_text : (x : List ℕ) → HasShape (label x) → Matches shapes.label_or_keyword x
-label_text x (cs, e, h) = subst (Matches shapes.label_or_keyword) (sym (ascii_itself cs (ascii_text shapes.label_or_keyword cs refl h)) ∙ e) h
+label_text x (cs, e, h) = subst (Matches shapes.label_or_keyword) (sym (spelled_by_itself cs h) ∙ e) h
 
 percent : (b : ℕ) (name : List ℕ) → is_within 37 37 b ≡ true → name_of (b ∷ name) ≡ name
 percent b name h = let same : b ≡ 37 = grind (arith, nat_tests, h) in subst (λ (z : ℕ). name_of (z ∷ name) ≡ name) (sym same) refl

@@ -1,5 +1,5 @@
 -- Faults of type stand within the tree.
-use Rattle.std.proofs.Common.{ℕ, zero, suc, ◌≡◌, ◌⊎◌, inl, inr, ◌<◌, ◌≤◌, ◌+◌, ◌-◌, Bool, true, false, if◌then◌else◌, List, [], ◌∷◌, ◌++◌, length, drop, length-append, length-take, length-drop, nat_eq, Some, refl, sym, ap, subst, arith}
+use Rattle.std.proofs.Common.{ℕ, ◌≡◌, ◌⊎◌, inl, inr, ◌<◌, ◌≤◌, ◌+◌, ◌-◌, Bool, true, false, if◌then◌else◌, List, [], ◌∷◌, ◌++◌, length, drop, length-append, length-take, length-drop, nat_eq, Some, refl, sym, ap, subst, arith}
 use Rattle.std.specs.declared.ops.Range.{Range}
 use Rattle.wave_wasm.specs.Lists.{SomeOf}
 use Rattle.wave_wasm.specs.Types as type
@@ -9,6 +9,7 @@ use Rattle.wave_lex.specs.Errors.{Refusal, repeated_name}
 use Rattle.wave_lex.specs.declared.error.ParserErrorKind.TheVariants.{DuplicateField}
 use Rattle.wave_lex.specs.Strings.{IsBadEscapeAt}
 use Rattle.wave_lex.specs.Multiline.{LineFault, closing, opening, indentation, escape, put_first, pieces, spaces, BadLine, BadLines, MultilineFault, fault_span}
+use Rattle.wave_lex.proofs.StringDecoding.OneMeaning.{length_spaces}
 use Rattle.wave_grammar.specs.Token.{Token, text_of}
 use Rattle.wave_grammar.specs.SpannedTree.{SpannedTree, at, one, tuple, list, empty_braces, no_fields, entries, flags, label, none, some, ok, err, MaybePlaced, no_placed, a_placed, PlacedTrees, no_more, and_then, PlacedEntries, no_entries, entry, PlacedEntry, entry_list, placed_list, span_of, slice, HoldsTokens, SpellsEach, SpellsMaybe, SpellsAll, SpellsEntries, LiesIn}
 use Rattle.wave_grammar.specs.TypeErrors.{RefusesWith, names_in, LeafFault, MapKeyFault, RepeatedField, MissingField, Fault, FaultOfPayload, FaultOfFlat, FaultOfItem, FaultOfField, FaultOfCase}
@@ -56,10 +57,6 @@ unfolding total
 total_append [] ys = omega arith
 total_append (x ∷ xs) ys = omega (arith, total_append xs ys)
 
-spaces_length : (k : ℕ) → length (spaces k) ≡ k
-spaces_length zero = refl
-spaces_length (suc k) = ap suc (spaces_length k)
-
 -- where a fault stands in the inside
 pub offset : LineFault → ℕ
 offset closing = 0
@@ -74,9 +71,9 @@ line_offset : (k start : ℕ) (line : List ℕ) (f : LineFault) → BadLine k st
 unfolding offset
 line_offset k start line f (inl (apart, e)) = rw e (omega arith)
 line_offset k start line f (inr (y, i, (x, is, inl drops), bad, e)) =
-    rw e (omega (arith, ap length is, length-append (spaces k) x, spaces_length k, ap length drops, length-append y (13 ∷ []), escape_inside y i bad))
+    rw e (omega (arith, ap length is, length-append (spaces k) x, length_spaces k, ap length drops, length-append y (13 ∷ []), escape_inside y i bad))
 line_offset k start line f (inr (y, i, (x, is, inr drops), bad, e)) =
-    rw e (omega (arith, ap length is, length-append (spaces k) x, spaces_length k, ap length drops.0, escape_inside y i bad))
+    rw e (omega (arith, ap length is, length-append (spaces k) x, length_spaces k, ap length drops.0, escape_inside y i bad))
 
 lines_offset : (k start : ℕ) (ps : List (List ℕ)) (f : LineFault) → BadLines k start ps f → offset f < start + total ps
 unfolding total

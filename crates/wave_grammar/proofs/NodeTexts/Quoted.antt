@@ -10,7 +10,7 @@ use Rattle.wave_lex.specs.Regex.{Regex, except, star, Matches}
 use Rattle.wave_lex.specs.Tokens as shapes
 use Rattle.wave_lex.specs.Tokens.{shape, plain, escape, ◌then◌, ◌or◌}
 use Rattle.wave_lex.proofs.RegularShapes.Comparisons.{one_is}
-use Rattle.wave_lex.proofs.LongestPrefix.ByComputing.{is_ascii}
+use Rattle.wave_lex.proofs.LongestPrefix.ByComputing.{is_ascii, ascii_spelled}
 use Rattle.wave_lex.specs.Tokenization.{three_quotes}
 use Rattle.wave_lex.proofs.MultilineStrings.FirstThreeQuotes.{through_first_quotes}
 use Rattle.wave_grammar.specs.Token.{Token, lexeme_of, text_of}
@@ -22,7 +22,6 @@ use Rattle.wave_grammar.specs.NodeTree.{NodeTree, type_of, place_of}
 use Rattle.wave_grammar.specs.Nodes.{placed_of, shape_from, key_of, IsParsedFrom}
 use Rattle.wave_grammar.specs.NodeAccessors.{node_text, quotes_of, IsInside}
 use Rattle.wave_grammar.proofs.ChildNodes.Inside.{inside, some_is}
-use Rattle.wave_grammar.proofs.RoundTrip.Tokens.{ascii_itself}
 use Rattle.wave_grammar.proofs.RoundTrip.Utf8.{ascii_off}
 use Rattle.wave_grammar.specs.declared.form.NodeType.{NodeType}
 use Rattle.wave_grammar.specs.declared.form.NodeType.TheVariants as kind
@@ -125,7 +124,7 @@ between q p cs (a, b, e, (c, f, s), (u, v, g, m, (d, h, t))) =
 -- quotes are ASCII
 inside_is : (quotes x cs text : List ℕ) → is_ascii quotes ≡ true → cs ≡ quotes ++ (x ++ quotes) → encode_utf8_all cs ≡ text → text ≡ quotes ++ (encode_utf8_all x ++ quotes)
 inside_is quotes x cs text ascii is spelled =
-    let own : encode_utf8_all quotes ≡ quotes = ascii_itself quotes ascii in
+    let own : encode_utf8_all quotes ≡ quotes = ascii_spelled quotes ascii in
     sym spelled ∙ (ap encode_utf8_all is ∙ (encodes-append quotes (x ++ quotes) ∙ (ap (λ (z : List ℕ). z ++ encode_utf8_all (x ++ quotes)) own
     ∙ ap (λ (z : List ℕ). quotes ++ z) (encodes-append x quotes ∙ ap (λ (z : List ℕ). encode_utf8_all x ++ z) own))))
 
@@ -177,9 +176,9 @@ quotes_ascii kind.MultilineString = refl
 quotes_ascii _ = refl
 
 quotes_utf8 : (ty : NodeType) → IsUtf8 (quotes_of ty)
-quotes_utf8 kind.Char = (39 ∷ [], (refl, ascii_itself (39 ∷ []) refl))
-quotes_utf8 kind.String = (34 ∷ [], (refl, ascii_itself (34 ∷ []) refl))
-quotes_utf8 kind.MultilineString = (three_quotes, (refl, ascii_itself three_quotes refl))
+quotes_utf8 kind.Char = (39 ∷ [], (refl, ascii_spelled (39 ∷ []) refl))
+quotes_utf8 kind.String = (34 ∷ [], (refl, ascii_spelled (34 ∷ []) refl))
+quotes_utf8 kind.MultilineString = (three_quotes, (refl, ascii_spelled three_quotes refl))
 quotes_utf8 _ = ([], (refl, refl))
 
 -- a text is split after the quotes and before them

@@ -3,10 +3,10 @@ use Rattle.std.proofs.Common.{◌≡◌, ℕ, ◌+◌, ◌<◌, List, [], ◌∷
 use Rattle.std.proofs.lemmas.List.{append_cancel_left, append_cancel_right}
 use Rattle.wave_lex.specs.Strings.{IsBadEscapeAt, IsInQuotes}
 use Rattle.wave_lex.specs.Tokenization.{three_quotes}
-use Rattle.wave_lex.specs.Multiline.{spaces, DropsReturn, Opens, OpensWell, IsSpaces, closing_piece, pieces, LineMeans, LineFault, BadLine, BadLines, BadBetween, MultilineFault, IsInThreeQuotes, opening}
+use Rattle.wave_lex.specs.Multiline.{spaces, DropsReturn, OpensWell, IsSpaces, closing_piece, pieces, LineFault, BadLine, BadLines, BadBetween, MultilineFault, IsInThreeQuotes, opening}
 use Rattle.wave_lex.proofs.StringDecoding.OneMeaning.{drops_once, ends_once, length_spaces}
 use Rattle.wave_lex.proofs.MultilineStrings.Lines.{closing_last}
-use Rattle.wave_lex.proofs.StringDecoding.Faults.{bad_escape_refuses}
+use Rattle.wave_lex.proofs.StringDecoding.Faults.{bad_escape_refuses, bad_line, opens_well}
 
 -- where one text begins two ways, the longer front goes on from the shorter
 goes_on : (f g x y : List ℕ) → f ++ x ≡ g ++ y → length f < length g → (b : ℕ) × (m : List ℕ) × (g ≡ f ++ b ∷ m) × (x ≡ b ∷ (m ++ y))
@@ -33,12 +33,6 @@ one_bad_escape s i j a b = omega (arith, none_before s i j a b, none_before s j 
 -- what a line is behind its spaces, without a carriage return at its end
 one_line : (k : ℕ) (line x y u v : List ℕ) → line ≡ spaces k ++ x → line ≡ spaces k ++ y → DropsReturn x u → DropsReturn y v → u ≡ v
 one_line k line x y u v e f drops again = drops_once y u v (subst (λ (z : List ℕ). DropsReturn z u) (append_cancel_left (spaces k) x y (sym e ∙ f)) drops) again
-
--- a bad line means nothing
-bad_line : (k at : ℕ) (line t : List ℕ) (f : LineFault) → BadLine k at line f → LineMeans k line t → ⊥
-bad_line k at line t f (inl bad) (z, (w, there, again), d) = bad.0 w there
-bad_line k at line t f (inr (y, i, (x, whole, drops), bad, e)) (z, (w, there, again), d) =
-    bad_escape_refuses z i (subst (λ (v : List ℕ). IsBadEscapeAt v i) (one_line k line x w y z whole there drops again) bad) t d
 
 -- a bad line is bad in one way
 one_bad_line : (k at : ℕ) (line : List ℕ) (f g : LineFault) → BadLine k at line f → BadLine k at line g → f ≡ g
@@ -67,11 +61,6 @@ one_between s f g a b =
     one_of_lines b.indent (length b.first + 1) b.between f g
     (subst (λ (ps : List (List ℕ)). BadLines b.indent (length b.first + 1) ps f) ends.0
     (subst (λ (p : List ℕ). BadLines b.indent (length p + 1) a.between f) first (subst (λ (k : ℕ). BadLines k (length a.first + 1) a.between f) indent a.bad))) b.bad
-
--- two pieces or more open well where the first does
-opens_well : (p : List ℕ) (ps : List (List ℕ)) (q : List ℕ) → Opens p → OpensWell (p ∷ (ps ++ q ∷ []))
-opens_well p [] q h = h
-opens_well p (r ∷ ps) q h = h
 
 -- where a line between is bad, the token opens well and closes well
 between_opens : (s : List ℕ) (f : LineFault) → BadBetween s f → OpensWell (pieces s)

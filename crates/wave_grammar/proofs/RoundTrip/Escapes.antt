@@ -14,9 +14,8 @@ use Rattle.wave_lex.specs.Regex.{Matches, is_one_of, is_within}
 use Rattle.wave_lex.specs.Tokens.{escape, hexadecimal, up_to, one, word}
 use Rattle.wave_lex.specs.Strings.{IsEscape}
 use Rattle.wave_lex.proofs.StringDecoding.Parts.{AllPlain}
-use Rattle.wave_lex.proofs.RegularShapes.Derivatives.{matches_from}
+use Rattle.wave_lex.proofs.RegularShapes.Derivatives.{matches_from, or_true}
 use Rattle.wave_lex.proofs.LongestPrefix.ByComputing.{is_ascii}
-use Rattle.wave_grammar.proofs.RoundTrip.Tokens.{or_either}
 
 -- ---- hexadecimal digits
 
@@ -51,9 +50,9 @@ hexadecimal_small d h = grind (arith, nat_tests)
 
 one_hexadecimal : (d : ℕ) → digit_value d < 16 → Matches hexadecimal (d ∷ [])
 one_hexadecimal d h =
-    elim (or_either (is_within 48 57 d) (is_within 97 102 d || is_within 65 70 d) (is_hexadecimal d h)) [
+    elim (or_true (is_within 48 57 d) (is_within 97 102 d || is_within 65 70 d) (is_hexadecimal d h)) [
       | inl e ↦ inl (d, refl, e)
-      | inr e ↦ elim (or_either (is_within 97 102 d) (is_within 65 70 d) e) [ inl f ↦ inr (inl (d, refl, f)) | inr f ↦ inr (inr (d, refl, f)) ]
+      | inr e ↦ elim (or_true (is_within 97 102 d) (is_within 65 70 d) e) [ inl f ↦ inr (inl (d, refl, f)) | inr f ↦ inr (inr (d, refl, f)) ]
     ]
 
 -- at most n digits

@@ -1,5 +1,5 @@
 -- What a text prints, before the end or a mark that may follow a value.
-use Rattle.std.proofs.Common.{◌≡◌, ℕ, ◌≤◌, true, List, [], ◌∷◌, ◌++◌, refl, subst, arith}
+use Rattle.std.proofs.Common.{ℕ, ◌≤◌, List, [], ◌∷◌, ◌++◌, refl, subst, arith}
 use Rattle.std.proofs.lemmas.List.{append-nil}
 use Rattle.wave_wasm.specs.Types.{TypeTree}
 use Rattle.wave_wasm.specs.Values.{Value}
@@ -8,7 +8,6 @@ use Rattle.wave_wasm.specs.Merge.{merged}
 use Rattle.wave_lex.specs.declared.lex.Token.TheVariants as class
 use Rattle.wave_lex.specs.Regex.{Matches}
 use Rattle.wave_lex.specs.Tokens.{label_or_keyword}
-use Rattle.wave_lex.proofs.LongestPrefix.ByComputing.{is_ascii}
 use Rattle.wave_grammar.specs.Token.{Token, CutsInto, brace_open, brace_close, paren_open, paren_close, bracket_open, bracket_close, colon, comma, label}
 use Rattle.wave_grammar.specs.CommaSeparated.{Spelling}
 use Rattle.wave_grammar.specs.TypedGrammar.{Reads}
@@ -17,7 +16,8 @@ use Rattle.wave_grammar.specs.RoundTripLaws.{ReadBack}
 use Rattle.wave_grammar.proofs.Elaboration.GrammarToTree.{through}
 use Rattle.wave_grammar.proofs.Elaboration.TreeToGrammar.{back}
 use Rattle.wave_grammar.proofs.Unambiguity.Levels.{takes-levels, takes-within}
-use Rattle.wave_grammar.proofs.RoundTrip.Tokens.{Stops, mark_cut, space_cut, stopped_cut, label_ends, ascii_itself, end_cut}
+use Rattle.wave_lex.proofs.RegularShapes.LabelWords.{spelled_by_itself}
+use Rattle.wave_grammar.proofs.RoundTrip.Tokens.{Stops, mark_cut, space_cut, stopped_cut, label_ends, end_cut}
 
 -- before the end or a mark, after which the tokens are known, the text has tokens that spell the item
 abbrev pub Prints : {A : Type 0} → Spelling A → List ℕ → A → Type 0
@@ -59,8 +59,8 @@ pub bare_colon_cut : (r : List ℕ) (rest : List Token) → CutsInto r rest → 
 bare_colon_cut r rest cut = mark_cut class.Colon 58 r _ refl (58, refl, refl) refl tt cut
 
 -- a label
-pub label_cut : (text : List ℕ) → Matches label_or_keyword text → is_ascii text ≡ true → IsOneToken text (label text)
-label_cut text h ascii r rest s cut = stopped_cut class.LabelOrKeyword text text r _ (ascii_itself text ascii) h (label_ends text h) s cut
+pub label_cut : (text : List ℕ) → Matches label_or_keyword text → IsOneToken text (label text)
+label_cut text h r rest s cut = stopped_cut class.LabelOrKeyword text text r _ (spelled_by_itself text h) h (label_ends text h) s cut
 
 -- ---- whole texts
 

@@ -16,7 +16,8 @@ use Rattle.wave_grammar.specs.Token.{Token, CutsInto, lexeme_of, label, number, 
 use Rattle.wave_grammar.specs.ParserPosition.{token_of}
 use Rattle.wave_grammar.specs.LeafTokens.{Spells}
 use Rattle.wave_grammar.specs.TypedGrammar.{Reads}
-use Rattle.wave_grammar.proofs.RoundTrip.Tokens.{stopped_cut, number_ends, ascii_itself}
+use Rattle.wave_lex.proofs.LongestPrefix.ByComputing.{ascii_spelled}
+use Rattle.wave_grammar.proofs.RoundTrip.Tokens.{stopped_cut, number_ends}
 use Rattle.wave_grammar.proofs.RoundTrip.Numbers.{is_written}
 use Rattle.wave_grammar.proofs.RoundTrip.Injective.{Prints, IsOneToken, label_cut}
 
@@ -42,8 +43,8 @@ abbrev pub IsWritten : Simple → Leaf → Type 0
 IsWritten S one = (token : Token) × Spells S token one × IsOneToken (leaf_text one) token
 
 pub bool_written : (b : Bool) → IsWritten type.bool (value.bool b)
-bool_written true = (label (codes "true"), (true, refl, refl), label_cut (codes "true") (matches_from (codes "true") label_or_keyword refl) refl)
-bool_written false = (label (codes "false"), (false, refl, refl), label_cut (codes "false") (matches_from (codes "false") label_or_keyword refl) refl)
+bool_written true = (label (codes "true"), (true, refl, refl), label_cut (codes "true") (matches_from (codes "true") label_or_keyword refl))
+bool_written false = (label (codes "false"), (false, refl, refl), label_cut (codes "false") (matches_from (codes "false") label_or_keyword refl))
 
 pub whole_written : (kind : Whole) (z : ℤ) → IsInRange kind z → IsWritten (type.whole kind) (value.whole kind z)
 whole_written kind z h =
@@ -51,7 +52,7 @@ whole_written kind z h =
     let x : List ℕ = signed_decimal z in (
       number (signed_decimal z),
       (signed_decimal z, z, refl, w.value, h, refl),
-      λ r rest s cut. stopped_cut class.Number (signed_decimal z) (signed_decimal z) r _ (ascii_itself (signed_decimal z) w.ascii) w.shaped (number_ends (signed_decimal z) w.shaped) s cut,
+      λ r rest s cut. stopped_cut class.Number (signed_decimal z) (signed_decimal z) r _ (ascii_spelled (signed_decimal z) w.ascii) w.shaped (number_ends (signed_decimal z) w.shaped) s cut,
     )
 
 -- the text of a value of one token prints it

@@ -1,65 +1,27 @@
 -- Labels as tokens, names that are picked, and merged entries that are merged again.
-use Rattle.std.proofs.Common.{◌≡◌, ℕ, ◌≢◌, Bool, true, false, not, cond, nat_lt, List, [], ◌∷◌, ◌++◌, inl, inr, refl, ap, subst, ◌∙◌, arith}
-use Rattle.std.specs.Prelude.{◌&&◌, ◌==◌, codes, if◌then◌else◌}
+use Rattle.std.proofs.Common.{◌≡◌, ℕ, ◌≢◌, Bool, true, false, not, cond, List, [], ◌∷◌, ◌++◌, inl, inr, refl, ap, subst, ◌∙◌, arith}
+use Rattle.std.specs.Prelude.{◌==◌, codes, if◌then◌else◌}
 use Rattle.std.proofs.lemmas.Bool.{eqb-true}
-use Rattle.std.proofs.lemmas.Bool.Decides.{nat_tests}
 use Rattle.wave_wasm.specs.Lists.{AllOf}
 use Rattle.wave_wasm.specs.Names.{IsNoneOf}
 use Rattle.wave_wasm.specs.Keywords.{keywords, is_keyword, case_label}
 use Rattle.wave_wasm.specs.Merge.{merge, last_value, without}
 use Rattle.wave_wasm.proofs.Names.NameTests.{none_of}
-use Rattle.wave_lex.specs.Regex.{Regex, nothing, empty, range, except, seq, alt, star, Matches, joined, is_within}
 use Rattle.wave_lex.specs.Tokens as shapes
 use Rattle.wave_lex.specs.Labels.{IsLabel}
 use Rattle.wave_lex.proofs.RegularShapes.Derivatives.{after_into}
-use Rattle.wave_lex.proofs.RegularShapes.Comparisons.{and_true}
-use Rattle.wave_lex.proofs.LongestPrefix.ByComputing.{is_ascii}
 use Rattle.wave_grammar.specs.Token.{label}
 use Rattle.wave_grammar.specs.LeafTokens.{name_of}
 use Rattle.wave_grammar.proofs.RoundTrip.Injective.{IsOneToken, label_cut}
 
 -- ---- labels
 
--- the shape has ASCII alone
-abbrev has_ascii : Regex → Bool
-has_ascii nothing = true
-has_ascii empty = true
-has_ascii (range lo hi) = nat_lt hi 128
-has_ascii (except cs) = false
-has_ascii (seq p q) = has_ascii p && has_ascii q
-has_ascii (alt p q) = has_ascii p && has_ascii q
-has_ascii (star p) = has_ascii p
-
-ascii_append : (x y : List ℕ) → is_ascii x ≡ true → is_ascii y ≡ true → is_ascii (x ++ y) ≡ true
-ascii_append [] y a b = b
-ascii_append (c ∷ x) y a b = let p : (nat_lt c 128 ≡ true) × (is_ascii x ≡ true) = and_true _ _ a in rw (p.0, ascii_append x y p.1 b) refl
-
-ascii_joined : (p : Regex) → ((s : List ℕ) → Matches p s → is_ascii s ≡ true) → (parts : List (List ℕ)) → AllOf (Matches p) parts → is_ascii (joined parts) ≡ true
-ascii_joined p each [] h = refl
-ascii_joined p each (x ∷ parts) h = ascii_append x (joined parts) (each x h.0) (ascii_joined p each parts h.1)
-
-small_within : (lo hi c : ℕ) → nat_lt hi 128 ≡ true → is_within lo hi c ≡ true → nat_lt c 128 ≡ true
-small_within lo hi c h e = grind (arith, nat_tests)
-
--- a text of such a shape is ASCII
-pub ascii_text : (p : Regex) (s : List ℕ) → has_ascii p ≡ true → Matches p s → is_ascii s ≡ true
-ascii_text nothing s a h = absurd h
-ascii_text empty s a h = ap is_ascii h
-ascii_text (range lo hi) s a (c, e, t) = ap is_ascii e ∙ rw (small_within lo hi c a t) refl
-ascii_text (except cs) s a h = cc
-ascii_text (seq p q) s a (x, y, e, hx, hy) =
-    let w : (has_ascii p ≡ true) × (has_ascii q ≡ true) = and_true _ _ a in
-    ap is_ascii e ∙ ascii_append x y (ascii_text p x w.0 hx) (ascii_text q y w.1 hy)
-ascii_text (alt p q) s a (inl h) = let w : (has_ascii p ≡ true) × (has_ascii q ≡ true) = and_true _ _ a in ascii_text p s w.0 h
-ascii_text (alt p q) s a (inr h) = let w : (has_ascii p ≡ true) × (has_ascii q ≡ true) = and_true _ _ a in ascii_text q s w.1 h
-ascii_text (star p) s a (parts, e, h) = ap is_ascii e ∙ ascii_joined p (λ x. ascii_text p x a) parts h
-
 -- a label, bare or after a `%`, is one token
 pub label_token : (name : List ℕ) → IsLabel name → IsOneToken name (label name)
-label_token name h = label_cut name ([], name, refl, inl refl, h) (ascii_text shapes.label name refl h)
+label_token name h = label_cut name ([], name, refl, inl refl, h)
 
 prefixed_token : (name : List ℕ) → IsLabel name → IsOneToken (37 ∷ name) (label (37 ∷ name))
-prefixed_token name h = label_cut (37 ∷ name) (37 ∷ [], name, refl, inr (37, refl, refl), h) (ascii_text shapes.label name refl h)
+prefixed_token name h = label_cut (37 ∷ name) (37 ∷ [], name, refl, inr (37, refl, refl), h)
 
 -- a label has no `%`
 pub label_name : (name : List ℕ) → IsLabel name → name_of name ≡ name

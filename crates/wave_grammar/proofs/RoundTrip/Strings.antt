@@ -24,43 +24,38 @@ use Rattle.wave_lex.specs.declared.machine.string.StringState.TheVariants as str
 use Rattle.wave_lex.specs.Machines.{character_rest, character_step, string_rest, string_step}
 use Rattle.wave_lex.specs.Regex as regex
 use Rattle.wave_lex.specs.Regex.{Regex, Matches, except, alt}
-use Rattle.wave_lex.specs.Derive.{nullable, derivative}
+use Rattle.wave_lex.specs.Derive.{nullable}
 use Rattle.wave_lex.specs.Strings.{CharMeans, Decodes}
 use Rattle.wave_lex.specs.Tokens as shapes
 use Rattle.wave_lex.specs.Tokens.{escape}
 use Rattle.wave_lex.proofs.StringDecoding.OneMeaning.{plain_from, escape_from}
 use Rattle.wave_lex.proofs.StringDecoding.Parts.{AllPlain}
-use Rattle.wave_lex.proofs.RegularShapes.Derivatives.{matches_into}
 use Rattle.wave_lex.proofs.RegularShapes.Comparisons.{and_true}
 use Rattle.wave_lex.proofs.Machines.Steps.{character_steps, string_steps}
 use Rattle.wave_grammar.specs.Token as token
-use Rattle.wave_grammar.proofs.RoundTrip.Tokens.{NoStopAfter, reached, no_stop, no_stop_after, stopped_cut, ascii_itself}
+use Rattle.wave_lex.proofs.LongestPrefix.ByComputing.{ascii_spelled}
+use Rattle.wave_lex.proofs.Tokenization.TokenEnds.{no_mark, none_follows}
+use Rattle.wave_grammar.proofs.RoundTrip.Tokens.{stops, NoStopAfter, stopped_cut}
 use Rattle.wave_grammar.proofs.RoundTrip.Escapes.{IsForm, is_form, all_plain}
 use Rattle.wave_grammar.proofs.RoundTrip.Leaves.{IsWritten, bool_written, whole_written}
 
 -- ---- no mark goes on with a char or a string
 
-character_stops : (q : CharState) → nullable (character_rest q) ≡ true → no_stop (character_rest q) ≡ true
+character_stops : (q : CharState) → nullable (character_rest q) ≡ true → no_mark stops (character_rest q) ≡ true
 character_stops character.Close e = refl
 character_stops (character.Escape escape.Backslash) e = cc
 character_stops _ e = cc
 
 pub character_ends : (cs : List ℕ) → Matches shapes.character cs → NoStopAfter class.Char cs
-character_ends cs h b s =
-    let (q, e) = reached CharState character_rest character_step character_steps character.Start cs h in
-    let last : nullable (character_rest q) ≡ true = ap nullable (sym e) ∙ matches_into cs shapes.character h in
-    ap (derivative b) e ∙ no_stop_after (character_rest q) (character_stops q last) b s
+character_ends = none_follows CharState character_rest character_step character_steps stops character.Start character_stops
 
-string_stops : (q : StringState) → nullable (string_rest q) ≡ true → no_stop (string_rest q) ≡ true
+string_stops : (q : StringState) → nullable (string_rest q) ≡ true → no_mark stops (string_rest q) ≡ true
 string_stops string.Close e = refl
 string_stops (string.Escape escape.Backslash) e = cc
 string_stops _ e = cc
 
 pub string_ends : (cs : List ℕ) → Matches shapes.string cs → NoStopAfter class.String cs
-string_ends cs h b s =
-    let (q, e) = reached StringState string_rest string_step string_steps string.Start cs h in
-    let last : nullable (string_rest q) ≡ true = ap nullable (sym e) ∙ matches_into cs shapes.string h in
-    ap (derivative b) e ∙ no_stop_after (string_rest q) (string_stops q last) b s
+string_ends = none_follows StringState string_rest string_step string_steps stops string.Start string_stops
 
 -- ---- quotes
 
@@ -89,7 +84,7 @@ char_written c scalar = by_form (is_form c scalar)
     by_form (inl (n, single, double, e)) =
         written (c ∷ []) (append-nil (encode_utf8 c) ∙ sym e) (inl (c, refl, single)) (escaped c, refl, scalar, inl (n, e))
     by_form (inr (is, shaped, ascii)) =
-        written (escaped c) (ascii_itself (escaped c) ascii) (inr shaped) (escaped c, refl, scalar, inr is)
+        written (escaped c) (ascii_spelled (escaped c) ascii) (inr shaped) (escaped c, refl, scalar, inr is)
 
 -- ---- strings
 
@@ -129,7 +124,7 @@ written_inside (c ∷ cs) h =
         more (c ∷ []) [] (append-nil (encode_utf8 c) ∙ sym e) (inl (c, refl, double))
         (subst (λ (z : List ℕ). Decodes (z ++ flat_map escaped cs) (encode_utf8_all (c ∷ cs))) (sym e) (plain_decodes (encode_utf8 c) (flat_map escaped cs) (encode_utf8_all cs) (all_plain c n) w.decodes)) w
     by_form (inr (is, shaped, ascii)) w =
-        more (escaped c) [] (ascii_itself (escaped c) ascii) (inr shaped) (escape_from (escaped c) (flat_map escaped cs) (encode_utf8_all (c ∷ cs)) c is (encode_utf8_all cs, refl, w.decodes)) w
+        more (escaped c) [] (ascii_spelled (escaped c) ascii) (inr shaped) (escape_from (escaped c) (flat_map escaped cs) (encode_utf8_all (c ∷ cs)) c is (encode_utf8_all cs, refl, w.decodes)) w
 
 -- a string's text is one token
 string_written : (s : List ℕ) → IsUtf8 s → IsWritten type.string (value.string s)

@@ -92,21 +92,21 @@ enum_row names name is_label of n l r rest s cut =
 -- ---- options and results
 
 none_row : (P : TypeTree) → IsPrinted (type.option P) (value.option no_value)
-none_row P n l r rest s cut = (_, label_cut (codes "none") (matches_from (codes "none") label_or_keyword refl) refl r rest s cut, (omega arith, inl (refl, refl)))
+none_row P n l r rest s cut = (_, label_cut (codes "none") (matches_from (codes "none") label_or_keyword refl) r rest s cut, (omega arith, inl (refl, refl)))
 
 some_row : (P : TypeTree) (w : Value) → IsPrinted P w → IsPrinted (type.option P) (value.option (a_value w))
 some_row P w h n l r rest s cut =
-    let (tokens, c, i) = word_print (codes "some") (label_cut (codes "some") (matches_from (codes "some") label_or_keyword refl) refl) (InParens (Writes P (n - 1))) (in_parens (printed w)) w (λ q t. refl) (parens_print (Writes P (n - 1)) (printed w) w (h (n - 1) (omega arith))) r rest s cut in
+    let (tokens, c, i) = word_print (codes "some") (label_cut (codes "some") (matches_from (codes "some") label_or_keyword refl)) (InParens (Writes P (n - 1))) (in_parens (printed w)) w (λ q t. refl) (parens_print (Writes P (n - 1)) (printed w) w (h (n - 1) (omega arith))) r rest s cut in
     (tokens, c, (omega arith, inr (w, i, refl)))
 
 ok_row : (A B : MaybeType) (payload : MaybeValue) → IsPayloadPrinted A payload → IsPrinted (type.result A B) (value.ok payload)
 ok_row A B payload h n l r rest s cut =
-    let (tokens, c, i) = word_print (codes "ok") (label_cut (codes "ok") (matches_from (codes "ok") label_or_keyword refl) refl) (WritesPayload A (n - 1)) _ payload (payload_first payload) (h (n - 1) (omega arith)) r rest s cut in
+    let (tokens, c, i) = word_print (codes "ok") (label_cut (codes "ok") (matches_from (codes "ok") label_or_keyword refl)) (WritesPayload A (n - 1)) _ payload (payload_first payload) (h (n - 1) (omega arith)) r rest s cut in
     (tokens, c, (omega arith, inl (payload, i, refl)))
 
 err_row : (A B : MaybeType) (payload : MaybeValue) → IsPayloadPrinted B payload → IsPrinted (type.result A B) (value.err payload)
 err_row A B payload h n l r rest s cut =
-    let (tokens, c, i) = word_print (codes "err") (label_cut (codes "err") (matches_from (codes "err") label_or_keyword refl) refl) (WritesPayload B (n - 1)) _ payload (payload_first payload) (h (n - 1) (omega arith)) r rest s cut in
+    let (tokens, c, i) = word_print (codes "err") (label_cut (codes "err") (matches_from (codes "err") label_or_keyword refl)) (WritesPayload B (n - 1)) _ payload (payload_first payload) (h (n - 1) (omega arith)) r rest s cut in
     (tokens, c, (omega arith, inr (payload, i, refl)))
 
 -- ---- flags and maps

@@ -20,12 +20,11 @@ use Rattle.wave_lex.specs.Strings.{IsEscape, short_escape, StringPiece, Decodes,
 use Rattle.wave_lex.specs.Multiline.{pieces, put_first, spaces, DropsReturn, LineMeans, LinesMean, in_lines, DecodesLines, MultilineMeans}
 use Rattle.wave_lex.proofs.StringDecoding.OneMeaning.{plain_into, escape_head, decodes_once}
 use Rattle.wave_lex.proofs.StringDecoding.Parts.{AllPlain}
-use Rattle.wave_lex.proofs.LongestPrefix.ByComputing.{is_ascii}
+use Rattle.wave_lex.proofs.LongestPrefix.ByComputing.{is_ascii, ascii_spelled}
 use Rattle.wave_lex.proofs.LongestPrefix.MachineWalks.{front_boundary}
 use Rattle.wave_lex.proofs.RegularShapes.Comparisons.{and_true}
 use Rattle.wave_grammar.specs.Token.{Token, CutsInto, lexeme_of, text_of}
 use Rattle.wave_grammar.specs.LeafTokens.{Spells}
-use Rattle.wave_grammar.proofs.RoundTrip.Tokens.{ascii_itself}
 use Rattle.wave_grammar.proofs.RoundTrip.Escapes.{all_plain, digits_ascii}
 
 -- ---- parts of a text
@@ -226,7 +225,7 @@ string_utf8 token s u (x, e, d) =
 multiline_utf8 : (token s : List ℕ) → IsUtf8 token → MultilineMeans token s → IsUtf8 s
 multiline_utf8 token s u (x, e, d) =
     let v : IsUtf8 (x ++ three_quotes) = ascii_off three_quotes (x ++ three_quotes) refl (subst IsUtf8 e u) in
-    decodes_lines_utf8 x s (front_utf8 x three_quotes v (three_quotes, (refl, ascii_itself three_quotes refl))) d
+    decodes_lines_utf8 x s (front_utf8 x three_quotes v (three_quotes, (refl, ascii_spelled three_quotes refl))) d
 
 -- a token of UTF-8 spells a sound value of its type
 pub spelled_sound : (S : Simple) (token : Token) (one : Leaf) → IsUtf8 (text_of token) → Spells S token one → IsLeafOf S one

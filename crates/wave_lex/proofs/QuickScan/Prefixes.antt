@@ -22,9 +22,9 @@ take_plus s p k h =
     let l : length (take p s) ≡ p = length-take-le p s h in
     ap (λ (z : ℕ). take (z + k) s) (sym l) ∙ (ap (λ (z : List ℕ). take (length (take p s) + k) z) (sym (take-append-drop p s)) ∙ take-append-add (take p s) (drop p s) k)
 
--- a prefix of the rest, with what was read, is a prefix
-front_joined : (r q : Regex) (s t : List ℕ) (p k : ℕ) → t ≡ drop p s → LeadsTo r q s p → IsPrefixOf q t k → IsPrefixOf r s (p + k)
-front_joined r q s t p k e h f =
+-- what leads on from where something leads
+pub leads_on : (r q w : Regex) (s t : List ℕ) (p k : ℕ) → t ≡ drop p s → LeadsTo r q s p → LeadsTo q w t k → LeadsTo r w s (p + k)
+leads_on r q w s t p k e h f =
     let long : length t ≡ length (drop p s) = ap length e in
     let fits : p ≤ length s = h.fits in
     let inside : k ≤ length t = f.fits in
@@ -33,9 +33,14 @@ front_joined r q s t p k e h f =
       fits = omega (arith, length-drop p s);
       spelled = encodes-append h.scalars f.scalars ∙ (ap (λ (z : List ℕ). z ++ encode_utf8_all f.scalars) h.spelled
           ∙ (ap (λ (z : List ℕ). take p s ++ z) (f.spelled ∙ ap (λ (z : List ℕ). take k z) e) ∙ sym (take_plus s p k fits)));
-      has = matches_from (h.scalars ++ f.scalars) r
-          (ap nullable (after_all_append h.scalars f.scalars r ∙ ap (λ (z : Regex). derivative_by f.scalars z) h.has) ∙ matches_into f.scalars q f.has);
+      has = after_all_append h.scalars f.scalars r ∙ (ap (λ (z : Regex). derivative_by f.scalars z) h.has ∙ f.has);
     }
+
+-- a prefix of the rest, with what was read, is a prefix
+front_joined : (r q : Regex) (s t : List ℕ) (p k : ℕ) → t ≡ drop p s → LeadsTo r q s p → IsPrefixOf q t k → IsPrefixOf r s (p + k)
+front_joined r q s t p k e h f =
+    let on = leads_on r q (derivative_by f.scalars q) s t p k e h (record { scalars = f.scalars; fits = f.fits; spelled = f.spelled; has = refl }) in
+    record { scalars = on.scalars; fits = on.fits; spelled = on.spelled; has = matches_from on.scalars r (ap nullable on.has ∙ matches_into f.scalars q f.has) }
 
 -- a longer prefix is a prefix of the rest
 front_left : (r q : Regex) (s t : List ℕ) (p k : ℕ) → t ≡ drop p s → LeadsTo r q s p → IsPrefixOf r s (p + k) → IsPrefixOf q t k
@@ -90,20 +95,6 @@ scalar_behind r q s t c k e h g =
     front_behind r q s t (length (encode_utf8 c)) k (sym (ap (drop (length (encode_utf8 c))) e ∙ drop-append_seam (encode_utf8 c) t))
     (record { scalars = c ∷ []; fits = omega arith; spelled = append-nil (encode_utf8 c) ∙ sym (ap (take (length (encode_utf8 c))) e ∙ take-append_seam (encode_utf8 c) t); has = h })
     g
-
--- what leads on from where something leads
-pub leads_on : (r q w : Regex) (s t : List ℕ) (p k : ℕ) → t ≡ drop p s → LeadsTo r q s p → LeadsTo q w t k → LeadsTo r w s (p + k)
-leads_on r q w s t p k e h f =
-    let long : length t ≡ length (drop p s) = ap length e in
-    let fits : p ≤ length s = h.fits in
-    let inside : k ≤ length t = f.fits in
-    record {
-      scalars = h.scalars ++ f.scalars;
-      fits = omega (arith, length-drop p s);
-      spelled = encodes-append h.scalars f.scalars ∙ (ap (λ (z : List ℕ). z ++ encode_utf8_all f.scalars) h.spelled
-          ∙ (ap (λ (z : List ℕ). take p s ++ z) (f.spelled ∙ ap (λ (z : List ℕ). take k z) e) ∙ sym (take_plus s p k fits)));
-      has = after_all_append h.scalars f.scalars r ∙ (ap (λ (z : Regex). derivative_by f.scalars z) h.has ∙ f.has);
-    }
 
 -- what leads to q passes no prefix of r
 abbrev pub PassesNone : Regex → Regex → Type 0

@@ -11,7 +11,7 @@ and_true true b e = (refl, e)
 and_true false b e = cc
 
 -- a true choice has a true side
-or_true : (a b : Bool) → (a || b) ≡ true → (a ≡ true) ⊎ (b ≡ true)
+pub or_true : (a b : Bool) → (a || b) ≡ true → (a ≡ true) ⊎ (b ≡ true)
 or_true true b e = inl refl
 or_true false b e = inr e
 

@@ -221,7 +221,7 @@ ascii_text (alt p q) s a (inr m) = ascii_text q s (and_true (only_ascii p) (only
 ascii_text (star p) s a (parts, e, each) = subst IsAscii (sym e) (ascii_joined (Matches p) (λ x m. ascii_text p x a m) parts each)
 
 -- a text of the class is spelled by itself
-spelled_by_itself : (s : List ℕ) → Matches label_or_keyword s → encode_utf8_all s ≡ s
+pub spelled_by_itself : (s : List ℕ) → Matches label_or_keyword s → encode_utf8_all s ≡ s
 spelled_by_itself s m = encodes-IsAscii s (ascii_text label_or_keyword s refl m)
 
 -- a text of the class is a label, or `%` and a label

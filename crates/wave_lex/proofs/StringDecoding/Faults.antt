@@ -33,7 +33,7 @@ bad_escape_refuses s i (front, rest, u, whole, (ps, cut), none, place) t d = stu
 -- ---- lines
 
 -- a bad line means nothing
-bad_line : (k at : ℕ) (line t : List ℕ) (f : LineFault) → BadLine k at line f → LineMeans k line t → ⊥
+pub bad_line : (k at : ℕ) (line t : List ℕ) (f : LineFault) → BadLine k at line f → LineMeans k line t → ⊥
 bad_line k at line t f (inl (bad, e)) (y, (x, whole, drops), d) = bad x whole
 bad_line k at line t f (inr (y, i, (x, whole, drops), bad, e)) (z, (w, there, drops2), d) =
     let same : x ≡ w = append_cancel_left (spaces k) x w (sym whole ∙ there) in
@@ -61,7 +61,7 @@ bad_between s t f b d =
     (subst (λ (z : List (List ℕ)). LinesMean b.indent z d.texts) (sym ends.0) (subst (λ (z : ℕ). LinesMean z d.between d.texts) (sym same) d.lines))
 
 -- two pieces or more open well where the first does
-opens_well : (p : List ℕ) (ps : List (List ℕ)) (q : List ℕ) → Opens p → OpensWell (p ∷ (ps ++ q ∷ []))
+pub opens_well : (p : List ℕ) (ps : List (List ℕ)) (q : List ℕ) → Opens p → OpensWell (p ∷ (ps ++ q ∷ []))
 opens_well p [] q h = h
 opens_well p (r ∷ ps) q h = h
 

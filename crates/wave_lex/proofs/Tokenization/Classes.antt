@@ -1,7 +1,6 @@
 -- The first scalar of a token determines its class.
-use Rattle.std.proofs.Common.{◌≡◌, ℕ, ◌≤◌, ◌<◌, ◌≢◌, get_or, Bool, true, false, nat_eq, List, [], ◌∷◌, ◌++◌, ◌⊎◌, inl, inr, refl, sym, ap, subst, ◌∙◌, length, take, drop, arith, Option, Some, None, append_assoc}
+use Rattle.std.proofs.Common.{◌≡◌, ℕ, ◌≤◌, ◌<◌, ◌≢◌, get_or, Bool, true, false, nat_eq, List, [], ◌∷◌, ◌++◌, inl, inr, refl, sym, ap, subst, ◌∙◌, length, take, drop, arith, Option, Some, None, append_assoc, length-take-le}
 use Rattle.std.specs.Prelude.{◌||◌, encode_utf8, encode_utf8_all, if◌then◌else◌}
-use Rattle.std.proofs.Common.{length-take-le}
 use Rattle.std.proofs.lemmas.Bool.{cases_lt, eqb-true}
 use Rattle.std.proofs.lemmas.List.{take-append-drop}
 use Rattle.std.proofs.lemmas.Str.{encode_same}
@@ -12,13 +11,8 @@ use Rattle.wave_lex.specs.Derive.{nullable, derivative}
 use Rattle.wave_lex.specs.Tokens.{shape, word, string}
 use Rattle.wave_lex.specs.Tokenization.{three_quotes, MayStandAt, IsToken}
 use Rattle.wave_lex.specs.Classes.{class_of, ClassAt}
-use Rattle.wave_lex.proofs.RegularShapes.Derivatives.{after_into, empty_into}
+use Rattle.wave_lex.proofs.RegularShapes.Derivatives.{after_into, empty_into, or_true}
 use Rattle.wave_lex.proofs.RegularShapes.Comparisons.{same, same_true, each_below, each_below_at, is_ascii_shape, after_past, one_is}
-
--- a true choice has a true side
-pub or_true : (a b : Bool) → (a || b) ≡ true → (a ≡ true) ⊎ (b ≡ true)
-or_true true b e = inl refl
-or_true false b e = inr e
 
 -- a number for each class
 abbrev number_of : Token → ℕ

@@ -8,7 +8,7 @@ use Rattle.wave_lex.specs.LexerRuns.{ComeTo, TokensCut}
 use Rattle.wave_lex.proofs.Tokenization.NextToken.{next_one}
 
 -- the source at the span of an item that was passed
-passed_text : (l m : Lexed) (g k : ℕ) → Passes l m g k → slice_range m.source m.start m.end ≡ take k (drop g (remainder_of l))
+pub passed_text : (l m : Lexed) (g k : ℕ) → Passes l m g k → slice_range m.source m.start m.end ≡ take k (drop g (remainder_of l))
 passed_text l m g k p =
     let size : m.end - m.start ≡ k = omega (arith, p.start, p.end) in
     let there : drop m.start m.source ≡ drop g (remainder_of l) =
@@ -16,7 +16,7 @@ passed_text l m g k p =
     ap (λ (z : ℕ). take z (drop m.start m.source)) size ∙ ap (λ (z : List ℕ). take k z) there
 
 -- what is left after it
-passed_rest : (l m : Lexed) (g k : ℕ) → Passes l m g k → remainder_of m ≡ drop (g + k) (remainder_of l)
+pub passed_rest : (l m : Lexed) (g k : ℕ) → Passes l m g k → remainder_of m ≡ drop (g + k) (remainder_of l)
 passed_rest l m g k p =
     let place : m.end ≡ l.end + (g + k) = omega (arith, p.end) in
     ap (λ (z : ℕ). drop z m.source) place ∙ (ap (λ (z : List ℕ). drop (l.end + (g + k)) z) p.source ∙ sym (drop-drop (g + k) l.end l.source))

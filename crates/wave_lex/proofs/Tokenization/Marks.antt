@@ -12,7 +12,8 @@ use Rattle.wave_lex.specs.Tokens.{shape, one}
 use Rattle.wave_lex.specs.Tokenization.{MayStandAt, IsLongestToken}
 use Rattle.wave_lex.specs.Classes.{class_of, ClassAt}
 use Rattle.wave_lex.specs.Private.Reading.{IsMark, IsFirstMark}
-use Rattle.wave_lex.proofs.Tokenization.Classes.{class_here, not_quoted, or_true}
+use Rattle.wave_lex.proofs.RegularShapes.Derivatives.{or_true}
+use Rattle.wave_lex.proofs.Tokenization.Classes.{class_here, not_quoted}
 use Rattle.wave_lex.proofs.QuickScan.ByteRuns.{mark_here, no_gap}
 use Rattle.wave_lex.proofs.RegularShapes.Comparisons.{each_below_at}
 

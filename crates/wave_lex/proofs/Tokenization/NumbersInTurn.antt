@@ -18,7 +18,8 @@ use Rattle.wave_lex.specs.Private.Reading.{IsNumberBehindComma}
 use Rattle.wave_lex.proofs.LongestPrefix.MachineWalks.{front_boundary}
 use Rattle.wave_lex.proofs.RegularShapes.Comparisons.{each_below_at}
 use Rattle.wave_lex.proofs.QuickScan.ByteRuns.{digit_ascii}
-use Rattle.wave_lex.proofs.Tokenization.Classes.{class_here, not_quoted, or_true, shows, shows_true}
+use Rattle.wave_lex.proofs.RegularShapes.Derivatives.{or_true}
+use Rattle.wave_lex.proofs.Tokenization.Classes.{class_here, not_quoted, shows, shows_true}
 use Rattle.wave_lex.proofs.Tokenization.LexerSteps.{stands_behind, stands_next}
 use Rattle.wave_lex.proofs.Tokenization.Marks.{first_then}
 

@@ -1,13 +1,14 @@
 -- The tokens of the text of a type are the text's, and no others.
-use Rattle.std.proofs.Common.{◌≡◌, ℕ, zero, suc, get_or, ◌+◌, ◌-◌, ◌≤◌, ◌<◌, Bool, true, false, List, [], ◌∷◌, ◌++◌, inl, inr, Option, Some, None, Result, Ok, Err, refl, sym, ap, subst, ◌∙◌, arith, length, take, drop, length-drop}
+use Rattle.std.proofs.Common.{◌≡◌, ℕ, zero, suc, get_or, ◌+◌, ◌≤◌, ◌<◌, Bool, true, false, List, [], ◌∷◌, ◌++◌, inl, inr, Option, Some, None, Result, Ok, Err, refl, sym, ap, subst, ◌∙◌, arith, length, take, drop, length-drop}
 use Rattle.std.specs.Prelude.{min, slice_range}
 use Rattle.std.specs.declared.ops.Range.{Range}
-use Rattle.std.proofs.lemmas.List.{drop-drop, length-take}
+use Rattle.std.proofs.lemmas.List.{length-take}
 use Rattle.wave_lex.specs.declared.lex.Token.{Token}
 use Rattle.wave_lex.specs.Tokens.{invalid, shape}
 use Rattle.wave_wasm.specs.Names.{is_one_of}
 use Rattle.wave_lex.specs.Tokenization.{IsGap, IsLongestToken, IsInvalid, Lexed, Passes, NextIs, remainder_of}
 use Rattle.wave_lex.proofs.Tokenization.Classes.{shape_not_empty}
+use Rattle.wave_lex.proofs.Tokenization.LexerRuns.{passed_text, passed_rest}
 use Rattle.wave_lex.proofs.Tokenization.OneCut.{same_gap, no_token_left}
 use Rattle.wave_lex.proofs.LongestPrefix.ByComputing.{front_positive}
 use Rattle.wave_type.specs.declared.tokens.Token.{Token as Piece}
@@ -49,20 +50,6 @@ one_cut (t ∷ ts) (u ∷ us) s (g, k, gap, item, e, more) (h, j, gap', item', e
     λ i. text i ∷ tail i
 
 -- ---- what a lexer passes
-
--- the source at the span of an item that was passed
-passed_text : (l m : Lexed) (g k : ℕ) → Passes l m g k → slice_range m.source m.start m.end ≡ take k (drop g (remainder_of l))
-passed_text l m g k p =
-    let size : m.end - m.start ≡ k = omega (arith, p.start, p.end) in
-    let there : drop m.start m.source ≡ drop g (remainder_of l) =
-    ap (λ (z : ℕ). drop z m.source) p.start ∙ (ap (λ (z : List ℕ). drop (l.end + g) z) p.source ∙ sym (drop-drop g l.end l.source)) in
-    ap (λ (z : ℕ). take z (drop m.start m.source)) size ∙ ap (λ (z : List ℕ). take k z) there
-
--- what is left after it
-passed_rest : (l m : Lexed) (g k : ℕ) → Passes l m g k → remainder_of m ≡ drop (g + k) (remainder_of l)
-passed_rest l m g k p =
-    let place : m.end ≡ l.end + (g + k) = omega (arith, p.end) in
-    ap (λ (z : ℕ). drop z m.source) place ∙ (ap (λ (z : List ℕ). drop (l.end + (g + k)) z) p.source ∙ sym (drop-drop (g + k) l.end l.source))
 
 less_left : (l m : Lexed) (g k : ℕ) → Passes l m g k → 0 < k → k ≤ length (drop g (remainder_of l)) → length (remainder_of m) < length (remainder_of l)
 less_left l m g k p some fits = omega (arith, ap length (passed_rest l m g k p), length-drop (g + k) (remainder_of l), length-drop g (remainder_of l), p.skipped.0.fits)
