@@ -6,24 +6,20 @@ use Rattle.std.specs.declared.ops.Range.{Range}
 use Rattle.std.proofs.lemmas.List.{append-nil, take-append-drop, drop-drop, length-take-le, length-append, length-drop}
 use Rattle.std.proofs.lemmas.Grind.{flat_map-append}
 use Rattle.std.proofs.Math.Seq.{take-add, take-append_seam}
-use Rattle.wave_wasm.specs.Lists.{AllOf}
 use Rattle.wave_lex.specs.Tokens.{backslash, single_quote, double_quote, line_feed}
 use Rattle.wave_lex.specs.Strings.{IsEscape, UnescapesTo}
 use Rattle.wasm_wave.specs.EscapeMarks.{IsInside, IsRun, IsEscapeMark}
+use Rattle.wave_grammar.proofs.Fields.Lookup.{all_last}
 
 -- before the first piece
 pub run_start : (q : ℕ) → IsRun q []
 run_start q = ([], tt, refl)
 
-all_more : {A : Type 0} (P : A → Type 0) (xs : List A) (x : A) → AllOf P xs → P x → AllOf P (xs ++ x ∷ [])
-all_more P [] x all one = (one, tt)
-all_more P (y ∷ xs) x (first, all) one = (first, all_more P xs x all one)
-
 -- a run and one more piece
 run_more : (q : ℕ) (run p : List ℕ) → IsRun q run → IsInside q p → IsRun q (run ++ p)
 run_more q run p (pieces, all, is) one = (
   pieces ++ p ∷ [],
-  all_more (IsInside q) pieces p all one,
+  all_last (IsInside q) pieces p all one,
   ap (λ x. x ++ p) is ∙ sym (flat_map-append (λ x. x) pieces (p ∷ []) ∙ ap (λ x. flat_map (λ x. x) pieces ++ x) (append-nil p)),
 )
 

@@ -2,7 +2,7 @@
 use Rattle.std.proofs.Common.{ℕ, ◌≡◌, ◌≢◌, ◌∙◌, ◌++◌, List, [], ◌∷◌, Option, Some, None, inl, inr, map, drop, refl, sym, ap, subst, arith}
 use Rattle.std.specs.Prelude.{◌↔◌}
 use Rattle.std.specs.declared.ops.Range.{Range}
-use Rattle.wave_wasm.specs.Lists.{AllOf, SomeOf}
+use Rattle.wave_wasm.specs.Lists.{AllOf}
 use Rattle.wave_wasm.specs.Text.{arguments_text}
 use Rattle.wave_wasm.specs.Types.{TypeTree, HasDistinctNames}
 use Rattle.wave_wasm.specs.Values.{Value}
@@ -14,7 +14,7 @@ use Rattle.wave_value.specs.TypedValue.{TypedValue, IsAt}
 use Rattle.wave_grammar.specs.Token.{Token, CutsInto, paren_close}
 use Rattle.wave_grammar.specs.Tree.{Tree, Trees, MaybeTree, no_tree, a_tree, tuple, trees}
 use Rattle.wave_grammar.specs.Calls.{IsCall, SpellsParams}
-use Rattle.wave_grammar.specs.Params.{Params, Omitted}
+use Rattle.wave_grammar.specs.Params.{Params}
 use Rattle.wave_grammar.specs.ParamElaboration.{TreeParams}
 use Rattle.wave_grammar.specs.SpannedTree as placed
 use Rattle.wave_grammar.specs.SpannedTree.{SpannedTree, SpannedShape, shape_of, placed_trees, tree_of, tree_of_shape, slice}
@@ -22,13 +22,13 @@ use Rattle.wave_grammar.proofs.Elaboration.Params.{params_by_tree}
 use Rattle.wave_grammar.proofs.RoundTrip.Leaves.{one_cut_into}
 use Rattle.wave_grammar.specs.NodeTree.{NodeTree, type_of}
 use Rattle.wave_grammar.specs.Nodes.{placed_of}
-use Rattle.wave_grammar.specs.NodeParams.{IsNoOption, RefusesParams, RefusesNone, close_of}
+use Rattle.wave_grammar.specs.NodeParams.{RefusesParams, RefusesNone, close_of}
 use Rattle.wave_grammar.specs.declared.form.NodeType.{NodeType}
 use Rattle.wave_grammar.specs.declared.form.NodeType.TheVariants as form
 use Rattle.wave_grammar.proofs.ByKind.Leaves.{tree_is}
 use Rattle.wave_grammar.proofs.ByKind.Lists.{trees_are}
 use Rattle.wave_grammar.proofs.ChildNodes.Inside.{From, inside}
-use Rattle.wave_grammar.proofs.Elaboration.ParamsInTurn.{omitted_values, item_values, items_fault, fault_none}
+use Rattle.wave_grammar.proofs.Elaboration.ParamsInTurn.{omitted_values, item_values, items_fault, fault_none, no_omitted}
 use Rattle.wave_tree.specs.UntypedCall.{Called, IsCalledOf, MeansParams, RefusesCall, GivesParamsAt, RefusesParamsAt}
 use Rattle.wave.specs.TypedCalls.{IsCallAt, HasParamsFault}
 use Rattle.wave.specs.declared.request.Request.TheVariants.{CallAt}
@@ -117,11 +117,6 @@ read_at Ts s u vs distinct of gives =
     (of.params, of.call, (it.by Ts (values_of vs)).1 (given Ts u.source u.params of.params it.items vs distinct (means_at s u of) it.are gives))
 
 -- ---- what was refused
-
-no_omitted : (Ts : List TypeTree) (vs : List Value) → SomeOf IsNoOption Ts → Omitted Ts vs → ⊥
-no_omitted [] vs some left_out = some
-no_omitted (T ∷ Ts) vs (inl apart) (others, is, rest, e) = apart is
-no_omitted (T ∷ Ts) vs (inr more) (others, is, rest, e) = no_omitted Ts others more rest
 
 -- a fault of the parameters, and that the trees of their items have no values
 abbrev IsBlamed : List TypeTree → List ℕ → Range ℕ → Option NodeTree → List Tree → Diagnostic → Type 0

@@ -1,32 +1,20 @@
 -- What reading without a type says of a request.
-use Rattle.std.proofs.Common.{ℕ, ◌≡◌, ◌≢◌, ◌++◌, List, [], Option, Some, None, Ok, Err, ap, sym, subst, ◌∙◌}
+use Rattle.std.proofs.Common.{ℕ, ◌≡◌, ◌≢◌, ◌++◌, List, [], Ok, Err, ap, subst, ◌∙◌}
 use Rattle.wave_lex.specs.Errors.{Diagnostic}
 use Rattle.wave_lex.specs.declared.error.ParserErrorKind.TheVariants as kind
-use Rattle.wave_grammar.specs.Tree.{MaybeTree, shown}
-use Rattle.wave_grammar.specs.Calls.{shown_call}
-use Rattle.wave_grammar.specs.SpannedTree.{SpannedTree, tree_of, slice}
-use Rattle.wave_grammar.specs.NodeTree.{NodeTree}
-use Rattle.wave_grammar.specs.Nodes.{placed_of}
-use Rattle.wave_tree.specs.NodeDisplay.{shown_placed, shown_at}
+use Rattle.wave_grammar.specs.SpannedTree.{tree_of, slice}
+use Rattle.wave_tree.specs.NodeDisplay.{shown_at}
 use Rattle.wave_tree.specs.ParserState.{Parsing, Finishes, first_at, limited, start_of}
 use Rattle.wave_tree.specs.Untyped.{Untyped, IsUntypedTaken, IsUntypedOf, RefusesTree}
 use Rattle.wave_tree.proofs.TextReading.TypedTexts.{whole_tree}
 use Rattle.wave_grammar.specs.ParserPosition.{Place}
 use Rattle.wave_grammar.specs.PrefixAutomaton.{value}
 use Rattle.wave_grammar.specs.SyntaxErrors.{LeadsBehindValue, FailsBySyntax}
-use Rattle.wave_tree.specs.UntypedCall.{Called, IsCalledOf, RefusesCall, MeansParams, params_at, call_shown}
+use Rattle.wave_tree.specs.UntypedCall.{Called, IsCalledOf, RefusesCall, params_at, call_shown}
 use Rattle.wave.specs.declared.request.Request.TheVariants.{Value, Call}
 use Rattle.wave.specs.Answers.{Answers, IsRefused}
-
--- what shows a node whose tree is known
-shown_known : (source : List ℕ) (n : NodeTree) (t : SpannedTree) → placed_of source n ≡ Some t → shown_at source n ≡ shown (tree_of t)
-unfolding shown_at
-shown_known source n t is = ap shown_placed is
-
--- what is shown of a call's parameters is the display of their tuple
-params_shown : (source name : List ℕ) (o : Option NodeTree) (params : MaybeTree) → MeansParams source o params → name ++ params_at source o ≡ shown_call name params
-params_shown source name None params is = sym (ap (shown_call name) is)
-params_shown source name (Some n) params (t, node, is) = ap (λ (z : List ℕ). name ++ z) (shown_known source n t node.0) ∙ sym (ap (shown_call name) is)
+use Rattle.wave_tree.proofs.Displays.Nodes.{shown_known}
+use Rattle.wave_tree.proofs.Displays.Meaning.{params_shown}
 
 -- the display of the tree is the answer
 pub displayed : (n : ℕ) (s : List ℕ) (u : Untyped) (answer : List ℕ) → IsUntypedOf n s u → answer ≡ shown_at u.source u.node → Answers (Value n) s answer

@@ -31,7 +31,7 @@ use Rattle.wave_wasm.proofs.Names.NameTests.{passes}
 use Rattle.wave_grammar.proofs.ByKind.Enums.{none_one}
 use Rattle.wave_wasm.proofs.Names.Subsequences.{picked_distinct, picked_of}
 use Rattle.wave_grammar.proofs.RoundTrip.Typed.{found_picked}
-use Rattle.wave_grammar.proofs.NodeMeaning.Flags.{FlagsNode, flags_given}
+use Rattle.wave_grammar.proofs.NodeMeaning.Flags.{FlagsNode, flags_given, same_flags}
 use Rattle.wave_wasm.proofs.CanonicalText.ValueParts.{map_map}
 use Rattle.wave_grammar.specs.declared.form.NodeType.{NodeType}
 use Rattle.wave_grammar.specs.declared.form.NodeType.TheVariants as kind
@@ -139,9 +139,6 @@ pub flags_none : (names : List (List ℕ)) (t : SpannedTree) (k : Refusal) (q : 
 flags_none names (at p (flags fs)) k q v fault (words, inl a, all, f) = absurd (cc a.0)
 flags_none names (at p (flags fs)) k q v fault (words, inr a, all, f) =
     some_unknown names p fs k q fault (subst (λ (l : List (List ℕ)). AreAllOf names (map name_of l)) (sym (same_flags (map (λ (f : Range ℕ × List ℕ). f.1) fs) words a)) all)
-  where
-    same_flags : (us ws : List (List ℕ)) → form.flags us ≡ form.flags ws → us ≡ ws
-    same_flags us ws e = cc
 flags_none names (at p empty_braces) k q v fault read = fault
 flags_none names (at p _) k q v fault (words, inl a, all, f) = absurd (cc a.0)
 flags_none names (at p _) k q v fault (words, inr a, all, f) = absurd (cc a)

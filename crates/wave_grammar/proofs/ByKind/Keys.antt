@@ -73,7 +73,7 @@ bool_spelled b ty text (token.string w) h labelled e = absurd (cc (h.0))
 bool_spelled b ty text (token.multiline w) h labelled e = absurd (cc (h.0))
 bool_spelled b ty text _ h labelled e = absurd h
 
-label_is : (a b : List ℕ) → token.label a ≡ token.label b → a ≡ b
+pub label_is : (a b : List ℕ) → token.label a ≡ token.label b → a ≡ b
 label_is a b e = cc
 
 bool_unspelled : (ty : NodeType) (text : List ℕ) (p : Range ℕ) (key : Token) (k : Refusal) (q : Range ℕ) → IsKeyToken ty text key → ((b : Bool) → ty ≡ kind.Label → text ≢ bool_text b) → IsRefusalOf InvalidType p k q → LoneKeyFault type.bool p key k q

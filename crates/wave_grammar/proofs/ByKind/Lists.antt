@@ -22,7 +22,7 @@ use Rattle.wave_grammar.specs.NodeTree.{NodeTree, type_of, place_of, children_of
 use Rattle.wave_grammar.specs.Nodes.{placed_of, IsNodeOf}
 use Rattle.wave_grammar.specs.TypedReading.{IsTypedValue, IsBlamed, IsMade, IsValueOf}
 use Rattle.wave_grammar.specs.PartReading.{IsOfLength, IsOtherLength}
-use Rattle.wave_grammar.proofs.ChildNodes.Inside.{From, inside, some_is, AreParsed, parsed, nodes_in, nodes_are}
+use Rattle.wave_grammar.proofs.ChildNodes.Inside.{From, inside, some_is, AreParsed, all_parsed}
 use Rattle.wave_grammar.proofs.ChildNodes.Cases.{shape_at}
 use Rattle.wave_grammar.proofs.ByKind.Leaves.{tree_is, at_tree}
 use Rattle.wave_grammar.proofs.ByKind.MakerAnswers.{made}
@@ -91,7 +91,7 @@ list_nodes source n (at r s) h e =
     let i = inside source n (at r s) h.0 in
     let shape : s ≡ list (placed_trees i.children) = sym (some_is _ _ (shape_at kind.List source n (at r s) i e)) in
     let spelled : SpellsEach source (at r (list (placed_trees i.children))) = subst (λ (x : SpannedShape). SpellsEach source (at r x)) shape h.1 in
-    let both : AreParsed source (children_of n) i.children = subst (λ (ns : List NodeTree). AreParsed source ns i.children) (nodes_are n) (parsed source (nodes_in n) i.children i.each) in
+    let both : AreParsed source (children_of n) i.children = all_parsed source n (at r s) i in
     record { items = i.children; shape = shape; nodes = spelled_nodes source (children_of n) i.children r.start r.end both spelled.1 }
 
 -- a type of either kind of list has an element type

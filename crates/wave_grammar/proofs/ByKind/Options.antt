@@ -130,24 +130,31 @@ module _ {V : Type 0} (tree : V → Value) (of : V → TypeTree → Type 0) (Ful
 
 -- ---- no value
 
--- no flat type reads `some`
-flat_some : (P : TypeTree) (u : form.Tree) (w : Value) → IsFlat P → TreeReads P (form.some u) w → ⊥
-flat_some (type.simple S) u w f h = absurd (cc h.2)
-flat_some (type.unreadable k) u w f h = h
-flat_some (type.list E) u w f h = absurd (cc h.2)
-flat_some (type.fixed E n) u w f h = absurd (cc h.2)
-flat_some (type.record_type fs) u w f (es, found, all, inl a, b, c, d, e) = absurd (cc a.0)
-flat_some (type.record_type fs) u w f (es, found, all, inr a, b, c, d, e) = absurd (cc a.0)
-flat_some (type.tuple Ts) u w f h = absurd (cc h.2)
-flat_some (type.variant cs) u w f h = absurd (cc h.3)
-flat_some (type.enum names) u w f h = absurd (cc h.1)
-flat_some (type.option P) u w f h = f
-flat_some (type.result A B) u w f h = f
-flat_some (type.flags names) u w f (texts, inl a, b, c) = absurd (cc a.0)
-flat_some (type.flags names) u w f (texts, inr a, b, c) = absurd (cc a)
-flat_some (type.map K W) u w f (es, pairs, inl (inl a, b), c, d) = absurd (cc a)
-flat_some (type.map K W) u w f (es, pairs, inl (inr a, b), c, d) = absurd (cc a)
-flat_some (type.map K W) u w f (es, pairs, inr a, c, d) = absurd (cc a.0)
+-- `some`, `ok` and `err`
+abbrev pub IsWrapped : form.Tree → Type 0
+IsWrapped (form.some u) = Unit {0}
+IsWrapped (form.ok u) = Unit {0}
+IsWrapped (form.err u) = Unit {0}
+IsWrapped _ = ⊥
+
+-- no flat type reads them
+pub flat_unwrapped : (P : TypeTree) (t : form.Tree) (w : Value) → IsWrapped t → IsFlat P → TreeReads P t w → ⊥
+flat_unwrapped (type.simple S) t w is f h = subst IsWrapped h.2 is
+flat_unwrapped (type.unreadable k) t w is f h = h
+flat_unwrapped (type.list E) t w is f h = subst IsWrapped h.2 is
+flat_unwrapped (type.fixed E n) t w is f h = subst IsWrapped h.2 is
+flat_unwrapped (type.record_type fs) t w is f (es, found, all, inl a, b, c, d, e) = subst IsWrapped a.0 is
+flat_unwrapped (type.record_type fs) t w is f (es, found, all, inr a, b, c, d, e) = subst IsWrapped a.0 is
+flat_unwrapped (type.tuple Ts) t w is f h = subst IsWrapped h.2 is
+flat_unwrapped (type.variant cs) t w is f h = subst IsWrapped h.3 is
+flat_unwrapped (type.enum names) t w is f h = subst IsWrapped h.1 is
+flat_unwrapped (type.option P) t w is f h = f
+flat_unwrapped (type.result A B) t w is f h = f
+flat_unwrapped (type.flags names) t w is f (texts, inl a, b, c) = subst IsWrapped a.0 is
+flat_unwrapped (type.flags names) t w is f (texts, inr a, b, c) = subst IsWrapped a is
+flat_unwrapped (type.map K W) t w is f (es, pairs, inl (inl a, b), c, d) = subst IsWrapped a is
+flat_unwrapped (type.map K W) t w is f (es, pairs, inl (inr a, b), c, d) = subst IsWrapped a is
+flat_unwrapped (type.map K W) t w is f (es, pairs, inr a, c, d) = subst IsWrapped a.0 is
 
 -- where the payload of `some` has no value, nor has the option
 pub some_none : (P : TypeTree) (u : SpannedTree) (v : Value) → ((w : Value) → TreeReads P (tree_of u) w → ⊥) → TreeReads (type.option P) (form.some (tree_of u)) v → ⊥
@@ -156,7 +163,7 @@ some_none P u v apart (inl (inr (inner, w, e, read, f))) = apart w (subst (λ (t
   where
     some_once : (a b : form.Tree) → form.some a ≡ form.some b → a ≡ b
     some_once a b e = cc
-some_none P u v apart (inr (w, h, f)) = flat_some P (tree_of u) w h.0 h.1
+some_none P u v apart (inr (w, h, f)) = flat_unwrapped P (form.some (tree_of u)) w tt h.0 h.1
 
 -- where a node of another form has no value at a flat payload type
 pub flat_none : (P : TypeTree) (t : SpannedTree) (k : Refusal) (q p : _) (w : Value) → (Fault P t k q → (v : Value) → TreeReads P (tree_of t) v → ⊥) → (IsFlat P → ⊥) × IsRefusalOf InvalidType p k q ⊎ IsFlat P × Fault P t k q → IsFlat P → TreeReads P (tree_of t) w → ⊥

@@ -23,7 +23,7 @@ use Rattle.wave_grammar.specs.TypedReading.{IsTypedValue, IsBlamed, IsMade}
 use Rattle.wave_grammar.specs.PartReading.{IsPayloadNodeOf, IsPayloadRead, IsPayloadBlamed}
 use Rattle.wave_grammar.proofs.ChildNodes.Inside.{From, inside, some_is, AreParsed, parsed, nodes_in, nodes_are}
 use Rattle.wave_grammar.proofs.ChildNodes.Cases.{shape_at}
-use Rattle.wave_grammar.proofs.ByKind.Options.{one_parsed}
+use Rattle.wave_grammar.proofs.ByKind.Options.{one_parsed, flat_unwrapped}
 use Rattle.wave_grammar.proofs.ByKind.Leaves.{tree_is, at_tree, said}
 use Rattle.wave_grammar.proofs.ByKind.MakerAnswers.{made}
 use Rattle.wave_grammar.specs.declared.form.NodeType.{NodeType}
@@ -181,43 +181,6 @@ module _ {V : Type 0} (tree : V → Value) (of : V → TypeTree → Type 0) (Ful
 
 -- ---- no value
 
--- no flat type reads `ok` or `err`
-pub flat_ok : (P : TypeTree) (u : form.MaybeTree) (w : Value) → IsFlat P → TreeReads P (form.ok u) w → ⊥
-flat_ok (type.simple S) u w f h = absurd (cc h.2)
-flat_ok (type.unreadable k) u w f h = h
-flat_ok (type.list E) u w f h = absurd (cc h.2)
-flat_ok (type.fixed E n) u w f h = absurd (cc h.2)
-flat_ok (type.record_type fs) u w f (es, found, all, inl a, b, c, d, e) = absurd (cc a.0)
-flat_ok (type.record_type fs) u w f (es, found, all, inr a, b, c, d, e) = absurd (cc a.0)
-flat_ok (type.tuple Ts) u w f h = absurd (cc h.2)
-flat_ok (type.variant cs) u w f h = absurd (cc h.3)
-flat_ok (type.enum names) u w f h = absurd (cc h.1)
-flat_ok (type.option P) u w f h = f
-flat_ok (type.result A B) u w f h = f
-flat_ok (type.flags names) u w f (texts, inl a, b, c) = absurd (cc a.0)
-flat_ok (type.flags names) u w f (texts, inr a, b, c) = absurd (cc a)
-flat_ok (type.map K W) u w f (es, pairs, inl (inl a, b), c, d) = absurd (cc a)
-flat_ok (type.map K W) u w f (es, pairs, inl (inr a, b), c, d) = absurd (cc a)
-flat_ok (type.map K W) u w f (es, pairs, inr a, c, d) = absurd (cc a.0)
-
-pub flat_err : (P : TypeTree) (u : form.MaybeTree) (w : Value) → IsFlat P → TreeReads P (form.err u) w → ⊥
-flat_err (type.simple S) u w f h = absurd (cc h.2)
-flat_err (type.unreadable k) u w f h = h
-flat_err (type.list E) u w f h = absurd (cc h.2)
-flat_err (type.fixed E n) u w f h = absurd (cc h.2)
-flat_err (type.record_type fs) u w f (es, found, all, inl a, b, c, d, e) = absurd (cc a.0)
-flat_err (type.record_type fs) u w f (es, found, all, inr a, b, c, d, e) = absurd (cc a.0)
-flat_err (type.tuple Ts) u w f h = absurd (cc h.2)
-flat_err (type.variant cs) u w f h = absurd (cc h.3)
-flat_err (type.enum names) u w f h = absurd (cc h.1)
-flat_err (type.option P) u w f h = f
-flat_err (type.result A B) u w f h = f
-flat_err (type.flags names) u w f (texts, inl a, b, c) = absurd (cc a.0)
-flat_err (type.flags names) u w f (texts, inr a, b, c) = absurd (cc a)
-flat_err (type.map K W) u w f (es, pairs, inl (inl a, b), c, d) = absurd (cc a)
-flat_err (type.map K W) u w f (es, pairs, inl (inr a, b), c, d) = absurd (cc a)
-flat_err (type.map K W) u w f (es, pairs, inr a, c, d) = absurd (cc a.0)
-
 -- where the payload of `ok` has no value, nor has the result
 pub ok_none : (A B : MaybeType) (u : form.MaybeTree) (v : Value) → ((w : value.MaybeValue) → TreeReadsPayload A u w → ⊥) → TreeReads (type.result A B) (form.ok u) v → ⊥
 ok_none A B u v apart (inl (inl (inner, w, e, read, f))) = apart w (subst (λ (t : form.MaybeTree). TreeReadsPayload A t w) (sym (ok_once u inner e)) read)
@@ -226,7 +189,7 @@ ok_none A B u v apart (inl (inl (inner, w, e, read, f))) = apart w (subst (λ (t
     ok_once a b e = cc
 ok_none A B u v apart (inl (inr (inner, w, e, read, f))) = absurd (cc)
 ok_none type.no_type B u v apart (inr (w, h, f)) = h
-ok_none (type.a_type U) B u v apart (inr (w, h, f)) = flat_ok U u w h.0 h.1
+ok_none (type.a_type U) B u v apart (inr (w, h, f)) = flat_unwrapped U (form.ok u) w tt h.0 h.1
 
 -- where the payload of `err` has no value, nor has the result
 pub err_none : (A B : MaybeType) (u : form.MaybeTree) (v : Value) → ((w : value.MaybeValue) → TreeReadsPayload B u w → ⊥) → TreeReads (type.result A B) (form.err u) v → ⊥
@@ -236,4 +199,4 @@ err_none A B u v apart (inl (inr (inner, w, e, read, f))) = apart w (subst (λ (
     err_once : (a b : form.MaybeTree) → form.err a ≡ form.err b → a ≡ b
     err_once a b e = cc
 err_none type.no_type B u v apart (inr (w, h, f)) = h
-err_none (type.a_type U) B u v apart (inr (w, h, f)) = flat_err U u w h.0 h.1
+err_none (type.a_type U) B u v apart (inr (w, h, f)) = flat_unwrapped U (form.err u) w tt h.0 h.1

@@ -26,7 +26,7 @@ use Rattle.wave_grammar.specs.FaultOrder.{Order, in_text, by_type, BlamesNothing
 use Rattle.wave_grammar.specs.NodeTree.{NodeTree, type_of, place_of, children_of}
 use Rattle.wave_grammar.specs.Nodes.{placed_of, IsNodeOf}
 use Rattle.wave_grammar.specs.TypedReading.{IsTypedValue, IsBlamed, IsMade, IsValueOf}
-use Rattle.wave_grammar.proofs.ChildNodes.Inside.{From, inside, some_is, AreParsed, parsed, nodes_in, nodes_are}
+use Rattle.wave_grammar.proofs.ChildNodes.Inside.{From, inside, some_is, AreParsed, all_parsed}
 use Rattle.wave_grammar.proofs.ChildNodes.Cases.{shape_at}
 use Rattle.wave_grammar.proofs.ByKind.Leaves.{tree_is, at_tree}
 use Rattle.wave_grammar.proofs.ByKind.MakerAnswers.{made}
@@ -78,7 +78,7 @@ distinct_all (type.type_and T more) h = (h.0, distinct_all more h.1)
 pub parts_distinct : (T : TypeTree) (parts : List TypeTree) → TupleType T parts → HasDistinctNames T → AllOf HasDistinctNames parts
 parts_distinct T parts is h = subst (AllOf HasDistinctNames) (sym is.parts_are) (distinct_all is.types (subst HasDistinctNames is.is h))
 
-counted : (Ts : Types) → length (type_list Ts) ≡ count_of Ts
+pub counted : (Ts : Types) → length (type_list Ts) ≡ count_of Ts
 counted type.no_types = refl
 counted (type.type_and T more) = ap suc (counted more)
 
@@ -130,7 +130,7 @@ tuple_nodes source n (at r s) h e =
     let i = inside source n (at r s) h.0 in
     let shape : s ≡ tuple (placed_trees i.children) = sym (some_is _ _ (shape_at kind.Tuple source n (at r s) i e)) in
     let spelled : SpellsEach source (at r (tuple (placed_trees i.children))) = subst (λ (x : SpannedShape). SpellsEach source (at r x)) shape h.1 in
-    let both : AreParsed source (children_of n) i.children = subst (λ (ns : List NodeTree). AreParsed source ns i.children) (nodes_are n) (parsed source (nodes_in n) i.children i.each) in
+    let both : AreParsed source (children_of n) i.children = all_parsed source n (at r s) i in
     let whole = spelled_some spelled.0.0 spelled.0.2.0 (trees_of (placed_trees i.children)) spelled.0.2.1 in
     record { items = i.children; shape = shape; nodes = spelled_nodes source (children_of n) i.children r.start r.end both spelled.1; some = some_items i.children whole.0 (sym (trees_are i.children) ∙ whole.2) whole.1 }
 

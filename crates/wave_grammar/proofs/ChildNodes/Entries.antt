@@ -7,7 +7,7 @@ use Rattle.wave_grammar.specs.TypeErrors.{map_in}
 use Rattle.wave_grammar.specs.NodeTree.{NodeTree, type_of, place_of, children_of}
 use Rattle.wave_grammar.specs.Nodes.{placed_of, shape_from, pairs_of, key_of, with_both, IsNodeOf, IsTokenOf}
 use Rattle.wave_grammar.specs.NodeAccessors.{node_pairs}
-use Rattle.wave_grammar.proofs.ChildNodes.Inside.{From, Inside, inside, some_is, AreParsed, parsed, nodes_in, nodes_are}
+use Rattle.wave_grammar.proofs.ChildNodes.Inside.{From, Inside, inside, some_is, AreParsed, all_parsed}
 use Rattle.wave_grammar.proofs.ChildNodes.Cases.{shape_at}
 use Rattle.wave_grammar.specs.declared.form.NodeType.{NodeType}
 use Rattle.wave_grammar.specs.declared.form.NodeType.TheVariants as kind
@@ -48,7 +48,7 @@ spelled_entries source (n ∷ m ∷ ns) (k ∷ v ∷ cs) es from to h e s =
 abbrev pub IsOfMap : SpannedShape → PlacedEntries → Type 0
 IsOfMap s es = ((s ≡ empty_braces) ⊎ (s ≡ no_fields)) × (es ≡ no_entries) ⊎ (s ≡ entries es) × (0 < length (entry_list es))
 
-entries_are : (o : Option PlacedEntries) (s : SpannedShape) → option_map entries o ≡ Some s → (es : PlacedEntries) × (o ≡ Some es) × (s ≡ entries es)
+pub entries_are : (o : Option PlacedEntries) (s : SpannedShape) → option_map entries o ≡ Some s → (es : PlacedEntries) × (o ≡ Some es) × (s ≡ entries es)
 entries_are (Some es) s e = (es, refl, sym (some_is _ _ e))
 entries_are None s e = absurd (cc)
 
@@ -76,10 +76,10 @@ pub record MapNodes (source : List ℕ) (n : NodeTree) (t : SpannedTree) : Type 
 
 entries_nodes : (source : List ℕ) (n : NodeTree) (r : Range ℕ) (s : SpannedShape) (i : Inside source n (at r s)) (es : PlacedEntries) → pairs_of i.children ≡ Some es → IsOfMap s es → SpellsEach source (at r s) → AreEntriesOf source (node_pairs (children_of n)) (entry_list es)
 entries_nodes source n r s i es pairs (inl h) spelled =
-    let both : AreParsed source (children_of n) i.children = subst (λ (ns : List NodeTree). AreParsed source ns i.children) (nodes_are n) (parsed source (nodes_in n) i.children i.each) in
+    let both : AreParsed source (children_of n) i.children = all_parsed source n (at r s) i in
     spelled_entries source (children_of n) i.children es r.start r.end both pairs (subst (SpellsEntries source r.start r.end) (sym h.1) tt)
 entries_nodes source n r s i es pairs (inr h) spelled =
-    let both : AreParsed source (children_of n) i.children = subst (λ (ns : List NodeTree). AreParsed source ns i.children) (nodes_are n) (parsed source (nodes_in n) i.children i.each) in
+    let both : AreParsed source (children_of n) i.children = all_parsed source n (at r s) i in
     let all : SpellsEach source (at r (entries es)) = subst (λ (x : SpannedShape). SpellsEach source (at r x)) h.0 spelled in
     spelled_entries source (children_of n) i.children es r.start r.end both pairs all.1
 

@@ -168,3 +168,7 @@ pair_parsed source (m ∷ n ∷ o ∷ ns) c t h = absurd h.1.1
 -- the nodes within a node, as a list
 pub nodes_are : (n : NodeTree) → node_list (nodes_in n) ≡ children_of n
 nodes_are (node ty p ns) = refl
+
+-- the nodes of a node mean its trees
+pub all_parsed : (source : List ℕ) (n : NodeTree) (t : SpannedTree) (i : Inside source n t) → AreParsed source (children_of n) i.children
+all_parsed source n t i = subst (λ (ns : List NodeTree). AreParsed source ns i.children) (nodes_are n) (parsed source (nodes_in n) i.children i.each)

@@ -26,7 +26,7 @@ use Rattle.wave_grammar.specs.NodeTree.{NodeTree, place_of}
 use Rattle.wave_grammar.specs.Nodes.{IsNodeOf}
 use Rattle.wave_grammar.specs.ErrorSpans.{StandsIn, HasTypeKind}
 use Rattle.wave_grammar.proofs.ChildNodes.Inside.{inside}
-use Rattle.wave_grammar.proofs.ByKind.Lists.{HasAt, AreNodesOf, node_at}
+use Rattle.wave_grammar.proofs.ByKind.Lists.{HasAt, AreNodesOf, node_at, as_many}
 use Rattle.wave_grammar.proofs.ByKind.Tuples.{all_has}
 use Rattle.wave_wasm.proofs.TypesOfValues.TypeOfKind.{formed_as}
 
@@ -88,13 +88,6 @@ mapped_count f (x ∷ xs) = ap suc (mapped_count f xs)
 -- what is left of a list, mapped
 pub rest_mapped : {A B : Type 0} (f : A → B) (xs : List A) (n : ℕ) → map f (take (length xs - n) (drop n xs)) ≡ drop n (map f xs)
 rest_mapped f xs n = ap (map f) (take_all (length xs - n) (drop n xs) (omega (arith, length-drop n xs))) ∙ sym (drop-map f n xs)
-
--- as many nodes as trees
-node_count : (source : List ℕ) (ns : List NodeTree) (ts : List SpannedTree) → AreNodesOf source ns ts → length ns ≡ length ts
-node_count source [] [] h = refl
-node_count source [] (t ∷ ts) h = absurd h
-node_count source (n ∷ ns) [] h = absurd h
-node_count source (n ∷ ns) (t ∷ ts) h = ap suc (node_count source ns ts h.1)
 
 -- one more
 pub pushed : {A : Type 0} (xs ys : List A) (x : A) (i : ℕ) → ys ≡ xs ++ x ∷ [] → length xs ≡ i → length ys ≡ i + 1
@@ -185,7 +178,7 @@ module _ {V : Type 0} (tree : V → Value) (of : V → TypeTree → Type 0) (Ful
   pub params_read : (source : List ℕ) (Ts Left : List TypeTree) (ns : List NodeTree) (ts : List SpannedTree) (vs ws : List V) (i : ℕ) → AreNodesOf source ns ts → i ≤ length ns → length ns ≤ i → i ≤ length Ts → AreRead tree of (take i Ts) (take i ts) vs → Left ≡ drop (length ns) Ts →
       (others : List V) × (ws ≡ vs ++ others) × AreOmitted tree of Left others → AreRead tree of Ts ts ws
   params_read source Ts Left ns ts vs ws i nodes le ge l before left (others, is, omitted) =
-      let many = node_count source ns ts nodes in
+      let many = as_many source ns ts nodes in
       let same : length ns ≡ i = omega (arith, le, ge) in
       let there : Left ≡ drop i Ts = left ∙ ap (λ (k : ℕ). drop k Ts) same in
       subst (AreRead tree of Ts ts) (sym is)
@@ -221,7 +214,7 @@ module _ {V : Type 0} (tree : V → Value) (of : V → TypeTree → Type 0) (Ful
       Says e because.InvalidParams (place_of n) (Some too_many_params) → RefusesItems Full Ts ts whole e
   too_many_refused source Ts ns ts vs i n whole e nodes lt at_i l m before says =
       let (u, here, means) = node_at source ns ts i n nodes lt at_i in
-      let fits : i ≤ length ts = omega (arith, lt, node_count source ns ts nodes) in
+      let fits : i ≤ length ts = omega (arith, lt, as_many source ns ts nodes) in
       let place = (inside source n u means.0).place in
       behind_at Ts [] ts (u ∷ drop (suc i) ts) vs i whole e (drop_end Ts i m) (has_drop ts i u here) l fits before (subst (λ (p : Range ℕ). Says e because.InvalidParams p (Some too_many_params)) (sym place) says)
 
@@ -230,7 +223,7 @@ module _ {V : Type 0} (tree : V → Value) (of : V → TypeTree → Type 0) (Ful
       ((u : SpannedTree) → IsNodeOf source n u → HasDistinctNames T → IsTypeError Full by_type T u e) → StandsIn n e → HasTypeKind e → RefusesItems Full Ts ts whole e
   item_refused source Ts ns ts vs i n T whole e nodes lt at_i l typed before blamed within kind =
       let (u, here, means) = node_at source ns ts i n nodes lt at_i in
-      let fits : i ≤ length ts = omega (arith, lt, node_count source ns ts nodes) in
+      let fits : i ≤ length ts = omega (arith, lt, as_many source ns ts nodes) in
       let lies = subst (λ (p : Range ℕ). LiesIn e.span p.start p.end) (sym (inside source n u means.0).place) (within.lies.0, within.lies.2) in
       behind_at Ts (T ∷ drop (suc i) Ts) ts (u ∷ drop (suc i) ts) vs i whole e (has_drop Ts i T typed) (has_drop ts i u here) (omega (arith, l)) fits before (inl (record { kind = kind; lies = lies; blames = blamed u means }))
 
@@ -238,7 +231,7 @@ module _ {V : Type 0} (tree : V → Value) (of : V → TypeTree → Type 0) (Ful
   left_refused : (source : List ℕ) (Ts Left : List TypeTree) (ns : List NodeTree) (ts : List SpannedTree) (vs : List V) (i : ℕ) (whole : NodeTree) (e : Diagnostic) → AreNodesOf source ns ts → i ≤ length ns → length ns ≤ i → i ≤ length Ts → AreRead tree of (take i Ts) (take i ts) vs → Left ≡ drop (length ns) Ts → RefusesInTurn Full Left [] whole e →
       RefusesItems Full Ts ts whole e
   left_refused source Ts Left ns ts vs i whole e nodes le ge l before left refuses =
-      let many = node_count source ns ts nodes in
+      let many = as_many source ns ts nodes in
       let same : length ns ≡ i = omega (arith, le, ge) in
       behind_at Ts Left ts [] vs i whole e (sym (left ∙ ap (λ (k : ℕ). drop k Ts) same)) (drop_end ts i (omega (arith, ge, many))) l (omega (arith, le, many)) before refuses
 
@@ -269,7 +262,7 @@ module _ {V : Type 0} (tree : V → Value) (of : V → TypeTree → Type 0) (Ful
   item_values (T ∷ Ts) (t ∷ ts) [] distinct h = absurd h
   item_values (T ∷ Ts) (t ∷ ts) (v ∷ vs) distinct h = (tree v, map tree vs, (h.0 distinct.0).reads, item_values Ts ts vs distinct.1 h.1, refl)
 
-no_omitted : (Ts : List TypeTree) (vs : List Value) → SomeOf IsNoOption Ts → Omitted Ts vs → ⊥
+pub no_omitted : (Ts : List TypeTree) (vs : List Value) → SomeOf IsNoOption Ts → Omitted Ts vs → ⊥
 no_omitted [] vs h k = h
 no_omitted (T ∷ Ts) vs (inl apart) (others, is, rest, e) = apart is
 no_omitted (T ∷ Ts) vs (inr more) (others, is, rest, e) = no_omitted Ts others more rest

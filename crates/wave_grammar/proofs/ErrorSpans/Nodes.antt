@@ -24,10 +24,9 @@ use Rattle.wave_grammar.specs.declared.form.NodeType.TheVariants as node_kind
 use Rattle.wave_grammar.proofs.Fields.Lookup.{not_key}
 use Rattle.wave_grammar.specs.NodeStrings.{TellsStringFault, RefusesString}
 use Rattle.wave_lex.specs.Multiline.{LineFault, closing, opening, indentation, escape, fault_kind}
-use Rattle.wave_grammar.specs.ErrorSpans.{HasCause, HasTypeKind, HasParamsKind, IsTypeKind, IsAtPlace, IsAtNode, IsPartOf, IsPartOfOne, LiesInNode, StandsIn}
-use Rattle.wave_grammar.specs.ErrorSpans.{RefusesAt, RefusesIn, RefusesInPart}
+use Rattle.wave_grammar.specs.ErrorSpans.{HasCause, HasTypeKind, HasParamsKind, IsTypeKind, IsAtPlace, IsAtNode, IsPartOf, IsPartOfOne, LiesInNode, StandsIn, RefusesAt, RefusesIn, RefusesInPart}
 use Rattle.wave_grammar.specs.declared.form.NodeType.{NodeType}
-use Rattle.wave_grammar.proofs.ChildNodes.Inside.{From, inside, some_is, AreParsed, parsed, pair_parsed, nodes_in, nodes_are, key_place, flag_key, stands}
+use Rattle.wave_grammar.proofs.ChildNodes.Inside.{From, inside, some_is, AreParsed, parsed, pair_parsed, key_place, flag_key, stands, all_parsed}
 use Rattle.wave_grammar.proofs.ChildNodes.Entries.{both_some}
 use Rattle.wave_grammar.proofs.ByKind.Lists.{HasAt}
 use Rattle.wave_grammar.proofs.ByKind.Tuples.{place_has, all_has}
@@ -131,7 +130,7 @@ shape_between source ty p text cs (err (a_placed t)) ns f s h = one_between sour
 children_between : (source : List ℕ) (n : NodeTree) (t : SpannedTree) → IsNodeOf source n t → AllOf (Between (place_of n).start (place_of n).end) (children_of n)
 children_between source n (at r s) h =
     let i = inside source n (at r s) h.0 in
-    let nodes : AreParsed source (children_of n) i.children = subst (λ (ns : List NodeTree). AreParsed source ns i.children) (nodes_are n) (parsed source (nodes_in n) i.children i.each) in
+    let nodes : AreParsed source (children_of n) i.children = all_parsed source n (at r s) i in
     let parts : SpellsParts source (place_of n) s = subst (λ (p : Range ℕ). SpellsParts source p s) i.place h.1.1 in
     shape_between source (type_of n) (place_of n) (slice source (place_of n)) i.children s (children_of n) i.from parts nodes
 

@@ -22,7 +22,7 @@ use Rattle.wave_grammar.specs.NodeAccessors.{node_text, node_pairs}
 use Rattle.wave_grammar.specs.NodeFields.{IsLabelled, field_of, RefusesKey, RefusesFields}
 use Rattle.wave_grammar.proofs.ChildNodes.Inside.{From, Inside, inside, some_is, key_place}
 use Rattle.wave_grammar.proofs.ChildNodes.Entries.{AreEntriesOf, IsOfMap, map_nodes}
-use Rattle.wave_grammar.proofs.ByKind.Enums.{label_node}
+use Rattle.wave_grammar.proofs.ByKind.Enums.{label_node, none_one}
 use Rattle.wave_grammar.proofs.ByKind.Leaves.{at_tree, said}
 use Rattle.wave_grammar.proofs.Fields.Lookup.{not_found}
 use Rattle.wave_grammar.specs.declared.form.NodeType.{NodeType}
@@ -90,15 +90,6 @@ entry_found source (f ∷ fs) (e ∷ es) name n h is = by (bytes_eq name f.0) re
     by true same more is = inl (h.0 ∙ ap (λ (w : List ℕ). w ∷ []) (sym ((bytes_eq-Decides name f.0).0 same)), subst (λ (m : NodeTree). IsNodeOf source m e.value) (some_is f.1 n is) h.1)
     by false same more is = inr (more is)
 
-none_one : (names : List (List ℕ)) (name : List ℕ) → IsNoneOf names name → IsOneOf names name → ⊥
-none_one [] name none h = h
-none_one (n ∷ names) name none (inl e) = none.0 e
-none_one (n ∷ names) name none (inr h) = none_one names name none.1 h
-
--- a name can't be one of the names and none of them
-pub not_both : (names : List (List ℕ)) (name : List ℕ) → IsNoneOf names name → IsOneOf names name → ⊥
-not_both names name none h = none_one names name none h
-
 -- no entry is for a name that is not found
 pub none_found : (source : List ℕ) (fs : List (List ℕ × NodeTree)) (es : List PlacedEntry) (name : List ℕ) → AreFieldsOf source fs es → look_up fs name ≡ None → SomeOf (IsFor name) es → ⊥
 none_found source fs es name h e some = none_one (names_of fs) name (not_found fs name e) (for_one source fs es name h some)
@@ -154,7 +145,7 @@ RecordBlame o w fs p es =
 pub within_record : (o w : Order) (fs : Fields) (t : SpannedTree) (es : List PlacedEntry) (k : Refusal) (q : Range ℕ) → record_in (shape_of t) ≡ Some es → RecordBlame o w fs (span_of t) es k q → FirstFault o w (type.record_type fs) t k q
 within_record o w fs t es k q e fault = subst (λ (f : Option (List PlacedEntry)). OfForm f (span_of t) (RecordBlame o w fs (span_of t)) k q) (sym e) fault
 
-not_record : (ty : NodeType) (p : Range ℕ) (text : List ℕ) (cs : List SpannedTree) (s : SpannedShape) → From ty p text cs s → ty ≢ kind.TupleSet → record_in s ≡ None
+pub not_record : (ty : NodeType) (p : Range ℕ) (text : List ℕ) (cs : List SpannedTree) (s : SpannedShape) → From ty p text cs s → ty ≢ kind.TupleSet → record_in s ≡ None
 not_record ty p text cs (entries es) f apart = absurd (apart f.0)
 not_record ty p text cs no_fields f apart = absurd (apart f.0)
 not_record ty p text cs _ f apart = refl
@@ -181,7 +172,7 @@ key_fine earlier e name named none k q (inl h) = cc (sym h.0 ∙ named)
 key_fine earlier e name named none k q (inr h) = one (subst (SomeOf (λ n. IsOneOf earlier n × RefusesWith DuplicateField (Some (repeated_name n)) e.place k q)) named h)
   where
     one : SomeOf (λ n. IsOneOf earlier n × RefusesWith DuplicateField (Some (repeated_name n)) e.place k q) (name ∷ []) → ⊥
-    one (inl old) = not_both earlier name none old.0
+    one (inl old) = none_one earlier name none old.0
     one (inr old) = old
 
 -- the name is one of those, or of the earlier ones

@@ -17,9 +17,10 @@ use Rattle.wave_grammar.specs.NodeFields.{IsLabelled, field_of, RefusesKey}
 use Rattle.wave_grammar.specs.declared.form.NodeType.TheVariants as kind
 use Rattle.wave_grammar.proofs.ChildNodes.Entries.{AreEntriesOf}
 use Rattle.wave_grammar.proofs.ByKind.Lists.{HasAt}
-use Rattle.wave_grammar.proofs.Fields.Entries.{IsBadKey, bad_here, later, as_bad, label_token, record_nodes, not_both, key_fine, apart_more, none_at_first}
+use Rattle.wave_grammar.proofs.Fields.Entries.{IsBadKey, bad_here, later, as_bad, label_token, record_nodes, key_fine, apart_more, none_at_first}
 use Rattle.wave_grammar.proofs.Fields.Reading.{RecordType, names_are, has_one}
 use Rattle.wave_grammar.proofs.Fields.FieldOrder.{record_blame}
+use Rattle.wave_grammar.proofs.ByKind.Enums.{none_one}
 
 -- ---- one entry
 
@@ -38,14 +39,14 @@ own_fine : (known : List (List ℕ)) (e : PlacedEntry) (name : List ℕ) (p : Ra
 own_fine known e name p named one k q (inl h, refused) = by (subst (SomeOf (IsNoneOf known)) named h)
   where
     by : SomeOf (IsNoneOf known) (name ∷ []) → ⊥
-    by (inl none) = not_both known name none one
+    by (inl none) = none_one known name none one
     by (inr none) = none
 own_fine known e name p named one k q (inr h, refused) = h
 
 -- a name that is none of the fields' is none of those of entries for fields
 none_known : (known names : List (List ℕ)) (name : List ℕ) → AllOf (IsOneOf known) names → IsNoneOf known name → IsNoneOf names name
 none_known known [] name all none = tt
-none_known known (n ∷ names) name all none = ((λ same. not_both known name none (subst (IsOneOf known) (sym same) all.0)), none_known known names name all.1 none)
+none_known known (n ∷ names) name all none = ((λ same. none_one known name none (subst (IsOneOf known) (sym same) all.0)), none_known known names name all.1 none)
 
 -- ---- the entries
 
@@ -105,7 +106,7 @@ value_fault w type.no_fields i name E e k q distinct here named fault = absurd h
 value_fault w (type.field other T more) zero name E e k q distinct here named fault =
     inl (subst (λ (f : List ℕ × TypeTree). IsFor f.0 e × FirstFault w w f.1 e.value k q) (sym here) (named, fault))
 value_fault w (type.field other T more) (suc i) name E e k q distinct here named fault =
-    inr ((λ is. not_both (names_of (type.field_list more)) other distinct.0 (subst (IsOneOf (names_of (type.field_list more))) (same_name name other (sym named ∙ is)) (has_one (type.field_list more) i (name, E) here))), value_fault w more i name E e k q distinct.1 here named fault)
+    inr ((λ is. none_one (names_of (type.field_list more)) other distinct.0 (subst (IsOneOf (names_of (type.field_list more))) (same_name name other (sym named ∙ is)) (has_one (type.field_list more) i (name, E) here))), value_fault w more i name E e k q distinct.1 here named fault)
   where
     same_name : (a b : List ℕ) → a ∷ [] ≡ b ∷ [] → a ≡ b
     same_name a b e = cc

@@ -25,8 +25,9 @@ use Rattle.wave_grammar.proofs.ChildNodes.Inside.{inside}
 use Rattle.wave_grammar.proofs.ByKind.Lists.{HasAt}
 use Rattle.wave_grammar.proofs.ByKind.Tuples.{map_has, all_has}
 use Rattle.wave_grammar.proofs.Fields.Lookup.{cut_at}
-use Rattle.wave_grammar.proofs.Fields.Entries.{AreFieldsOf, RecordBlame, record_nodes, for_one, entry_found, none_found, not_both, some_map, key_fine, apart_more, none_at_first, within_record}
+use Rattle.wave_grammar.proofs.Fields.Entries.{AreFieldsOf, RecordBlame, record_nodes, for_one, entry_found, none_found, some_map, key_fine, apart_more, none_at_first, within_record}
 use Rattle.wave_grammar.proofs.Fields.Reading.{RecordType, fields_distinct, given_fields, all_from, FieldIsRead, FieldsRead, entry_reads}
+use Rattle.wave_grammar.proofs.ByKind.Enums.{none_one}
 
 -- ---- keys
 
@@ -108,7 +109,7 @@ module _ {V : Type 0} (tree : V → Value) (of : V → TypeTree → Type 0) (Ful
   some_blamed E name source (f ∷ given) (x ∷ es) e all apart (inr h) =
       elim (some_blamed E name source given es e all.2 apart.1 h) [
         | inl memory ↦ inl memory
-        | inr (inl fault) ↦ inr (inl (inr ((λ k q g. not_both (names_of given) f.0 apart.0 (subst (IsOneOf (names_of given)) (same_name name f.0 (sym g.0 ∙ all.0)) (for_one source given es name all.2 (some_map (λ y. IsFor name y × IsBlamed Full w w E y.value e) (IsFor name) es (λ y i. i.0) h)))), fault)))
+        | inr (inl fault) ↦ inr (inl (inr ((λ k q g. none_one (names_of given) f.0 apart.0 (subst (IsOneOf (names_of given)) (same_name name f.0 (sym g.0 ∙ all.0)) (for_one source given es name all.2 (some_map (λ y. IsFor name y × IsBlamed Full w w E y.value e) (IsFor name) es (λ y i. i.0) h)))), fault)))
         | inr (inr other) ↦ inr (inr other)
       ]
     where

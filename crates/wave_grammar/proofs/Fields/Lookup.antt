@@ -15,7 +15,7 @@ use Rattle.wave_grammar.specs.LeafTokens.{name_of}
 use Rattle.wave_grammar.specs.TypedGrammar.{look_up, names_of}
 use Rattle.wave_grammar.specs.NodeTree.{NodeTree, type_of, place_of, children_of}
 use Rattle.wave_grammar.specs.NodeAccessors.{node_text, node_pairs}
-use Rattle.wave_grammar.specs.NodeFields.{IsLabelled, field_of, RefusesFields, IsFieldsOf, held_at, HoldsFields, fields_at}
+use Rattle.wave_grammar.specs.NodeFields.{IsLabelled, field_of, RefusesFields, IsFieldsOf, held_at, HoldsFields, fields_at, RefusesKey, RefusesEntry}
 use Rattle.std.specs.declared.ops.Range.{Range}
 use Rattle.wave_grammar.specs.Token.{Token}
 use Rattle.wave_grammar.specs.Token as token
@@ -161,34 +161,29 @@ key_parsed source n ns i k v (inr t) set children here = absurd (not_key source 
 
 -- ---- the loop's answers
 
+-- the refusal of a key behind entries that are not refused
+refused_key : (source : List ℕ) (n : NodeTree) (ns : List NodeTree) (i : ℕ) (k v : NodeTree) (e : Diagnostic) → type_of n ≡ kind.TupleSet → ns ≡ children_of n → HasAt (node_pairs ns) i (k, v) → FieldsSoFar source (take i (node_pairs ns)) → RefusesKey source (names_of (map (field_of source) (take i (node_pairs ns)))) k e → RefusesEntry source n e
+refused_key source n ns i k v e set children here h refused = record {
+  is_set = set;
+  before = take i (node_pairs ns);
+  entry = (k, v);
+  behind = drop (suc i) (node_pairs ns);
+  entries = ap node_pairs (sym children) ∙ cut_at (node_pairs ns) i (k, v) here;
+  labels = h.labels;
+  distinct = h.distinct;
+  refused = refused;
+}
+
 -- the refusal of a key that is no label
 pub refused_label : (source : List ℕ) (n : NodeTree) (ns : List NodeTree) (i : ℕ) (k v : NodeTree) (e : Diagnostic) → type_of n ≡ kind.TupleSet → ns ≡ children_of n → HasAt (node_pairs ns) i (k, v) → FieldsSoFar source (take i (node_pairs ns)) → (type_of k ≢ kind.Label) × Says e InvalidType (place_of k) (Some field_label_due) → RefusesFields source n e
 refused_label source n ns i k v e set children here h refused =
-    inr (inr (record {
-      is_set = set;
-      before = take i (node_pairs ns);
-      entry = (k, v);
-      behind = drop (suc i) (node_pairs ns);
-      entries = ap node_pairs (sym children) ∙ cut_at (node_pairs ns) i (k, v) here;
-      labels = h.labels;
-      distinct = h.distinct;
-      refused = inl refused;
-    }))
+    inr (inr (refused_key source n ns i k v e set children here h (inl refused)))
 
 -- the refusal of a label whose name stands earlier
 pub refused_name : (source : List ℕ) (n : NodeTree) (ns : List NodeTree) (i : ℕ) (k v : NodeTree) (name : List ℕ) (e : Diagnostic) → type_of n ≡ kind.TupleSet → ns ≡ children_of n → HasAt (node_pairs ns) i (k, v) → FieldsSoFar source (take i (node_pairs ns)) → type_of k ≡ kind.Label → name ≡ name_of (node_text source k) → IsOneOf (names_of (map (field_of source) (take i (node_pairs ns)))) name → (e.kind ≡ OutOfMemory) ⊎ Says e DuplicateField (place_of k) (Some (repeated_name name)) → RefusesFields source n e
 refused_name source n ns i k v name e set children here h labelled named old (inl memory) = inl memory
 refused_name source n ns i k v name e set children here h labelled named old (inr says) =
-    inr (inr (record {
-      is_set = set;
-      before = take i (node_pairs ns);
-      entry = (k, v);
-      behind = drop (suc i) (node_pairs ns);
-      entries = ap node_pairs (sym children) ∙ cut_at (node_pairs ns) i (k, v) here;
-      labels = h.labels;
-      distinct = h.distinct;
-      refused = inr (labelled, subst (IsOneOf (names_of (map (field_of source) (take i (node_pairs ns))))) named old, subst (λ (w : List ℕ). Says e DuplicateField (place_of k) (Some (repeated_name w))) named says);
-    }))
+    inr (inr (refused_key source n ns i k v e set children here h (inr (labelled, subst (IsOneOf (names_of (map (field_of source) (take i (node_pairs ns))))) named old, subst (λ (w : List ℕ). Says e DuplicateField (place_of k) (Some (repeated_name w))) named says))))
 
 -- all entries, after the last
 entries_whole : (n : NodeTree) (ns : List NodeTree) (i : ℕ) → ns ≡ children_of n → length ns / 2 ≤ i → take i (node_pairs ns) ≡ node_pairs (children_of n)

@@ -35,8 +35,9 @@ use Rattle.wave_grammar.proofs.ChildNodes.Inside.{some_is}
 use Rattle.wave_grammar.proofs.ByKind.Leaves.{tree_is}
 use Rattle.wave_grammar.proofs.ByKind.Lists.{HasAt, some_at}
 use Rattle.wave_grammar.proofs.Fields.Lookup.{not_found}
-use Rattle.wave_grammar.proofs.Fields.Entries.{AreFieldsOf, RecordNodes, record_nodes, fields_of_entries, for_one, entry_found, none_found, not_both, some_map, fields_blame}
+use Rattle.wave_grammar.proofs.Fields.Entries.{AreFieldsOf, RecordNodes, record_nodes, fields_of_entries, for_one, entry_found, none_found, some_map, fields_blame}
 use Rattle.wave_wasm.proofs.TypesOfValues.TypeOfKind.{formed_as}
+use Rattle.wave_grammar.proofs.ByKind.Enums.{none_one}
 
 -- the entries with their trees
 abbrev pub entry_trees : List PlacedEntry → List (Token × Tree)
@@ -105,7 +106,7 @@ look_has (g ∷ fs) zero f d h = by (bytes_eq f.0 g.0) refl
 look_has (g ∷ fs) (suc i) f d h = by (bytes_eq f.0 g.0) refl (look_has fs i f d.1 h) (has_one fs i f h)
   where
     by : (b : Bool) → bytes_eq f.0 g.0 ≡ b → look_up fs f.0 ≡ Some f.1 → IsOneOf (names_of fs) f.0 → (if b then Some g.1 else look_up fs f.0) ≡ Some f.1
-    by true is more one = absurd (not_both (names_of fs) g.0 d.0 (subst (IsOneOf (names_of fs)) ((bytes_eq-Decides f.0 g.0).0 is) one))
+    by true is more one = absurd (none_one (names_of fs) g.0 d.0 (subst (IsOneOf (names_of fs)) ((bytes_eq-Decides f.0 g.0).0 is) one))
     by false is more one = more
 
 -- what is found is as all of them are
@@ -125,13 +126,13 @@ only_one source (f ∷ fs) [] i e name Q h d here is some = absurd h
 only_one source (f ∷ fs) (x ∷ es) zero e name Q h d here is (inl found) = subst Q here found.1
 only_one source (f ∷ fs) (x ∷ es) zero e name Q h d here is (inr some) =
     let named : f.0 ≡ name = head_same f.0 name (sym h.0 ∙ (ap (λ (y : PlacedEntry). names_in y.key) here ∙ is)) in
-    absurd (not_both (names_of fs) f.0 d.0 (subst (IsOneOf (names_of fs)) (sym named) (for_one source fs es name h.2 (some_map (λ y. IsFor name y × Q y) (IsFor name) es (λ y g. g.0) some))))
+    absurd (none_one (names_of fs) f.0 d.0 (subst (IsOneOf (names_of fs)) (sym named) (for_one source fs es name h.2 (some_map (λ y. IsFor name y × Q y) (IsFor name) es (λ y g. g.0) some))))
   where
     head_same : (a b : List ℕ) → a ∷ [] ≡ b ∷ [] → a ≡ b
     head_same a b e = cc
 only_one source (f ∷ fs) (x ∷ es) (suc i) e name Q h d here is (inl found) =
     let named : f.0 ≡ name = head_same f.0 name (sym h.0 ∙ found.0) in
-    absurd (not_both (names_of fs) f.0 d.0 (subst (IsOneOf (names_of fs)) (sym named) (for_one source fs es name h.2 (some_at (IsFor name) es i e here is))))
+    absurd (none_one (names_of fs) f.0 d.0 (subst (IsOneOf (names_of fs)) (sym named) (for_one source fs es name h.2 (some_at (IsFor name) es i e here is))))
   where
     head_same : (a b : List ℕ) → a ∷ [] ≡ b ∷ [] → a ≡ b
     head_same a b e = cc
@@ -278,7 +279,7 @@ module _ {V : Type 0} (tree : V → Value) (of : V → TypeTree → Type 0) (Ful
       (λ w e. some_is v w (sym looked ∙ look_all (λ q x. look_up (field_trees tree hs) q ≡ Some x) f.found name w f.values e))
       (λ e.
       let none : IsNoneOf (names_of given) name = subst (λ (ns : List (List ℕ)). IsNoneOf ns name) f.names (not_found f.found name e) in
-      let left = left_is E name es here.0 (λ some. not_both (names_of given) name none (for_one source given es name all some)) here.2 in
+      let left = left_is E name es here.0 (λ some. none_one (names_of given) name none (for_one source given es name all some)) here.2 in
       (left.0, some_is v (tree here.0) (sym looked ∙ here.1) ∙ left.1))
 
   fills : (fs : Fields) (all : FieldValues) (found H : List (List ℕ × Value)) → HasFields fs all → AllOf (λ f. look_up H f.0 ≡ Some f.1) (value.field_list all) → AllOf (λ p. (v : Value) → look_up H p.0 ≡ Some v → FieldIs p.1 (look_up found p.0) v) (type.field_list fs) → Fills fs found all

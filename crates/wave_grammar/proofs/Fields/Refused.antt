@@ -20,8 +20,9 @@ use Rattle.wave_grammar.specs.TypeErrors.{RefusesWith, Fault, names_in, KeyFault
 use Rattle.wave_grammar.specs.TypedReading.{ReadsNone}
 use Rattle.wave_grammar.proofs.ByKind.Lists.{HasAt}
 use Rattle.wave_grammar.proofs.Fields.Names.{is_found}
-use Rattle.wave_grammar.proofs.Fields.Entries.{RecordFault, not_both, apart_more, none_at_first}
+use Rattle.wave_grammar.proofs.Fields.Entries.{RecordFault, apart_more, none_at_first}
 use Rattle.wave_grammar.proofs.Fields.Reading.{entry_trees}
+use Rattle.wave_grammar.proofs.ByKind.Enums.{none_one}
 
 -- an entry of this field's name has no value at the field's type
 abbrev pub HasBadField : Fields → List PlacedEntry → Type 0
@@ -57,8 +58,8 @@ field_one (type.field other E more) name u w (inr h) = inr (field_one more name 
 field_only : (fs : Fields) (i : ℕ) (name : List ℕ) (E : TypeTree) (u : Tree) (w : Value) → AreDistinct (field_names fs) → HasAt (type.field_list fs) i (name, E) → TreeReadsField fs name u w → TreeReads E u w
 field_only type.no_fields i name E u w d h read = absurd h
 field_only (type.field other U more) zero name E u w d h (inl read) = subst (λ (X : TypeTree). TreeReads X u w) (ap (λ (p : List ℕ × TypeTree). p.1) h) read.1
-field_only (type.field other U more) zero name E u w d h (inr read) = absurd (not_both (field_names more) other d.0 (subst (IsOneOf (field_names more)) (ap (λ (p : List ℕ × TypeTree). p.0) (sym h)) (field_one more name u w read)))
-field_only (type.field other U more) (suc i) name E u w d h (inl read) = absurd (not_both (field_names more) other d.0 (subst (IsOneOf (field_names more)) read.0 (named more i h)))
+field_only (type.field other U more) zero name E u w d h (inr read) = absurd (none_one (field_names more) other d.0 (subst (IsOneOf (field_names more)) (ap (λ (p : List ℕ × TypeTree). p.0) (sym h)) (field_one more name u w read)))
+field_only (type.field other U more) (suc i) name E u w d h (inl read) = absurd (none_one (field_names more) other d.0 (subst (IsOneOf (field_names more)) read.0 (named more i h)))
   where
     named : (gs : Fields) (j : ℕ) → HasAt (type.field_list gs) j (name, E) → IsOneOf (field_names gs) name
     named type.no_fields j h = absurd h
@@ -84,7 +85,7 @@ no_unknown fs (e ∷ es) [] h some = h
 no_unknown fs (e ∷ es) (f ∷ found) h (inl some) = one (subst (SomeOf (IsNoneOf (field_names fs))) h.0 some)
   where
     one : SomeOf (IsNoneOf (field_names fs)) (f.0 ∷ []) → ⊥
-    one (inl none) = not_both (field_names fs) f.0 none (field_one fs f.0 (tree_of e.value) f.1 h.1)
+    one (inl none) = none_one (field_names fs) f.0 none (field_one fs f.0 (tree_of e.value) f.1 h.1)
     one (inr none) = none
 no_unknown fs (e ∷ es) (f ∷ found) h (inr some) = no_unknown fs es found h.2 some
 
@@ -94,7 +95,7 @@ no_repeated fs (e ∷ es) [] earlier k q h d apart fault = h
 no_repeated fs (e ∷ es) (f ∷ found) earlier k q h d apart (inl fault) = one (subst (SomeOf (λ name. IsOneOf earlier name × RefusesWith DuplicateField (Some (repeated_name name)) e.place k q)) h.0 fault)
   where
     one : SomeOf (λ name. IsOneOf earlier name × RefusesWith DuplicateField (Some (repeated_name name)) e.place k q) (f.0 ∷ []) → ⊥
-    one (inl old) = not_both earlier f.0 apart.0 old.0
+    one (inl old) = none_one earlier f.0 apart.0 old.0
     one (inr old) = old
 no_repeated fs (e ∷ es) (f ∷ found) earlier k q h d apart (inr fault) =
     no_repeated fs es found (f.0 ∷ earlier) k q h.2 d.1 (apart_more (names_of found) earlier f.0 apart.1 d.0) (subst (λ (ns : List (List ℕ)). RepeatedField (ns ++ earlier) es k q) h.0 fault)

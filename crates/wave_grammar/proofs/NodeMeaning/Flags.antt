@@ -12,7 +12,7 @@ use Rattle.wave_grammar.specs.NodeTree.{NodeTree, type_of, place_of, children_of
 use Rattle.wave_grammar.specs.Nodes.{placed_of, shape_from, flag_of, flags_of, key_of, with_both, IsNodeOf, IsParsedFrom}
 use Rattle.wave_grammar.specs.NodeAccessors.{node_text}
 use Rattle.wave_grammar.specs.NodeFlags.{names_at, AreFlags, AreInOrder, AreAllParsed}
-use Rattle.wave_grammar.proofs.ChildNodes.Inside.{inside, some_is, flag_key, AreParsed, parsed, nodes_in, nodes_are}
+use Rattle.wave_grammar.proofs.ChildNodes.Inside.{inside, some_is, flag_key, AreParsed, all_parsed}
 use Rattle.wave_grammar.proofs.ChildNodes.Cases.{shape_at}
 use Rattle.wave_grammar.proofs.ByKind.Variants.{flag_text}
 use Rattle.wave_grammar.proofs.NodeMeaning.FlagOrder.{total}
@@ -63,7 +63,7 @@ no_word form.ok_word text n behind rest us h = absurd (cc h.2)
 no_word form.err_word text n behind rest us h = absurd (cc h.2)
 no_word form.case_word text n behind rest us h = absurd (cc h.2)
 
-same_flags : (us ws : List (List ℕ)) → form.flags us ≡ form.flags ws → us ≡ ws
+pub same_flags : (us ws : List (List ℕ)) → form.flags us ≡ form.flags ws → us ≡ ws
 same_flags us ws e = cc
 
 spelled_flags : (n : ℕ) (tokens rest : List Token) (us : List (List ℕ)) → Takes n tokens (form.flags us) rest → AreInOrder (map name_of us)
@@ -123,7 +123,7 @@ flags_node source n (at r s) h e =
     let i = inside source n (at r s) h.0 in
     let c = flags_shape (place_of n) (slice source (place_of n)) i.children s (flags_of i.children) refl (shape_at kind.Flags source n (at r s) i e) in
     let spelled : SpellsEach source (at r (flags c.0)) = subst (λ (x : SpannedShape). SpellsEach source (at r x)) c.2 h.1 in
-    let nodes : AreParsed source (children_of n) i.children = subst (λ (ns : List NodeTree). AreParsed source ns i.children) (nodes_are n) (parsed source (nodes_in n) i.children i.each) in
+    let nodes : AreParsed source (children_of n) i.children = all_parsed source n (at r s) i in
     let both = labels_parsed source r (children_of n) i.children c.0 nodes c.1 spelled.1 in
     let sorted : AreInOrder (map name_of (map (λ (f : Range ℕ × List ℕ). f.1) c.0)) = spelled_flags spelled.0.2.0 spelled.0.0 [] (map (λ (f : Range ℕ × List ℕ). f.1) c.0) spelled.0.2.1 in
     record { labels = c.0; form = inr c.2; parsed = both.0; names = both.1; ordered = subst AreInOrder (sym (both.1 ∙ sym (map_map name_of (λ (f : Range ℕ × List ℕ). f.1) c.0))) sorted }
@@ -132,7 +132,7 @@ empty_node : (source : List ℕ) (n : NodeTree) (t : SpannedTree) → IsNodeOf s
 empty_node source n t h e =
     let i = inside source n t h.0 in
     let c = empty_shape (place_of n) (slice source (place_of n)) i.children (shape_of t) (shape_at kind.EmptySet source n t i e) in
-    let nodes : AreParsed source (children_of n) [] = subst (AreParsed source (children_of n)) c.0 (subst (λ (ns : List NodeTree). AreParsed source ns i.children) (nodes_are n) (parsed source (nodes_in n) i.children i.each)) in
+    let nodes : AreParsed source (children_of n) [] = subst (AreParsed source (children_of n)) c.0 (all_parsed source n t i) in
     let none : children_of n ≡ [] = no_nodes (children_of n) nodes in
     record { labels = []; form = inl (c.1, refl); parsed = subst (AreAllParsed source) (sym none) tt; names = ap (names_at source) none; ordered = subst (λ (ns : List NodeTree). AreInOrder (names_at source ns)) (sym none) tt }
   where

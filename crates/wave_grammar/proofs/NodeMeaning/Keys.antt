@@ -31,7 +31,7 @@ use Rattle.wave_grammar.specs.Nodes.{key_of, IsNodeOf, IsTokenOf, IsParsedFrom}
 use Rattle.wave_grammar.specs.NodeAccessors.{node_text, RefusedAs}
 use Rattle.wave_grammar.specs.TypedReading.{IsValueOf, IsKeyOf, IsKeywordOf, IsTypedValue, IsBlamed, IsKeyRead, IsKeyBlamed, IsKeyError}
 use Rattle.wave_grammar.proofs.ChildNodes.Inside.{Inside, inside, some_is}
-use Rattle.wave_grammar.proofs.ByKind.Keys.{IsKeyToken, key_token, key_at, at_key}
+use Rattle.wave_grammar.proofs.ByKind.Keys.{IsKeyToken, key_token, key_at, at_key, label_is}
 use Rattle.wave_grammar.proofs.ByKind.Leaves.{said}
 use Rattle.wave_grammar.proofs.ByKind.TextKeys.{no_spelling}
 use Rattle.wave_grammar.proofs.ByKind.Enums.{label_node}
@@ -165,12 +165,9 @@ key_spelled S (at q (one (token.string w))) p key v e (other, leaf, is, spelled,
 key_spelled S (at q (one (token.multiline w))) p key v e (other, leaf, is, spelled, means) = (leaf, subst (λ (u : Token). Spells S u leaf) (sym (token_is _ _ is) ∙ ap (λ (k : Range ℕ × Token). k.1) (some_is (q, token.multiline w) (p, key) e)) spelled, means)
 key_spelled S _ p key v e h = absurd (cc)
 
-label_text : (a b : List ℕ) → token.label a ≡ token.label b → a ≡ b
-label_text a b e = cc
-
 -- a label that is no keyword spells no value of one token
 pub label_spells_none : (S : Simple) (w : List ℕ) → ((b : Bool) → w ≢ bool_text b) → SpellsNoLeaf S (token.label w)
-label_spells_none type.bool w apart l (b, is, f) = apart b (label_text w (bool_text b) is)
+label_spells_none type.bool w apart l (b, is, f) = apart b (label_is w (bool_text b) is)
 label_spells_none (type.whole which) w apart l h = cc (h.2)
 label_spells_none type.char w apart l h = cc (h.2)
 label_spells_none type.string w apart l (text, s, inl h, f) = cc (h.0)

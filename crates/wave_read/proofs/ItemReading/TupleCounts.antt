@@ -1,5 +1,5 @@
 -- Tuples that are refused for the number of their items before any of them is read.
-use Rattle.std.proofs.Common.{ℕ, suc, ◌≡◌, ◌≢◌, refl, List, [], ◌∷◌, length, Option, Some, None, Err, Bor, sym, ap, ◌∙◌, subst, MatchOption}
+use Rattle.std.proofs.Common.{ℕ, ◌≡◌, ◌≢◌, refl, List, [], length, Option, Some, None, Err, Bor, sym, ◌∙◌, subst, MatchOption}
 use Rattle.std.specs.Prelude.{IfSome}
 use Rattle.std.specs.declared.ops.Range.{Range}
 use Rattle.wave_grammar.specs.FaultOrder.{Order, by_type}
@@ -23,11 +23,7 @@ use Rattle.wave_read.specs.declared.tuples.TupleItems.{TupleItems}
 use Rattle.wave_read.specs.declared.values.Frame.{Frame}
 use Rattle.wave_read.proofs.PayloadReading.FlatValues.{flat_refused}
 use Rattle.wave_read.proofs.ItemReading.Tuples.{count_refused}
-
--- there are as many types as references to them
-pub as_shown : {S : Type 0} (type_tree : S → TypeTree) (xs : List (Bor S)) → length (shown_all type_tree xs) ≡ length xs
-as_shown type_tree [] = refl
-as_shown type_tree (x ∷ xs) = ap suc (as_shown type_tree xs)
+use Rattle.wave_grammar.proofs.ByKind.Tuples.{as_shown}
 
 module _ {S V : Type 0} (type_tree : S → TypeTree) (tree : V → Value) (of : V → TypeTree → Type 0) (Full : TypeTree → Type 0) (w : Order) (source : List ℕ) (place : Range ℕ) (children : List NodeTree) (row : TupleItems S V) (e : Diagnostic) where
   row_told : (T : TypeTree) (ty : NodeType) → (ty ≡ kind.Tuple) × IsRow type_tree tree of Full w T source [] row → length children ≢ length row.types.items → refusal_of e ≡ caused (wrong_number (length row.types.items) (length children)) → e.span ≡ place → IsReadAs tree of Full by_type w T source (node ty place (node_trees children)) (Err e)

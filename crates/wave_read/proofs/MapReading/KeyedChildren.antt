@@ -11,7 +11,7 @@ use Rattle.wave_grammar.specs.NodeAccessors.{node_pairs}
 use Rattle.wave_grammar.specs.TypedReading.{IsValueOf}
 use Rattle.wave_grammar.specs.declared.form.NodeType.TheVariants as kind
 use Rattle.wave_grammar.proofs.ByKind.Lists.{HasAt}
-use Rattle.wave_grammar.proofs.ChildNodes.Inside.{inside, AreParsed, parsed, nodes_in}
+use Rattle.wave_grammar.proofs.ChildNodes.Inside.{inside, AreParsed, parsed, nodes_in, some_is}
 use Rattle.wave_grammar.proofs.ChildNodes.Trees.{list_of_trees}
 use Rattle.wave_grammar.proofs.ChildNodes.Cases.{shape_at}
 use Rattle.wave_grammar.proofs.ChildNodes.Entries.{AreEntriesOf, both_some}
@@ -19,7 +19,8 @@ use Rattle.wave_grammar.proofs.Fields.Entries.{record_nodes}
 use Rattle.wave_grammar.proofs.Fields.Lookup.{entry_has}
 use Rattle.wave_grammar.proofs.ErrorSpans.Nodes.{PairBelongs, entries_belong}
 use Rattle.wave_read.specs.RecordParts.{last_key}
-use Rattle.wave_read.proofs.RecordReading.Fields.{has_behind, holds_at}
+use Rattle.wave_read.proofs.RecordReading.Fields.{has_behind}
+use Rattle.wave_grammar.proofs.ByKind.Tuples.{all_has}
 
 -- ---- keys
 
@@ -46,13 +47,10 @@ pairs_behind_key (a ∷ b ∷ children) k v more (suc half) even = ap (λ (ps : 
 
 -- ---- values
 
-some_same : (a b : NodeTree) → Some a ≡ Some b → a ≡ b
-some_same a b e = cc
-
 -- a value after the key that waits makes a pair
 pub pairs_behind_value : (children : List NodeTree) (k v : NodeTree) (more : List NodeTree) → last_key children ≡ Some k → node_pairs ((children ++ v ∷ []) ++ more) ≡ node_pairs children ++ (k, v) ∷ node_pairs more
 pairs_behind_value [] k v more waits = absurd (cc)
-pairs_behind_value (a ∷ []) k v more waits = ap (λ (c : NodeTree). (c, v) ∷ node_pairs more) (some_same a k waits)
+pairs_behind_value (a ∷ []) k v more waits = ap (λ (c : NodeTree). (c, v) ∷ node_pairs more) (some_is a k waits)
 pairs_behind_value (a ∷ b ∷ children) k v more waits = ap (λ (ps : List (NodeTree × NodeTree)). (a, b) ∷ ps) (pairs_behind_value children k v more waits)
 
 -- so without more after it
@@ -140,4 +138,4 @@ entry_stands source n t children k v is set here =
 -- its key and its value belong to the node
 pub pair_belongs : (source : List ℕ) (n : NodeTree) (children : List NodeTree) (k v : NodeTree) → IsValueOf source n → StandsBehind n children k v → PairBelongs n (k, v)
 pair_belongs source n children k v value here =
-    holds_at (PairBelongs n) (node_pairs children ++ (k, v) ∷ here.0) (length (node_pairs children)) (k, v) (subst (AllOf (PairBelongs n)) here.1 (entries_belong source n value)) (has_behind (node_pairs children) (k, v) here.0)
+    all_has (PairBelongs n) (node_pairs children ++ (k, v) ∷ here.0) (length (node_pairs children)) (k, v) (subst (AllOf (PairBelongs n)) here.1 (entries_belong source n value)) (has_behind (node_pairs children) (k, v) here.0)

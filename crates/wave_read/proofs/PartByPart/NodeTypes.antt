@@ -1,5 +1,5 @@
 -- The type at which a node is read: the one that is due, or that of the flat payload that the node stands for.
-use Rattle.std.proofs.Common.{ℕ, suc, IfSome, IfNone, MatchOption, ◌≡◌, ◌≢◌, ◌⊎◌, inl, inr, Bool, true, false, List, [], length, Option, Some, None, Bor, Err, refl, sym, ap, ◌∙◌, subst}
+use Rattle.std.proofs.Common.{ℕ, IfSome, IfNone, MatchOption, ◌≡◌, ◌≢◌, ◌⊎◌, inl, inr, Bool, true, false, List, [], length, Option, Some, None, Bor, Err, refl, sym, ap, ◌∙◌, subst}
 use Rattle.std.specs.declared.ops.Range.{Range}
 use Rattle.wave_wasm.specs.Types as type
 use Rattle.wave_wasm.specs.Types.{TypeTree, Types, kind_of, tuple_parts, type_list, count_of}
@@ -20,12 +20,12 @@ use Rattle.wave_read.specs.KeptParts.{AreKeptWhereDue, AreOfType}
 use Rattle.wave_read.specs.Payloads.{result_node}
 use Rattle.wave_read.specs.TupleParts.{IsRow}
 use Rattle.wave_read.specs.PartsOfKinds.{AreDoomedAtOnce, AreParts, IsSimpleAt}
-use Rattle.wave_read.proofs.ItemReading.TupleCounts.{as_shown}
 use Rattle.wave_read.specs.declared.fault.Fault.{Fault}
 use Rattle.wave_read.specs.declared.parts.Partial.{Partial}
 use Rattle.wave_read.specs.declared.parts.Partial.TheVariants as parts
 use Rattle.wave_read.specs.declared.tuples.TupleItems.{TupleItems}
 use Rattle.wave_read.specs.declared.values.Frame.{Frame}
+use Rattle.wave_grammar.proofs.ByKind.Tuples.{as_shown, counted}
 
 -- the flat payload's type is one
 one_flat : (T U W : TypeTree) (ty : NodeType) → IsFlatAt T ty U → IsFlatAt T ty W → U ≡ W
@@ -71,10 +71,6 @@ reads_flags type_tree T around x h is = (type_tree x.now, read_within type_tree 
 
 -- ---- tuples
 
-counted_list : (Ts : Types) → length (type_list Ts) ≡ count_of Ts
-counted_list type.no_types = refl
-counted_list (type.type_and T more) = ap suc (counted_list more)
-
 module _ {S V : Type 0} (type_tree : S → TypeTree) (tree : V → Value) (of : V → TypeTree → Type 0) (Full : TypeTree → Type 0) (w : Order) (source : List ℕ) where
   -- parts of a node of a tuple, of a type that could be asked for its parts
   abbrev IsRowOrSimple : TypeTree → Partial S V → Type 0
@@ -100,7 +96,7 @@ module _ {S V : Type 0} (type_tree : S → TypeTree) (tree : V → Value) (of : 
   row_counted : (Ts : Types) (U : TypeTree) (x : Partial S V) (count : ℕ) → type.tuple Ts ≡ U → ((r : TupleItems S V) → x ≡ parts.TupleItems r → count ≡ length r.types.items) → IsRowOrSimple U x → count ≡ count_of Ts
   row_counted Ts U x count is rows (inl (r, row, h)) =
       let types : shown_all type_tree r.types.items ≡ type_list Ts = h.parts ∙ ap tuple_parts (sym is) in
-      rows r row ∙ (sym (as_shown type_tree r.types.items) ∙ (ap length types ∙ counted_list Ts))
+      rows r row ∙ (sym (as_shown type_tree r.types.items) ∙ (ap length types ∙ counted Ts))
   row_counted Ts U x count is rows (inr simple) = absurd (subst IsSimpleOrUnreadable (sym is) simple)
 
   -- around a flat payload stands neither a row nor a simple type

@@ -31,7 +31,7 @@ use Rattle.wave_grammar.proofs.ErrorSpans.Nodes.{deeper, at_in, form_at, refused
 use Rattle.wave_read.specs.Reading.{IsReadAs}
 use Rattle.wave_read.specs.RecordParts.{last_key}
 use Rattle.wave_read.proofs.MapReading.KeyedChildren.{StandsBehind, key_stands, value_stands, entry_stands, pair_belongs}
-use Rattle.wave_read.proofs.RecordReading.Fields.{holds_at}
+use Rattle.wave_grammar.proofs.ByKind.Tuples.{all_has}
 
 -- the entry of a label has its name
 entry_for : (source : List ℕ) (n : NodeTree) (t : SpannedTree) (children : List NodeTree) (k v : NodeTree) (is : IsNodeOf source n t) (set : type_of n ≡ kind.TupleSet) (here : StandsBehind n children k v) → type_of k ≡ kind.Label → IsFor (name_of (node_text source k)) (entry_stands source n t children k v is set here).0
@@ -95,7 +95,7 @@ module _ {V : Type 0} (tree : V → Value) (of : V → TypeTree → Type 0) (Ful
           answer = λ t node distinct.
               let entry = entry_stands source n t children k v node refl here in
               let apart = fields_distinct T parts is distinct in
-              elim (read.answer entry.0.value entry.3 (holds_at (λ q. HasDistinctNames q.1) parts i (name, E) apart.within typed)) [
+              elim (read.answer entry.0.value entry.3 (all_has (λ q. HasDistinctNames q.1) parts i (name, E) apart.within typed)) [
                 | inl memory ↦ inl memory
                 | inr (inl fault) ↦ inr (inl (value_blamed w T parts source n t e is node refl (node_pairs children) (k, v) here.0 entry.0 here.1 (fine distinct) entry.1 name i E (entry_for source n t children k v node refl here label) (new distinct) apart.names typed fault))
                 | inr (inr h) ↦ inr (inr (h.0, λ whole. h.1 (full_at Full T parts i name E is typed full whole)))

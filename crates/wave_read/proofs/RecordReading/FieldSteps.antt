@@ -37,8 +37,9 @@ use Rattle.wave_read.specs.declared.records.Fields.{Fields}
 use Rattle.wave_read.proofs.ReadErrors.DoomedValues.{told_dooms}
 use Rattle.wave_read.proofs.MapReading.KeyedChildren.{pairs_with_key, key_waits, pairs_with_value, none_waits, odd_waits}
 use Rattle.wave_read.proofs.RecordReading.Faults.{key_dooms, unknown_dooms, value_dooms}
-use Rattle.wave_read.proofs.RecordReading.Fields.{has_got, has_mapped, holds_at, one_of_fields, part_names, same_parts, same_names, kept_more, value_kept}
+use Rattle.wave_read.proofs.RecordReading.Fields.{has_got, one_of_fields, part_names, same_parts, same_names, kept_more, value_kept}
 use Rattle.wave_read.proofs.ReadErrors.HandedOn.{plain_says}
+use Rattle.wave_grammar.proofs.ByKind.Tuples.{map_has, all_has}
 
 module _ {V : Type 0} (tree : V → Value) (of : V → TypeTree → Type 0) (Full : TypeTree → Type 0) (w : Order) {S : Type 0} (type_tree : S → TypeTree) (T : TypeTree) (source : List ℕ) where
   -- what is said of fields speaks of their type, of them and of what is due alone
@@ -76,8 +77,8 @@ module _ {V : Type 0} (tree : V → Value) (of : V → TypeTree → Type 0) (Ful
           known = subst (λ (names : List (List ℕ)). AllOf (IsOneOf names) (names_of given)) own h.begun.known;
           values = all_from (IsFineIn source (λ e. FaultOfValue w is_record.fields e)) (node_pairs children) (λ i pair here e key val.
               let name : List ℕ = name_of (node_text source pair.0) in
-              let named : IsFor name e = ap names_in (label_token source pair.0 e.place e.key key (holds_at IsLabelled (node_pairs children) i pair h.begun.labels here)) in
-              let found : look_up given name ≡ Some pair.1 = look_has given i (name, pair.1) (h.begun.distinct distinct) (has_mapped (field_of source) (node_pairs children) i pair here) in
+              let named : IsFor name e = ap names_in (label_token source pair.0 e.place e.key key (all_has IsLabelled (node_pairs children) i pair h.begun.labels here)) in
+              let found : look_up given name ≡ Some pair.1 = look_has given i (name, pair.1) (h.begun.distinct distinct) (map_has (field_of source) (node_pairs children) i pair here) in
               value_fine_at w is_record.fields e (subst (AllOf (λ f. IsFor f.0 e → BlamesNothing (FirstFault w w f.1 e.value))) is_record.parts_are
               (value_kept tree of Full w type_tree source given name pair.1 e x.fields.items (fields_distinct T (map (part_of type_tree) x.fields.items) is_record distinct).within (h.begun.kept distinct) found named val)));
         }
@@ -86,7 +87,7 @@ module _ {V : Type 0} (tree : V → Value) (of : V → TypeTree → Type 0) (Ful
     new_name : (i : ℕ) (f : Field S V) → slice_get x.fields.items i ≡ Some f → f.value ≡ None → HasDistinctNames T → look_up (fields_at source children) f.name.now ≡ None
     new_name i f there unread distinct =
         let given : List (List ℕ × NodeTree) = fields_at source children in
-        subst (IsKeptAs tree of Full w (type_tree f.ty.now) source (look_up given f.name.now)) unread (holds_at (λ (g : Field S V). IsKeptAs tree of Full w (type_tree g.ty.now) source (look_up given g.name.now) g.value) x.fields.items i f (h.begun.kept distinct) (has_got x.fields.items i f there))
+        subst (IsKeptAs tree of Full w (type_tree f.ty.now) source (look_up given f.name.now)) unread (all_has (λ (g : Field S V). IsKeptAs tree of Full w (type_tree g.ty.now) source (look_up given g.name.now) g.value) x.fields.items i f (h.begun.kept distinct) (has_got x.fields.items i f there))
 
     -- ---- keys
 
@@ -111,7 +112,7 @@ module _ {V : Type 0} (tree : V → Value) (of : V → TypeTree → Type 0) (Ful
     -- a name that was read is one of those of the entries
     read_name : (name : List ℕ) → AreKeptAs type_tree tree of Full w source (fields_at source children) x.fields.items → IsReadBefore x.fields.items name → IsOneOf (names_of (fields_at source children)) name
     read_name name kept (i, f, v, there, named, value) =
-        let own : IsKeptAs tree of Full w (type_tree f.ty.now) source (look_up (fields_at source children) f.name.now) (Some v) = subst (IsKeptAs tree of Full w (type_tree f.ty.now) source (look_up (fields_at source children) f.name.now)) value (holds_at (λ (g : Field S V). IsKeptAs tree of Full w (type_tree g.ty.now) source (look_up (fields_at source children) g.name.now) g.value) x.fields.items i f kept (has_got x.fields.items i f there)) in
+        let own : IsKeptAs tree of Full w (type_tree f.ty.now) source (look_up (fields_at source children) f.name.now) (Some v) = subst (IsKeptAs tree of Full w (type_tree f.ty.now) source (look_up (fields_at source children) f.name.now)) value (all_has (λ (g : Field S V). IsKeptAs tree of Full w (type_tree g.ty.now) source (look_up (fields_at source children) g.name.now) g.value) x.fields.items i f kept (has_got x.fields.items i f there)) in
         subst (IsOneOf (names_of (fields_at source children))) named (is_found (fields_at source children) f.name.now own.0 own.1)
 
     -- a key with a fault dooms the record
@@ -185,7 +186,7 @@ module _ {V : Type 0} (tree : V → Value) (of : V → TypeTree → Type 0) (Ful
         let (k, waits, label, (f, there, named, typed, unread)) = waiting due is in
         let own : IsReadAs tree of Full w w (type_tree f.ty.now) source n (Err e) = subst (λ (t : Bor S). IsReadAs tree of Full w w (type_tree t.now) source n (Err e)) (sym typed) (subst (IsReadAs tree of Full w w (type_tree due.1.now) source n) made (due_type due n r is read)) in
         let new : HasDistinctNames T → IsNoneOf (names_of (fields_at source children)) (name_of (node_text source k)) = λ distinct. subst (IsNoneOf (names_of (fields_at source children))) named (not_found (fields_at source children) f.name.now (new_name due.0 f there unread distinct)) in
-        let part : HasAt (map (part_of type_tree) x.fields.items) due.0 (name_of (node_text source k), type_tree f.ty.now) = subst (λ (name : List ℕ). HasAt (map (part_of type_tree) x.fields.items) due.0 (name, type_tree f.ty.now)) named (has_mapped (part_of type_tree) x.fields.items due.0 f (has_got x.fields.items due.0 f there)) in
+        let part : HasAt (map (part_of type_tree) x.fields.items) due.0 (name_of (node_text source k), type_tree f.ty.now) = subst (λ (name : List ℕ). HasAt (map (part_of type_tree) x.fields.items) due.0 (name, type_tree f.ty.now)) named (map_has (part_of type_tree) x.fields.items due.0 f (has_got x.fields.items due.0 f there)) in
         told_dooms tree of Full in_text w T source kind.TupleSet (children ++ n ∷ []) e (λ more p. value_dooms tree of Full w T (map (part_of type_tree) x.fields.items) is_record source children more p e entries_read k n due.0 (type_tree f.ty.now) full waits label new part own)
 
     -- a value was refused

@@ -23,11 +23,12 @@ use Rattle.wave_grammar.specs.NodeTree.{NodeTree}
 use Rattle.wave_grammar.specs.NodeFields.{IsLeftOut, IsMissing}
 use Rattle.wave_grammar.proofs.ByKind.Lists.{HasAt}
 use Rattle.wave_grammar.proofs.Fields.Lookup.{take_next, map_last}
-use Rattle.wave_grammar.proofs.Fields.Entries.{not_both}
 use Rattle.wave_read.specs.Reading.{IsReadAs}
 use Rattle.wave_read.specs.declared.records.Field.{Field}
 use Rattle.wave_read.specs.RecordParts.{part_of, field_name, IsKeptAs, AreKeptAs}
 use Rattle.wave_read.specs.Private.RecordParts.{with_value, IsFull, AreFull, IsFilled, FirstUnfilled}
+use Rattle.wave_grammar.proofs.ByKind.Enums.{none_one}
+use Rattle.wave_grammar.proofs.ChildNodes.Inside.{some_is}
 
 -- ---- lists
 
@@ -37,32 +38,17 @@ got_here [] i x lt is = absurd (omega (arith, lt))
 got_here (y ∷ xs) zero x lt is = ap Some (sym is)
 got_here (y ∷ xs) (suc i) x lt is = got_here xs i x (omega (arith, lt)) is
 
-some_same : {X : Type 0} (x y : X) → Some x ≡ Some y → x ≡ y
-some_same x y e = cc
-
 -- so it stands there
 pub has_got : {X : Type 0} (xs : List X) (i : ℕ) (x : X) → slice_get xs i ≡ Some x → HasAt xs i x
 has_got [] i x e = absurd (cc)
-has_got (y ∷ xs) zero x e = some_same y x e
+has_got (y ∷ xs) zero x e = some_is y x e
 has_got (y ∷ xs) (suc i) x e = has_got xs i x e
 
 -- it is the only one there
 pub got_same : {X : Type 0} (xs : List X) (i : ℕ) (x y : X) → slice_get xs i ≡ Some x → y ≡ get_or xs i y → x ≡ y
 got_same [] i x y e is = absurd (cc)
-got_same (z ∷ xs) zero x y e is = sym (some_same z x e) ∙ sym is
+got_same (z ∷ xs) zero x y e is = sym (some_is z x e) ∙ sym is
 got_same (z ∷ xs) (suc i) x y e is = got_same xs i x y e is
-
--- what f makes of it stands at its place
-pub has_mapped : {X Y : Type 0} (f : X → Y) (xs : List X) (i : ℕ) (x : X) → HasAt xs i x → HasAt (map f xs) i (f x)
-has_mapped f [] i x h = absurd h
-has_mapped f (y ∷ xs) zero x h = ap f h
-has_mapped f (y ∷ xs) (suc i) x h = has_mapped f xs i x h
-
--- what holds of all holds of it
-pub holds_at : {X : Type 0} (P : X → Type 0) (xs : List X) (i : ℕ) (x : X) → AllOf P xs → HasAt xs i x → P x
-holds_at P [] i x all h = absurd h
-holds_at P (y ∷ xs) zero x all h = subst P h all.0
-holds_at P (y ∷ xs) (suc i) x all h = holds_at P xs i x all.1 h
 
 -- the one after these
 pub has_behind : {X : Type 0} (before : List X) (x : X) (behind : List X) → HasAt (before ++ x ∷ behind) (length before) x
@@ -189,7 +175,7 @@ module _ {V : Type 0} (tree : V → Value) (of : V → TypeTree → Type 0) (Ful
   kept_more given m (g ∷ fields) zero f v here distinct none read h =
       ((m, look_new given f.name.now m none, read), kept_others given f.name.now m fields (subst (IsNoneOf (map field_name fields)) (ap field_name here) distinct.0) h.1)
   kept_more given m (g ∷ fields) (suc i) f v here distinct none read h =
-      (kept_other given f.name.now m g (λ e. not_both (map field_name fields) g.name.now distinct.0 (subst (IsOneOf (map field_name fields)) (sym e) (one_of_fields fields i f here))) h.0, kept_more given m fields i f v here distinct.1 none read h.1)
+      (kept_other given f.name.now m g (λ e. none_one (map field_name fields) g.name.now distinct.0 (subst (IsOneOf (map field_name fields)) (sym e) (one_of_fields fields i f here))) h.0, kept_more given m fields i f v here distinct.1 none read h.1)
 
   -- what was read of an entry's value has no fault
   kept_fine : (E : TypeTree) (found : Option NodeTree) (kept : Option V) (m : NodeTree) (e : PlacedEntry) → HasDistinctNames E → found ≡ Some m → IsNodeOf source m e.value → IsKeptAs tree of Full w E source found kept → BlamesNothing (FirstFault w w E e.value)

@@ -23,7 +23,7 @@ kept_by_display source n (at p s) node =
     (is, again, subst (λ (z : List ℕ). MeanTheSame (slice source (place_of n)) z) (sym is) (subst (λ q. MeanTheSame (slice source q) (shown (tree_of (at p s)))) place same))
 
 -- what is shown of a call's parameters is the display of their tuple
-params_shown : (source name : List ℕ) (o : Option NodeTree) (params : MaybeTree) → MeansParams source o params → name ++ params_at source o ≡ shown_call name params
+pub params_shown : (source name : List ℕ) (o : Option NodeTree) (params : MaybeTree) → MeansParams source o params → name ++ params_at source o ≡ shown_call name params
 params_shown source name None params is = sym (ap (shown_call name) is)
 params_shown source name (Some n) params (t, node, is) = ap (λ (z : List ℕ). name ++ z) (shown_known source n t node.0) ∙ sym (ap (shown_call name) is)
 

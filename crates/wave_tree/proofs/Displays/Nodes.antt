@@ -16,7 +16,7 @@ use Rattle.wave_grammar.specs.NodeAccessors.{node_text}
 use Rattle.wave_grammar.specs.TypedReading.{IsValueOf}
 use Rattle.wave_tree.specs.NodeDisplay.{shown_placed, shown_at}
 use Rattle.wave_tree.specs.Private.NodeDisplay.{name_at, entries_at, braces_at, payload_at, AreEntriesOf}
-use Rattle.wave_grammar.proofs.ChildNodes.Inside.{From, inside, some_is, flag_key, AreParsed, parsed, pair_parsed, nodes_in, nodes_are, is_number_word}
+use Rattle.wave_grammar.proofs.ChildNodes.Inside.{From, inside, some_is, flag_key, AreParsed, pair_parsed, is_number_word, all_parsed}
 use Rattle.wave_grammar.proofs.ChildNodes.Cases.{shape_at, case_shape}
 use Rattle.wave_grammar.proofs.ByKind.Leaves.{tree_is}
 use Rattle.wave_grammar.proofs.ByKind.Lists.{AreNodesOf, spelled_nodes}
@@ -44,7 +44,7 @@ pub record Opened (ty : NodeType) (source : List ℕ) (n : NodeTree) : Type 0 wh
 pub opened : (ty : NodeType) (source : List ℕ) (n : NodeTree) → IsValueOf source n → type_of n ≡ ty → Opened ty source n
 opened ty source n (at r s, h) e =
     let i = inside source n (at r s) h.0 in
-    record { place = r; shape = s; children = i.children; means = h.0; from = shape_at ty source n (at r s) i e; nodes = subst (λ (ns : List NodeTree). AreParsed source ns i.children) (nodes_are n) (parsed source (nodes_in n) i.children i.each); spelled = h.1 }
+    record { place = r; shape = s; children = i.children; means = h.0; from = shape_at ty source n (at r s) i e; nodes = all_parsed source n (at r s) i; spelled = h.1 }
 
 -- what shows it is what shows its shape
 shown_opened : (ty : NodeType) (source : List ℕ) (n : NodeTree) (o : Opened ty source n) (s : SpannedShape) → s ≡ o.shape → shown (tree_of_shape s) ≡ shown_at source n
@@ -157,35 +157,30 @@ one_payload source [] t h s = absurd h
 one_payload source (m ∷ n ∷ ns) t h s = absurd h.1
 one_payload source (n ∷ []) t h s = (are_values source (n ∷ []) (t ∷ []) ((h.0, s), tt), ap in_parens (shown_known source n t h.0))
 
+-- after its word
+word_payload : (source : List ℕ) (ns : List NodeTree) (r : Range ℕ) (word : List ℕ) (t : SpannedTree) (form s : SpannedShape) → AreParsed source ns (t ∷ []) → form ≡ s → SpellsEach source (at r s) → (SpellsEach source (at r form) → SpellsEach source t) →
+    word ++ in_parens (shown (tree_of t)) ≡ shown (tree_of_shape form) → All (IsValueOf source) ns × (word ++ payload_at source ns ≡ shown (tree_of_shape s))
+word_payload source ns r word t form s h shape k within shows =
+    let it = one_payload source ns t h (within (subst (λ (x : SpannedShape). SpellsEach source (at r x)) (sym shape) k)) in
+    (it.0, ap (λ z. word ++ z) it.1 ∙ (shows ∙ ap (λ (x : SpannedShape). shown (tree_of_shape x)) shape))
+
 some_payload : (source : List ℕ) (ns : List NodeTree) (p r : Range ℕ) (text : List ℕ) (cs : List SpannedTree) (s : SpannedShape) → AreParsed source ns cs → SpellsEach source (at r s) → shape_from kind.OptionSome p text cs ≡ Some s →
     All (IsValueOf source) ns × (codes "some" ++ payload_at source ns ≡ shown (tree_of_shape s))
 some_payload source ns p r text [] s h k e = absurd (cc)
 some_payload source ns p r text (t ∷ u ∷ cs) s h k e = absurd (cc)
-some_payload source ns p r text (t ∷ []) s h k e =
-    let shape : some t ≡ s = some_is _ _ e in
-    let spelled : SpellsEach source (at r (some t)) = subst (λ (x : SpannedShape). SpellsEach source (at r x)) (sym shape) k in
-    let it = one_payload source ns t h spelled.1.1 in
-    (it.0, ap (λ z. codes "some" ++ z) it.1 ∙ ap (λ (x : SpannedShape). shown (tree_of_shape x)) shape)
+some_payload source ns p r text (t ∷ []) s h k e = word_payload source ns r (codes "some") t (some t) s h (some_is _ _ e) k (λ f. f.1.1) refl
 
 ok_payload : (source : List ℕ) (ns : List NodeTree) (p r : Range ℕ) (text : List ℕ) (cs : List SpannedTree) (s : SpannedShape) → AreParsed source ns cs → SpellsEach source (at r s) → shape_from kind.ResultOk p text cs ≡ Some s →
     All (IsValueOf source) ns × (codes "ok" ++ payload_at source ns ≡ shown (tree_of_shape s))
 ok_payload source ns p r text [] s h k e = let it = no_payload source ns h in (it.0, ap (λ z. codes "ok" ++ z) it.1 ∙ ap (λ (x : SpannedShape). shown (tree_of_shape x)) (some_is (ok no_placed) s e))
 ok_payload source ns p r text (t ∷ u ∷ cs) s h k e = absurd (cc)
-ok_payload source ns p r text (t ∷ []) s h k e =
-    let shape : ok (a_placed t) ≡ s = some_is _ _ e in
-    let spelled : SpellsEach source (at r (ok (a_placed t))) = subst (λ (x : SpannedShape). SpellsEach source (at r x)) (sym shape) k in
-    let it = one_payload source ns t h spelled.1.1 in
-    (it.0, ap (λ z. codes "ok" ++ z) it.1 ∙ ap (λ (x : SpannedShape). shown (tree_of_shape x)) shape)
+ok_payload source ns p r text (t ∷ []) s h k e = word_payload source ns r (codes "ok") t (ok (a_placed t)) s h (some_is _ _ e) k (λ f. f.1.1) refl
 
 err_payload : (source : List ℕ) (ns : List NodeTree) (p r : Range ℕ) (text : List ℕ) (cs : List SpannedTree) (s : SpannedShape) → AreParsed source ns cs → SpellsEach source (at r s) → shape_from kind.ResultErr p text cs ≡ Some s →
     All (IsValueOf source) ns × (codes "err" ++ payload_at source ns ≡ shown (tree_of_shape s))
 err_payload source ns p r text [] s h k e = let it = no_payload source ns h in (it.0, ap (λ z. codes "err" ++ z) it.1 ∙ ap (λ (x : SpannedShape). shown (tree_of_shape x)) (some_is (err no_placed) s e))
 err_payload source ns p r text (t ∷ u ∷ cs) s h k e = absurd (cc)
-err_payload source ns p r text (t ∷ []) s h k e =
-    let shape : err (a_placed t) ≡ s = some_is _ _ e in
-    let spelled : SpellsEach source (at r (err (a_placed t))) = subst (λ (x : SpannedShape). SpellsEach source (at r x)) (sym shape) k in
-    let it = one_payload source ns t h spelled.1.1 in
-    (it.0, ap (λ z. codes "err" ++ z) it.1 ∙ ap (λ (x : SpannedShape). shown (tree_of_shape x)) shape)
+err_payload source ns p r text (t ∷ []) s h k e = word_payload source ns r (codes "err") t (err (a_placed t)) s h (some_is _ _ e) k (λ f. f.1.1) refl
 
 pub some_shown : (source : List ℕ) (n : NodeTree) → IsValueOf source n → type_of n ≡ kind.OptionSome → All (IsValueOf source) (children_of n) × (codes "some" ++ payload_at source (children_of n) ≡ shown_at source n)
 some_shown source n v e =

@@ -13,9 +13,9 @@ use Rattle.wave_grammar.specs.TypedReading.{IsValueOf, IsKeyOf}
 use Rattle.wave_grammar.specs.PartReading.{IsPayloadNodeOf}
 use Rattle.wave_grammar.specs.declared.form.NodeType.{NodeType}
 use Rattle.wave_grammar.specs.declared.form.NodeType.TheVariants as kind
-use Rattle.wave_grammar.proofs.ChildNodes.Inside.{Inside, inside, some_is, flag_key, AreParsed, parsed, pair_parsed, nodes_in, nodes_are}
+use Rattle.wave_grammar.proofs.ChildNodes.Inside.{Inside, inside, flag_key, AreParsed, parsed, pair_parsed, all_parsed}
 use Rattle.wave_grammar.proofs.ChildNodes.Cases.{case_shape, shape_at}
-use Rattle.wave_grammar.proofs.ChildNodes.Entries.{both_some}
+use Rattle.wave_grammar.proofs.ChildNodes.Entries.{both_some, entries_are}
 use Rattle.wave_grammar.proofs.ByKind.Lists.{list_item}
 use Rattle.wave_grammar.proofs.ByKind.Tuples.{tuple_item}
 use Rattle.wave_grammar.proofs.ByKind.Options.{some_node}
@@ -56,11 +56,7 @@ bare_token kind.OptionSome p text (c ∷ cs) s e o bare = absurd o
 bare_token kind.Flags p text (c ∷ cs) s e o bare = absurd o
 bare_token _ p text (c ∷ cs) s e o bare = absurd (cc)
 
--- the children of a value have the trees of its parts
-pub all_parsed : (source : List ℕ) (n : NodeTree) (t : SpannedTree) (i : Inside source n t) → AreParsed source (children_of n) i.children
-all_parsed source n t i = subst (λ (ns : List NodeTree). AreParsed source ns i.children) (nodes_are n) (parsed source (nodes_in n) i.children i.each)
-
--- as many as they
+-- as many children as trees of parts
 pub as_long : (source : List ℕ) (ns : List NodeTree) (cs : List SpannedTree) → AreParsed source ns cs → length ns ≡ length cs
 as_long source [] [] h = refl
 as_long source [] (c ∷ cs) h = absurd h
@@ -198,10 +194,6 @@ flags_shape source n r s i e = by (flags_of i.children) refl (shape_at kind.Flag
     by : (o : Option (List (Range ℕ × List ℕ))) → flags_of i.children ≡ o → option_map flags o ≡ Some s → (fs : List (Range ℕ × List ℕ)) × (flags_of i.children ≡ Some fs)
     by (Some fs) is e = (fs, is)
     by None is e = absurd (cc)
-
-entries_are : (o : Option PlacedEntries) (s : SpannedShape) → option_map entries o ≡ Some s → (es : PlacedEntries) × (o ≡ Some es) × (s ≡ entries es)
-entries_are (Some es) s e = (es, refl, sym (some_is _ _ e))
-entries_are None s e = absurd (cc)
 
 set_turns : (source : List ℕ) (n : NodeTree) → IsValueOf source n → type_of n ≡ kind.TupleSet → AreTurns source (children_of n)
 set_turns source n (at r s, is) ty = by i.children (children_of n) (all_parsed source n (at r s) i) (shape_at kind.TupleSet source n (at r s) i ty)

@@ -8,7 +8,7 @@ use Rattle.wave_wasm.specs.declared.wasm.WasmTypeKind.TheVariants as kinds
 use Rattle.wave_lex.specs.Errors.{Diagnostic, Refusal, refusal_of}
 use Rattle.wave_lex.specs.declared.error.ParserErrorKind.TheVariants.{InvalidType}
 use Rattle.wave_grammar.specs.TypedGrammar.{IsFlat}
-use Rattle.wave_grammar.specs.SpannedTree.{SpannedTree, MaybePlaced, SpannedShape, tuple, entries, no_fields, none, some, ok, err, placed_list, span_of, shape_of}
+use Rattle.wave_grammar.specs.SpannedTree.{SpannedTree, MaybePlaced, SpannedShape, tuple, none, some, ok, err, placed_list, span_of, shape_of}
 use Rattle.wave_grammar.specs.TypeErrors.{Blame, IsRefusalOf, OfForm, OfOption, OfResult, tuple_in, record_in}
 use Rattle.wave_grammar.specs.FaultOrder.{Order, in_text, by_type, OrElse, WrongCount, FirstFault, FirstItem, FirstOfFlat}
 use Rattle.wave_grammar.specs.NodeTree.{NodeTree, type_of, children_of}
@@ -16,13 +16,14 @@ use Rattle.wave_grammar.specs.Nodes.{IsNodeOf}
 use Rattle.wave_grammar.specs.TypedReading.{IsTypedValue, IsBlamed}
 use Rattle.wave_grammar.specs.declared.form.NodeType.{NodeType}
 use Rattle.wave_grammar.specs.declared.form.NodeType.TheVariants as kind
-use Rattle.wave_grammar.proofs.ChildNodes.Inside.{From, Inside, inside, some_is}
+use Rattle.wave_grammar.proofs.ChildNodes.Inside.{From, Inside, inside, some_is, all_parsed}
 use Rattle.wave_grammar.proofs.ByKind.Lists.{trees_back}
 use Rattle.wave_grammar.proofs.ByKind.Options.{some_node, given_none}
 use Rattle.wave_grammar.proofs.ByKind.Results.{ok_node, err_node}
 use Rattle.wave_read.specs.PlainReading.{IsReadSparing}
 use Rattle.wave_read.specs.Flat.{IsFlatAt, ReadsNoRecord, IsCounted}
-use Rattle.wave_tree.proofs.NodeReading.Children.{all_parsed, as_long}
+use Rattle.wave_tree.proofs.NodeReading.Children.{as_long}
+use Rattle.wave_grammar.proofs.Fields.Entries.{not_record}
 
 -- a form that the type doesn't take is refused as such
 same_form : {A : Type 0} (f : Option A) (p : Range ℕ) (F G : A → Blame) (k : Refusal) (q : Range ℕ) → f ≡ None → OfForm f p F k q → OfForm f p G k q
@@ -45,11 +46,6 @@ of_result : (s : SpannedShape) (OnOk OnErr : MaybePlaced → Blame) (F G : Blame
 of_result (ok u) OnOk OnErr F G k q more h = h
 of_result (err u) OnOk OnErr F G k q more h = h
 of_result _ OnOk OnErr F G k q more h = more (λ u e. cc) (λ u e. cc) h
-
-not_record : (ty : NodeType) (p : Range ℕ) (text : List ℕ) (cs : List SpannedTree) (s : SpannedShape) → From ty p text cs s → ty ≢ kind.TupleSet → record_in s ≡ None
-not_record ty p text cs (entries es) f apart = absurd (apart f.0)
-not_record ty p text cs no_fields f apart = absurd (apart f.0)
-not_record ty p text cs _ f apart = refl
 
 tuple_items : (ty : NodeType) (p : Range ℕ) (text : List ℕ) (cs : List SpannedTree) (s : SpannedShape) (items : List SpannedTree) → From ty p text cs s → tuple_in s ≡ Some items → (ty ≡ kind.Tuple) × (length items ≡ length cs)
 tuple_items ty p text cs (tuple ts) items f e = (f.0, ap length (sym (some_is _ _ e) ∙ (ap placed_list f.1 ∙ trees_back cs)))

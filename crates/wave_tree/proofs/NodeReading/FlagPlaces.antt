@@ -19,11 +19,12 @@ use Rattle.wave_grammar.specs.NodeFlags.{AreInOrder, names_at}
 use Rattle.wave_grammar.specs.TypedReading.{IsValueOf}
 use Rattle.wave_grammar.specs.declared.form.NodeType.{NodeType}
 use Rattle.wave_grammar.specs.declared.form.NodeType.TheVariants as kind
-use Rattle.wave_grammar.proofs.ChildNodes.Inside.{inside, AreParsed}
+use Rattle.wave_grammar.proofs.ChildNodes.Inside.{inside, AreParsed, all_parsed}
 use Rattle.wave_grammar.proofs.ChildNodes.Entries.{both_some}
 use Rattle.wave_grammar.proofs.NodeMeaning.Flags.{labels_ordered}
 use Rattle.wave_grammar.specs.FlagParts.{label_at, flag_nodes, AreFlagsOf}
-use Rattle.wave_tree.proofs.NodeReading.Children.{childless, all_parsed, flags_shape, whole_is}
+use Rattle.wave_tree.proofs.NodeReading.Children.{childless, flags_shape, whole_is}
+use Rattle.wave_tree.proofs.ParserCorrectness.FlagsSorted.{entry_of}
 
 -- ---- the labels
 
@@ -56,13 +57,9 @@ labels_are source n (at r s, is) e =
 abbrev named : List ℕ → NodeTree → List ℕ × Range ℕ
 named source n = (name_of (node_text source n), place_of n)
 
--- an entry's name and place
-abbrev pub shown_entry : Bor (List ℕ) × Range ℕ → List ℕ × Range ℕ
-shown_entry e = (e.0.now, e.1)
-
 -- the map has the first labels by their names, in their order
 abbrev pub HoldsFirst : List ℕ → List NodeTree → ℕ → BTreeMap (Bor (List ℕ)) (Range ℕ) → Type 0
-HoldsFirst source ns i flags = map shown_entry flags.entries ≡ map (named source) (take i ns)
+HoldsFirst source ns i flags = map entry_of flags.entries ≡ map (named source) (take i ns)
 
 -- the name is after each of these
 abbrev AllBefore : List ℕ → List (List ℕ × Range ℕ) → Type 0
@@ -81,12 +78,12 @@ greater_at o Equal e h = cc
 greater_at o Greater e h = cc
 
 -- a name after the others is put last
-put_last : (es : List (Bor (List ℕ) × Range ℕ)) (k : Bor (List ℕ)) (v : Range ℕ) → AllBefore k.now (map shown_entry es) → map shown_entry (insert_entry (λ a b. slice_cmp nat_cmp a.now b.now) es k v) ≡ map shown_entry es ++ (k.now, v) ∷ []
+put_last : (es : List (Bor (List ℕ) × Range ℕ)) (k : Bor (List ℕ)) (v : Range ℕ) → AllBefore k.now (map entry_of es) → map entry_of (insert_entry (λ a b. slice_cmp nat_cmp a.now b.now) es k v) ≡ map entry_of es ++ (k.now, v) ∷ []
 put_last [] k v h = refl
 put_last (e ∷ es) k v h =
     let behind = greater_at (slice_cmp nat_cmp k.now e.0.now) (slice_cmp nat_cmp e.0.now k.now) (nat_list_cmp_total.antisymm k.now e.0.now) (sym (before_is e.0.now k.now) ∙ h.0) in
-    ap (λ (o : Ordering). map shown_entry (match_ordering o ((k, v) ∷ e ∷ es) ((e.0, v) ∷ es) (e ∷ insert_entry (λ a b. slice_cmp nat_cmp a.now b.now) es k v))) behind
-    ∙ ap (λ (l : List (List ℕ × Range ℕ)). shown_entry e ∷ l) (put_last es k v h.1)
+    ap (λ (o : Ordering). map entry_of (match_ordering o ((k, v) ∷ e ∷ es) ((e.0, v) ∷ es) (e ∷ insert_entry (λ a b. slice_cmp nat_cmp a.now b.now) es k v))) behind
+    ∙ ap (λ (l : List (List ℕ × Range ℕ)). entry_of e ∷ l) (put_last es k v h.1)
 
 next_held : (source : List ℕ) (n : NodeTree) (ns : List NodeTree) (i : ℕ) (m : NodeTree) (old new : BTreeMap (Bor (List ℕ)) (Range ℕ)) (k : Bor (List ℕ)) (v : Range ℕ) →
     AreInOrder (names_at source ns) → i < length ns → m ≡ get_or ns i m → HoldsFirst source ns i old →
@@ -94,10 +91,10 @@ next_held : (source : List ℕ) (n : NodeTree) (ns : List NodeTree) (i : ℕ) (m
 next_held source n ns i m old new k v sorted lt here held name place put =
     let split : ns ≡ take i ns ++ m ∷ drop (i + 1) ns = sym (take-append-drop i ns) ∙ ap (λ (l : List NodeTree). take i ns ++ l) (drop_more ns i m lt ∙ ap (λ (x : NodeTree). x ∷ drop (i + 1) ns) (sym here)) in
     let ordered : AreInOrder (names_at source (take i ns ++ m ∷ drop (i + 1) ns)) = subst (λ (l : List NodeTree). AreInOrder (names_at source l)) split sorted in
-    let behind : AllBefore k.now (map shown_entry old.entries) = subst (λ (x : List ℕ). AllBefore x (map shown_entry old.entries)) (sym name) (subst (AllBefore (name_of (node_text source m))) (sym held) (in_front source (take i ns) (drop (i + 1) ns) m ordered)) in
+    let behind : AllBefore k.now (map entry_of old.entries) = subst (λ (x : List ℕ). AllBefore x (map entry_of old.entries)) (sym name) (subst (AllBefore (name_of (node_text source m))) (sym held) (in_front source (take i ns) (drop (i + 1) ns) m ordered)) in
     let pair : (k.now, v) ≡ named source m = λ j. (name j, place j) in
     let more : take (i + 1) ns ≡ take i ns ++ m ∷ [] = take_more ns i m lt ∙ ap (λ (x : NodeTree). take i ns ++ x ∷ []) (sym here) in
-    ap (map shown_entry) put ∙ (put_last old.entries k v behind ∙ ((λ j. held j ++ pair j ∷ []) ∙ sym (ap (map (named source)) more ∙ map-append (named source) (take i ns) (m ∷ []))))
+    ap (map entry_of) put ∙ (put_last old.entries k v behind ∙ ((λ j. held j ++ pair j ∷ []) ∙ sym (ap (map (named source)) more ∙ map-append (named source) (take i ns) (m ∷ []))))
 
 -- the next label
 pub holds_next : (source : List ℕ) (n : NodeTree) (ns : List NodeTree) (i : ℕ) (m : NodeTree) (old new : BTreeMap (Bor (List ℕ)) (Range ℕ)) (k : Bor (List ℕ)) (v : Range ℕ) →
@@ -112,18 +109,18 @@ heads : {x y : List ℕ × Range ℕ} {xs ys : List (List ℕ × Range ℕ)} →
 heads e = (cc, cc)
 
 -- each is held by its name
-all_named : (source : List ℕ) (es : List (Bor (List ℕ) × Range ℕ)) (ns : List NodeTree) → map shown_entry es ≡ map (named source) ns → AllOf (λ e. e.0.now ≡ name_of (slice source e.1)) es
+all_named : (source : List ℕ) (es : List (Bor (List ℕ) × Range ℕ)) (ns : List NodeTree) → map entry_of es ≡ map (named source) ns → AllOf (λ e. e.0.now ≡ name_of (slice source e.1)) es
 all_named source [] ns h = tt
-all_named source (e ∷ es) [] h = absurd (let wrong : shown_entry e ∷ map shown_entry es ≡ [] = h in cc)
+all_named source (e ∷ es) [] h = absurd (let wrong : entry_of e ∷ map entry_of es ≡ [] = h in cc)
 all_named source (e ∷ es) (n ∷ ns) h =
     let (q, more) = heads h in
     (ap (λ (z : List ℕ × Range ℕ). z.0) q ∙ ap (λ (z : List ℕ × Range ℕ). name_of (slice source z.1)) (sym q), all_named source es ns more)
 
 -- their nodes are those at their places
-all_nodes : (source : List ℕ) (es : List (Bor (List ℕ) × Range ℕ)) (ns : List NodeTree) → map shown_entry es ≡ map (named source) ns → AllOf IsLabel ns → ns ≡ map label_at (map (λ e. e.1) es)
+all_nodes : (source : List ℕ) (es : List (Bor (List ℕ) × Range ℕ)) (ns : List NodeTree) → map entry_of es ≡ map (named source) ns → AllOf IsLabel ns → ns ≡ map label_at (map (λ e. e.1) es)
 all_nodes source [] [] h all = refl
 all_nodes source [] (n ∷ ns) h all = absurd (let wrong : [] ≡ named source n ∷ map (named source) ns = h in cc)
-all_nodes source (e ∷ es) [] h all = absurd (let wrong : shown_entry e ∷ map shown_entry es ≡ [] = h in cc)
+all_nodes source (e ∷ es) [] h all = absurd (let wrong : entry_of e ∷ map entry_of es ≡ [] = h in cc)
 all_nodes source (e ∷ es) (n ∷ ns) h all =
     let (q, more) = heads h in
     let here : n ≡ label_at e.1 = all.0 ∙ ap (λ (z : List ℕ × Range ℕ). label_at z.1) (sym q) in

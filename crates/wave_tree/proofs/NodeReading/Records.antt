@@ -1,5 +1,5 @@
 -- Records whose fields are read in the order of their type, from a map of the nodes by their names.
-use Rattle.std.proofs.Common.{rules, ℕ, zero, suc, ◌≡◌, ◌⊎◌, inl, inr, ◌<◌, ◌≤◌, ◌+◌, ◌*◌, Bool, true, false, ◌||◌, cond, if◌then◌else◌, List, [], ◌∷◌, ◌++◌, length, get_or, take, map, Option, Some, None, option_map, Bor, Result, IfOk, IfErr, MatchResult, refl, sym, ap, ◌∙◌, subst, add-one, arith}
+use Rattle.std.proofs.Common.{ℕ, zero, suc, ◌≡◌, ◌⊎◌, inl, inr, ◌<◌, ◌≤◌, ◌+◌, ◌*◌, Bool, true, false, ◌||◌, cond, if◌then◌else◌, List, [], ◌∷◌, ◌++◌, length, get_or, take, map, Option, Some, None, option_map, Bor, Result, IfOk, IfErr, MatchResult, refl, sym, ap, ◌∙◌, subst, add-one, arith}
 use Rattle.std.proofs.lemmas.List.Folds.{list_any-append}
 use Rattle.std.specs.Str.{bytes_eq}
 use Rattle.std.specs.BTreeMap as tree_map
@@ -33,14 +33,15 @@ use Rattle.wave_grammar.proofs.ByKind.MakerAnswers.{made}
 use Rattle.wave_wasm.proofs.Names.NameTests.{is_one, none_of}
 use Rattle.wave_grammar.proofs.ByKind.Lists.{HasAt}
 use Rattle.wave_grammar.proofs.ByKind.Tuples.{place_has, map_has}
-use Rattle.wave_grammar.proofs.Fields.Lookup.{take_next, take_whole, map_last}
-use Rattle.wave_grammar.proofs.Fields.Entries.{AreFieldsOf, record_nodes, fields_of_entries, entry_found, not_both, some_map}
+use Rattle.wave_grammar.proofs.Fields.Lookup.{take_next, take_whole, map_last, eq_turn}
+use Rattle.wave_grammar.proofs.Fields.Entries.{AreFieldsOf, record_nodes, fields_of_entries, entry_found, some_map}
 use Rattle.wave_grammar.proofs.Fields.FieldOrder.{unknown_blamed}
 use Rattle.wave_grammar.proofs.Fields.Reading as reading
-use Rattle.wave_grammar.proofs.Fields.Reading.{RecordType, PartsDistinct, names_are, fields_distinct, given_fields, look_all, FieldIsRead, FieldsRead, record_reads, record_full}
+use Rattle.wave_grammar.proofs.Fields.Reading.{RecordType, PartsDistinct, names_are, fields_distinct, given_fields, look_all, FieldIsRead, FieldsRead, record_reads, record_full, has_one}
 use Rattle.wave_grammar.proofs.ErrorSpans.Nodes.{BelongsTo, PairBelongs, entries_belong}
 use Rattle.wave_read.specs.Errors.{IsMadeOrMemory}
 use Rattle.wave_read.proofs.ReadErrors.HandedOn.{made_anew}
+use Rattle.wave_grammar.proofs.ByKind.Enums.{none_one}
 
 -- the name and the type at a place, where they are borrowed
 pub part_at : {S : Type 0} (type_tree : S → TypeTree) (xs : List (Bor (List ℕ) × Bor S)) (i : ℕ) (x : Bor (List ℕ) × Bor S) → i < length xs → x ≡ get_or xs i x → HasAt (shown_fields type_tree xs) i (x.0.now, type_tree x.1.now)
@@ -50,11 +51,6 @@ part_at type_tree xs i x lt is = map_has (λ f. (f.0.now, type_tree f.1.now)) xs
 pub as_parts : {S : Type 0} (type_tree : S → TypeTree) (xs : List (Bor (List ℕ) × Bor S)) → length (shown_fields type_tree xs) ≡ length xs
 as_parts type_tree [] = refl
 as_parts type_tree (x ∷ xs) = ap suc (as_parts type_tree xs)
-
-has_one : {A : Type 0} (fs : List (List ℕ × A)) (i : ℕ) (f : List ℕ × A) → HasAt fs i f → IsOneOf (names_of fs) f.0
-has_one [] i f h = absurd h
-has_one (g ∷ fs) zero f h = inl (ap (λ x. x.0) (sym h))
-has_one (g ∷ fs) (suc i) f h = inr (has_one fs i f h)
 
 found_one : {A : Type 0} (fs : List (List ℕ × A)) (name : List ℕ) → IsOneOf (names_of fs) name → (x : A) × (look_up fs name ≡ Some x)
 found_one [] name h = absurd h
@@ -75,9 +71,6 @@ either_cond true false o = refl
 either_cond false true o = refl
 either_cond false false o = refl
 
-eq_turn : (a b : List ℕ) → bytes_eq a b ≡ bytes_eq b a
-eq_turn a b = search (rules, bytes_eq-Decides a b, bytes_eq-Decides b a)
-
 -- one more was removed
 pub removed_more : (names : List (List ℕ)) (old m n : BTreeMap (Bor (List ℕ)) (Bor NodeTree)) (name : List ℕ) → Removed names old m →
     tree_map.UpdatesBy (λ a b. slice_cmp nat_cmp a.now b.now) (λ k. slice_cmp nat_cmp name k.now) m n None → Removed (names ++ name ∷ []) old n
@@ -88,7 +81,7 @@ removed_more names old m n name h u = λ q.
     ∙ ap (λ b. if b then None else held_at old q) (ap (λ b. is_one_of names q || (b || false)) (eq_turn name q) ∙ sym (list_any-append (bytes_eq q) names (name ∷ [])))))
 
 not_one : (names : List (List ℕ)) (name : List ℕ) (b : Bool) → is_one_of names name ≡ b → IsNoneOf names name → b ≡ false
-not_one names name true is none = absurd (not_both names name none (is_one names name is))
+not_one names name true is none = absurd (none_one names name none (is_one names name is))
 not_one names name false is none = refl
 
 -- the node of a field of another name is still there
@@ -157,7 +150,7 @@ removed_next parts i name E old m n typed h u =
 pub none_before : (parts : List (List ℕ × TypeTree)) (i : ℕ) (name : List ℕ) (E : TypeTree) → AreDistinct (names_of parts) → HasAt parts i (name, E) → IsNoneOf (names_of (take i parts)) name
 none_before [] i name E d h = absurd h
 none_before (p ∷ ps) zero name E d h = tt
-none_before (p ∷ ps) (suc i) name E d h = ((λ e. not_both (names_of ps) p.0 d.0 (subst (IsOneOf (names_of ps)) e (has_one ps i (name, E) h))), none_before ps i name E d.1 h)
+none_before (p ∷ ps) (suc i) name E d h = ((λ e. none_one (names_of ps) p.0 d.0 (subst (IsOneOf (names_of ps)) e (has_one ps i (name, E) h))), none_before ps i name E d.1 h)
 
 fields_belong : (source : List ℕ) (n : NodeTree) (pairs : List (NodeTree × NodeTree)) → AllOf (PairBelongs n) pairs → AllOf (λ f. BelongsTo n f.1) (map (field_of source) pairs)
 fields_belong source n [] h = tt

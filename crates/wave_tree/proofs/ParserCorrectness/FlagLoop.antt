@@ -30,6 +30,7 @@ use Rattle.wave_wasm.proofs.Names.NameSets.{Holds}
 use Rattle.wave_grammar.proofs.NodeMeaning.FlagOrder.{order_last, none_in_order}
 use Rattle.wave_tree.proofs.ParserCorrectness.FlagsSorted.{entry_of, named_place, insert_flag, nodes_of, IsWritten, all_ordered, all_named}
 use Rattle.wave_wasm.proofs.Names.NameTests.{none_of, distinct_more}
+use Rattle.wave_grammar.proofs.Fields.Lookup.{all_last}
 
 -- the flag that was taken last
 abbrev pub flag_at : Place → Flag
@@ -49,10 +50,6 @@ pub record FlagsSoFar (flags : BTreeMap (Bor (List ℕ)) (Range ℕ)) (start at 
 pub source_flags : (flags : BTreeMap (Bor (List ℕ)) (Range ℕ)) (start at : Place) → FlagsSoFar flags start at → at.lexer.source ≡ start.lexer.source
 source_flags flags start at h = let (d, i, r) = h.led 0 [] in tokens_source start at r.tokens r.taken
 
-all_more : {A : Type 0} (P : A → Type 0) (xs : List A) (x : A) → AllOf P xs → P x → AllOf P (xs ++ x ∷ [])
-all_more P [] x h k = (k, tt)
-all_more P (y ∷ ys) x h k = (h.0, all_more P ys x h.1 k)
-
 -- one more flag, after a comma
 pub grown : (old new : BTreeMap (Bor (List ℕ)) (Range ℕ)) (start at m k : Place) (key : Bor (List ℕ)) (v : Range ℕ) → (h : FlagsSoFar old start at) → TakesClass Comma at m → TakesClass LabelOrKeyword m k →
     new.entries ≡ insert_entry (λ a b. slice_cmp nat_cmp a.now b.now) old.entries key v → key.now ≡ name_of (text_at k) → v ≡ span_at k →
@@ -69,7 +66,7 @@ grown old new start at m k key v h comma_there label_there entries_are key_is no
       more = h.more ++ f ∷ [];
       holds = subst (Holds new) names holds;
       distinct = subst AreDistinct names (distinct_more (map flag_name fs) (flag_name f) h.distinct none);
-      written = all_more (IsWritten start.lexer.source) fs f h.written (ap (λ (source : List ℕ). slice source (span_at k)) (source_item m k LabelOrKeyword label_there ∙ (source_item at m Comma comma_there ∙ source_flags old start at h)));
+      written = all_last (IsWritten start.lexer.source) fs f h.written (ap (λ (source : List ℕ). slice source (span_at k)) (source_item m k LabelOrKeyword label_there ∙ (source_item at m Comma comma_there ∙ source_flags old start at h)));
       ordered = ap (map entry_of) entries_are ∙ (insert_flag key v old.entries f (flags_in_order fs) pair h.ordered (none_in_order (flag_name f) fs none) ∙ ap (map named_place) (sym (order_last fs f none)));
       tree = λ rest r further. subst (λ z. AreFurtherFlags start z r) (sym (append_assoc h.more (f ∷ []) rest)) (h.tree (f ∷ rest) r (m, k, comma_there, label_there, refl, further));
       led = λ n s. let (d, i, reached) = led n s in (d, subst (λ z. IsFlagDue d z k) names i, reached);

@@ -4,15 +4,16 @@ use Rattle.wave_grammar.specs.LeafTokens.{name_of}
 use Rattle.wave_grammar.specs.NodeTree.{children_of}
 use Rattle.wave_grammar.specs.Nodes.{IsParsedFrom}
 use Rattle.wave_grammar.proofs.NodeMeaning.Flags.{labels_of}
-use Rattle.wave_tree.proofs.NodeReading.FlagPlaces.{shown_entry, holds_next, all_held, flags_whole}
+use Rattle.wave_tree.proofs.NodeReading.FlagPlaces.{holds_next, all_held, flags_whole}
 use Rattle.wave_tree.proofs.ast.Node.places_by_name.Goals as goal
+use Rattle.wave_tree.proofs.ParserCorrectness.FlagsSorted.{entry_of}
 
 pub slice-requires : goal.slice-requires
 slice-requires c =
     all_at (IsParsedFrom c.args.src.now) c.nodes-label-items.result.now (children_of c.args.self.now) c.loop-label.label-index c.label-item.result c.nodes-label-items.ensures c.loop-label-test.true c.label-item.is (labels_of c.args.src.now c.args.self.now (inl c.requires.value) (inl c.requires.form))
 
 pub loop-label-init : goal.loop-label-init
-loop-label-init c = ap (map shown_entry) c.new-flags.ensures.empty
+loop-label-init c = ap (map entry_of) c.new-flags.ensures.empty
 
 pub loop-label-preserved : goal.loop-label-preserved
 loop-label-preserved c =

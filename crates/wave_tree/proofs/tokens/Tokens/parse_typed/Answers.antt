@@ -1,4 +1,4 @@
-use Rattle.std.proofs.Common.{◌≢◌, inr, Option, Bor, Err, [], arith, sym, ap, subst, ◌∙◌}
+use Rattle.std.proofs.Common.{rules, ◌≢◌, inr, Option, Bor, Err, [], arith, sym, ap, subst, ◌∙◌}
 use Rattle.std.specs.Prelude.{IfErr}
 use Rattle.wave_wasm.specs.Borrowed.{shown}
 use Rattle.wave_lex.specs.declared.error.ParserErrorKind.TheVariants as because
@@ -22,8 +22,8 @@ returns-in-Ok-Ok-clause-value g c =
     let made = typed_answered tree of full g.V.Type.WasmType.tree c.args.levels old c.parse_node.new.self.place c.in-Ok-Ok.field-0 c.new-builder.result.due _ c.new-builder.ensures c.start_here-start.ensures.sound (c.in-Ok-Ok.ensures.led c.args.levels [] (omega arith)) c.in-Ok-Ok.ensures.tree in
     answered_value tree of full T c.args.levels old c.parse_node.new.self.place c.in-Ok-Ok.value (subst (IsAnswered tree of full T c.args.levels old c.parse_node.new.self.place) c.in-Ok-Ok.field-0-is made.0)
 
-pub returns-in-Ok-Err-clause-refused : goal.returns-in-Ok-Err-clause-refused
-returns-in-Ok-Err-clause-refused g c = λ apart.
+pub returns-in-Ok-Err : goal.returns-in-Ok-Err
+returns-in-Ok-Err g c =
     let tree = g.V.WasmValue.tree in
     let of = g.V.WasmValue.is_of in
     let full = g.V.WasmValue.is_full in
@@ -31,38 +31,21 @@ returns-in-Ok-Err-clause-refused g c = λ apart.
     let old = c.args.self.now.place in
     let made = typed_answered tree of full g.V.Type.WasmType.tree c.args.levels old c.parse_node.new.self.place c.in-Ok-Err.field-0 c.new-builder.result.due _ c.new-builder.ensures c.start_here-start.ensures.sound (c.in-Ok-Err.ensures.led c.args.levels [] (omega arith)) c.in-Ok-Err.ensures.tree in
     let told = subst (λ (e : Diagnostic). IsAnswered tree of full T c.args.levels old c.parse_node.new.self.place (Err e)) (sym c.into_error.ensures) (subst (IsAnswered tree of full T c.args.levels old c.parse_node.new.self.place) c.in-Ok-Err.field-0-is made.0) in
-    let back = c.refuse.ensures.other apart in
-    inr (back_same (λ e (q : Stream). IsTypeRefused full T c.args.levels e old q.place) c.into_error.result c.refuse.result c.parse_node.new.self c.refuse.new.self back
-    (answered_refused tree of full T c.args.levels old c.parse_node.new.self.place c.into_error.result told (λ m. apart (c.refuse.ensures.kind ∙ m))))
-
-pub returns-in-Ok-Err-clause-within : goal.returns-in-Ok-Err-clause-within
-returns-in-Ok-Err-clause-within g c =
-    let tree = g.V.WasmValue.tree in
-    let of = g.V.WasmValue.is_of in
-    let full = g.V.WasmValue.is_full in
-    let T = g.V.Type.WasmType.tree c.args.ty.now in
-    let old = c.args.self.now.place in
-    let made = typed_answered tree of full g.V.Type.WasmType.tree c.args.levels old c.parse_node.new.self.place c.in-Ok-Err.field-0 c.new-builder.result.due _ c.new-builder.ensures c.start_here-start.ensures.sound (c.in-Ok-Err.ensures.led c.args.levels [] (omega arith)) c.in-Ok-Err.ensures.tree in
-    let told = subst (λ (e : Diagnostic). IsAnswered tree of full T c.args.levels old c.parse_node.new.self.place (Err e)) (sym c.into_error.ensures) (subst (IsAnswered tree of full T c.args.levels old c.parse_node.new.self.place) c.in-Ok-Err.field-0-is made.0) in
-    back_lies _ old.lexer c.into_error.result c.refuse.result c.start_here-start.ensures.place c.refuse.ensures.within (λ apart. answered_within tree of full T c.args.levels old c.parse_node.new.self.place (Err c.into_error.result) told)
-
-pub returns-in-Ok-Err-clause-caused : goal.returns-in-Ok-Err-clause-caused
-returns-in-Ok-Err-clause-caused g c = λ was.
-    let tree = g.V.WasmValue.tree in
-    let of = g.V.WasmValue.is_of in
-    let full = g.V.WasmValue.is_full in
-    let T = g.V.Type.WasmType.tree c.args.ty.now in
-    let old = c.args.self.now.place in
-    let made = typed_answered tree of full g.V.Type.WasmType.tree c.args.levels old c.parse_node.new.self.place c.in-Ok-Err.field-0 c.new-builder.result.due _ c.new-builder.ensures c.start_here-start.ensures.sound (c.in-Ok-Err.ensures.led c.args.levels [] (omega arith)) c.in-Ok-Err.ensures.tree in
-    let told = subst (λ (e : Diagnostic). IsAnswered tree of full T c.args.levels old c.parse_node.new.self.place (Err e)) (sym c.into_error.ensures) (subst (IsAnswered tree of full T c.args.levels old c.parse_node.new.self.place) c.in-Ok-Err.field-0-is made.0) in
-    let apart : c.refuse.result.kind ≢ because.OutOfMemory = λ m. cc in
-    back_same (λ e (q : Stream). IsCausedBetween c.args.levels old q.place e) c.into_error.result c.refuse.result c.parse_node.new.self c.refuse.new.self (c.refuse.ensures.other apart)
-    (answered_caused tree of full T c.args.levels old c.parse_node.new.self.place c.into_error.result told) was
-
-pub returns-in-Ok-Err-clause-spares : goal.returns-in-Ok-Err-clause-spares
-returns-in-Ok-Err-clause-spares g c = λ plain row none memory.
-    let made = typed_answered g.V.WasmValue.tree g.V.WasmValue.is_of g.V.WasmValue.is_full g.V.Type.WasmType.tree c.args.levels c.args.self.now.place c.parse_node.new.self.place c.in-Ok-Err.field-0 c.new-builder.result.due _ c.new-builder.ensures c.start_here-start.ensures.sound (c.in-Ok-Err.ensures.led c.args.levels [] (omega arith)) c.in-Ok-Err.ensures.tree in
-    subst (λ r. IfErr r (λ e. e.kind ≢ because.OutOfMemory)) c.in-Ok-Err.field-0-is (made.1 plain row) (ap (λ (e : Diagnostic). e.kind) (sym c.into_error.ensures) ∙ (sym c.refuse.ensures.kind ∙ memory))
+    record {
+      value = search rules;
+      refused = λ apart.
+          inr (back_same (λ e (q : Stream). IsTypeRefused full T c.args.levels e old q.place) c.into_error.result c.refuse.result c.parse_node.new.self c.refuse.new.self (c.refuse.ensures.other apart)
+          (answered_refused tree of full T c.args.levels old c.parse_node.new.self.place c.into_error.result told (λ m. apart (c.refuse.ensures.kind ∙ m))));
+      within = back_lies _ old.lexer c.into_error.result c.refuse.result c.start_here-start.ensures.place c.refuse.ensures.within (λ apart. answered_within tree of full T c.args.levels old c.parse_node.new.self.place (Err c.into_error.result) told);
+      caused = λ was.
+          let apart : c.refuse.result.kind ≢ because.OutOfMemory = λ m. cc in
+          back_same (λ e (q : Stream). IsCausedBetween c.args.levels old q.place e) c.into_error.result c.refuse.result c.parse_node.new.self c.refuse.new.self (c.refuse.ensures.other apart)
+          (answered_caused tree of full T c.args.levels old c.parse_node.new.self.place c.into_error.result told) was;
+      memory = search rules;
+      spares = λ plain row none memory.
+          subst (λ r. IfErr r (λ e. e.kind ≢ because.OutOfMemory)) c.in-Ok-Err.field-0-is (made.1 plain row) (ap (λ (e : Diagnostic). e.kind) (sym c.into_error.ensures) ∙ (sym c.refuse.ensures.kind ∙ memory));
+      asks = search rules;
+    }
 
 pub returns-in-Err-clause-spares : goal.returns-in-Err-clause-spares
 returns-in-Err-clause-spares g c = λ plain row none memory.

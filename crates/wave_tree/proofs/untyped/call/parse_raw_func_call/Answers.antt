@@ -1,4 +1,4 @@
-use Rattle.std.proofs.Common.{◌≡◌, ◌≢◌, None, ap, sym, subst, ◌∙◌}
+use Rattle.std.proofs.Common.{rules, ◌≡◌, ◌≢◌, None, ap, sym, subst, ◌∙◌}
 use Rattle.wave_lex.specs.declared.error.ParserErrorKind.TheVariants as because
 use Rattle.wave_lex.specs.Tokenization.{Lexed, span}
 use Rattle.wave_grammar.specs.ParserPosition.{Place, span_at}
@@ -14,25 +14,38 @@ pub returns-in_err-names-clause-refused : goal.returns-in_err-names-clause-refus
 returns-in_err-names-clause-refused c =
     error_handed (RefusesCall c.args.source.now) c.from_residual.result c.in_err-names.field-0.0 c.from_residual.ensures.1 (name_refused c.args.source.now c.in_err-names.field-0.0 c.in_err-names.ensures.refused)
 
-pub returns-in_err-params-clause-refused : goal.returns-in_err-params-clause-refused
-returns-in_err-params-clause-refused c =
+pub returns-in_err-params : goal.returns-in_err-params
+returns-in_err-params c =
     let s = c.args.source.now in
     let e = c.in_err-params.field-0.0 in
     let new = c.parse_params.new.self.place in
     let (k, named, is) = c.in_ok-names.ensures.named in
     let place : c.from_lexer-tokens.result.place ≡ behind_name s k = ap (λ (z : Stream). z.place) (c.from_lexer-tokens.ensures ∙ ap stream_of (c.into_lexer.ensures ∙ is)) in
-    error_handed (RefusesCall s) c.from_residual-in_err-params.result e c.from_residual-in_err-params.ensures.1
-    (params_refused s k new e named (subst (λ (z : Place). e.kind ≢ because.OutOfMemory → RefusesTuple e z new) place c.in_err-params.ensures.refused))
+    record {
+      value = search rules;
+      refused = error_handed (RefusesCall s) c.from_residual-in_err-params.result e c.from_residual-in_err-params.ensures.1
+          (params_refused s k new e named (subst (λ (z : Place). e.kind ≢ because.OutOfMemory → RefusesTuple e z new) place c.in_err-params.ensures.refused));
+      memory = error_handed (MemoryAtName s) c.from_residual-in_err-params.result e c.from_residual-in_err-params.ensures.1
+          (λ no. (k, named, subst (λ (z : Place). Says e because.OutOfMemory (span_at z) None) place (c.in_err-params.ensures.memory no).1));
+      within = error_handed (λ (f : Diagnostic). LiesInText s f.span) c.from_residual-in_err-params.result e c.from_residual-in_err-params.ensures.1
+          (subst (λ (z : Place). LiesInText z.lexer.source e.span) place c.in_err-params.ensures.within);
+    }
 
-pub returns-in_err-finish-clause-refused : goal.returns-in_err-finish-clause-refused
-returns-in_err-finish-clause-refused c =
+pub returns-in_err-finish : goal.returns-in_err-finish
+returns-in_err-finish c =
     let s = c.args.source.now in
     let e = c.in_err-finish.field-0.0 in
     let new = c.parse_params.new.self.place in
+    let params = c.in_ok-params.params in
     let (k, named, is) = c.in_ok-names.ensures.named in
     let place : c.from_lexer-tokens.result.place ≡ behind_name s k = ap (λ (z : Stream). z.place) (c.from_lexer-tokens.ensures ∙ ap stream_of (c.into_lexer.ensures ∙ is)) in
-    error_handed (RefusesCall s) c.from_residual-in_err-finish.result e c.from_residual-in_err-finish.ensures.1
-    (rest_refused s k new c.in_ok-params.params e named (subst (λ (z : Place). AreParamsTaken z new c.in_ok-params.params) place c.in_ok-params.ensures.taken) c.in_err-finish.ensures.answer)
+    let taken = subst (λ (z : Place). AreParamsTaken z new params) place c.in_ok-params.ensures.taken in
+    record {
+      value = search rules;
+      refused = error_handed (RefusesCall s) c.from_residual-in_err-finish.result e c.from_residual-in_err-finish.ensures.1 (rest_refused s k new params e named taken c.in_err-finish.ensures.answer);
+      memory = search rules;
+      within = error_handed (λ (f : Diagnostic). LiesInText s f.span) c.from_residual-in_err-finish.result e c.from_residual-in_err-finish.ensures.1 (behind_params_lies s k new params e named taken c.in_err-finish.ensures.answer);
+    }
 
 pub returns-clause-value : goal.returns-clause-value
 returns-clause-value c =
@@ -48,31 +61,3 @@ returns-clause-value c =
 pub returns-in_err-names-clause-within : goal.returns-in_err-names-clause-within
 returns-in_err-names-clause-within c =
     error_handed (λ (f : Diagnostic). LiesInText c.args.source.now f.span) c.from_residual.result c.in_err-names.field-0.0 c.from_residual.ensures.1 (name_lies c.args.source.now c.in_err-names.field-0.0 c.in_err-names.ensures.refused)
-
-pub returns-in_err-params-clause-within : goal.returns-in_err-params-clause-within
-returns-in_err-params-clause-within c =
-    let s = c.args.source.now in
-    let e = c.in_err-params.field-0.0 in
-    let (k, named, is) = c.in_ok-names.ensures.named in
-    let place : c.from_lexer-tokens.result.place ≡ behind_name s k = ap (λ (z : Stream). z.place) (c.from_lexer-tokens.ensures ∙ ap stream_of (c.into_lexer.ensures ∙ is)) in
-    error_handed (λ (f : Diagnostic). LiesInText s f.span) c.from_residual-in_err-params.result e c.from_residual-in_err-params.ensures.1
-    (subst (λ (z : Place). LiesInText z.lexer.source e.span) place c.in_err-params.ensures.within)
-
-pub returns-in_err-params-clause-memory : goal.returns-in_err-params-clause-memory
-returns-in_err-params-clause-memory c =
-    let s = c.args.source.now in
-    let e = c.in_err-params.field-0.0 in
-    let (k, named, is) = c.in_ok-names.ensures.named in
-    let place : c.from_lexer-tokens.result.place ≡ behind_name s k = ap (λ (z : Stream). z.place) (c.from_lexer-tokens.ensures ∙ ap stream_of (c.into_lexer.ensures ∙ is)) in
-    error_handed (MemoryAtName s) c.from_residual-in_err-params.result e c.from_residual-in_err-params.ensures.1
-    (λ no. (k, named, subst (λ (z : Place). Says e because.OutOfMemory (span_at z) None) place (c.in_err-params.ensures.memory no).1))
-
-pub returns-in_err-finish-clause-within : goal.returns-in_err-finish-clause-within
-returns-in_err-finish-clause-within c =
-    let s = c.args.source.now in
-    let e = c.in_err-finish.field-0.0 in
-    let new = c.parse_params.new.self.place in
-    let (k, named, is) = c.in_ok-names.ensures.named in
-    let place : c.from_lexer-tokens.result.place ≡ behind_name s k = ap (λ (z : Stream). z.place) (c.from_lexer-tokens.ensures ∙ ap stream_of (c.into_lexer.ensures ∙ is)) in
-    error_handed (λ (f : Diagnostic). LiesInText s f.span) c.from_residual-in_err-finish.result e c.from_residual-in_err-finish.ensures.1
-    (behind_params_lies s k new c.in_ok-params.params e named (subst (λ (z : Place). AreParamsTaken z new c.in_ok-params.params) place c.in_ok-params.ensures.taken) c.in_err-finish.ensures.answer)
