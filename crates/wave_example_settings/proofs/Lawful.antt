@@ -1,7 +1,6 @@
 -- A `Bare` means what the laws of values ask.
-use Rattle.std.proofs.Common.{◌≡◌, ℕ, zero, suc, ◌<◌, ◌≤◌, ◌+◌, length, take, get_or, List, [], ◌∷◌, map, Some, None, refl, sym, ap, subst, ◌∙◌, rules, Vec, Global, arith}
-use Rattle.std.proofs.Math.Numerals.{add-one}
-use Rattle.std.proofs.lemmas.List.{take_all, length-map}
+use Rattle.std.proofs.Common.{◌≡◌, ℕ, length, List, [], ◌∷◌, map, Some, None, refl, sym, ap, subst, ◌∙◌, rules, Vec, Global}
+use Rattle.std.proofs.lemmas.List.{length-map}
 use Rattle.wave_wasm.specs.Lists.{AllOf}
 use Rattle.wave_wasm.specs.Types as type
 use Rattle.wave_wasm.specs.Types.{TypeTree, list_part, list_length}
@@ -15,6 +14,7 @@ use Rattle.wave_example_settings.specs.declared.bare.Bare.{Bare, List as list_of
 use Rattle.wave_example_settings.specs.declared.bare.Bare.TheOpen.{Bare-F}
 use Rattle.wave_example_settings.specs.declared.bare.Bare.TheViews.{roll-Bare}
 use Rattle.wave_example_settings.specs.declared.bare.Bare.TheFolds.{map-Bare, fold-roll-Bare, ind-Bare}
+use Rattle.wave_value.proofs.ValueModel.Lists.{value_list-values}
 
 pub tree_list : (v : Vec Bare Global) → tree (list_of v) ≡ value.list (values (map tree v.items))
 tree_list v = search (rules, the_lemmas)
@@ -22,16 +22,12 @@ tree_list v = search (rules, the_lemmas)
 pub tree_fixed : (v : Vec Bare Global) → tree (fixed_of v) ≡ value.fixed (values (map tree v.items))
 tree_fixed v = search (rules, the_lemmas)
 
-items_back : (vs : List Value) → value_list (values vs) ≡ vs
-items_back [] = refl
-items_back (v ∷ vs) = ap (λ ws. v ∷ ws) (items_back vs)
-
 -- the items of a list and of a fixed-length list
 pub items_listed : (v : Vec Bare Global) → list_items (tree (list_of v)) ≡ map tree v.items
-items_listed v = ap list_items (tree_list v) ∙ items_back (map tree v.items)
+items_listed v = ap list_items (tree_list v) ∙ value_list-values (map tree v.items)
 
 pub items_fixed : (v : Vec Bare Global) → list_items (tree (fixed_of v)) ≡ map tree v.items
-items_fixed v = ap list_items (tree_fixed v) ∙ items_back (map tree v.items)
+items_fixed v = ap list_items (tree_fixed v) ∙ value_list-values (map tree v.items)
 
 -- ---- well-formed trees
 
@@ -52,20 +48,6 @@ pub formed : (b : Bare) → IsFormed b
 formed = ind-Bare IsFormed (λ x y is. subst (λ z. IsFormed (roll-Bare z)) is (level_formed y))
 
 -- ---- lists at a type
-
-module _ {A : Type 0} (P : A → Type 0) where
-  all_next : (xs : List A) (i : ℕ) (x : A) → i < length xs → x ≡ get_or xs i x → P x → AllOf P (take i xs) → AllOf P (take (suc i) xs)
-  all_next [] i x lt is p h = absurd (omega (arith, lt))
-  all_next (y ∷ ys) zero x lt is p h = (subst P is p, tt)
-  all_next (y ∷ ys) (suc i) x lt is p h = (h.0, all_next ys i x (omega (arith, lt)) is p h.1)
-
-  -- it holds of one more item
-  pub all_more : (xs : List A) (i : ℕ) (x : A) → i < length xs → x ≡ get_or xs i x → P x → AllOf P (take i xs) → AllOf P (take (i + 1) xs)
-  all_more xs i x lt is p h = rw add-one (all_next xs i x lt is p h)
-
-  -- of all items, at the end of the loop
-  pub all_items : (xs ys : List A) (i : ℕ) → xs ≡ ys → length xs ≤ i → AllOf P (take i xs) → AllOf P ys
-  all_items xs ys i same le h = subst (AllOf P) (take_all i xs le ∙ same) h
 
 -- the trees of items that are values at a type
 pub trees_at : (E : TypeTree) (bs : List Bare) → AllOf (λ b. HasType E (tree b)) bs → AllOf (HasType E) (map tree bs)

@@ -17,13 +17,11 @@ use Rattle.wave_lex.specs.Regex.{Matches, joined}
 use Rattle.wave_lex.specs.Tokens.{lower, digit, ◌or◌}
 use Rattle.wave_type.specs.declared.error.TypeErrorKind.{TypeErrorKind}
 use Rattle.wave_type.specs.declared.error.TypeErrorKind.TheVariants.{UnexpectedToken, UnexpectedEnd, DuplicateName, InvalidKeyType, InvalidCount}
-use Rattle.wave_type.specs.TypeFaults.{Part, no_more, a_length, err_type, more_types, more_fields, more_cases, more_names}
-use Rattle.wave_type.specs.TypeFaults.{Expectation, mark_due, type_due, key_due, ok_due, part_due, close_due, last_due, payloads_due, payload_due, results_due, result_due}
-use Rattle.wave_type.specs.TypeFaults.{Step, takes, passes, refuses, due_behind, before, word_step, type_step, only_step, name_step, part_step, step, refused, due_of_type, due_of_function}
+use Rattle.wave_type.specs.TypeFaults.{Part, no_more, a_length, err_type, more_types, more_fields, more_cases, more_names, Expectation, mark_due, type_due, key_due, ok_due, part_due, close_due, last_due, payloads_due, payload_due, results_due, result_due, Step, takes, passes, refuses, due_behind, before, word_step, type_step, only_step, name_step, part_step, step, refused, due_of_type, due_of_function}
 use Rattle.wave_type.specs.TypeFaultLaws.{TakenBegins}
 use Rattle.wave_type.specs.FunctionSpelling.{SpellsParts, SpellsResults}
-use Rattle.wave_type.specs.TypeSpelling.{Tokens, Names, Closes, Spells, SpellsFields, SpellsPayload, StandsAlone}
-use Rattle.wave_type.proofs.TypeReading.Functions.{Parts, no_empty_label}
+use Rattle.wave_type.specs.TypeSpelling.{Tokens, Names, Closes, Spells, SpellsPayload, StandsAlone}
+use Rattle.wave_type.proofs.TypeReading.Functions.{Parts, no_empty_label, parts_there}
 use Rattle.wave_type.specs.Private.TypeReading.{made}
 use Rattle.wave_type.specs.TypeWords.{kind_of_word, key_of_word, name_of_token, count_of_token}
 use Rattle.wave_type.proofs.TypeFaults.TokenSteps.{by_step}
@@ -488,13 +486,9 @@ all_begin (t ∷ ts) dues kind left e = begins_at t ts left kind (λ dues. all_b
 
 -- ---- functions
 
-parts_of : (ps : Parts) (ts r : Tokens) → SpellsFields (codes ")") (fields_of ps) ts r → AreDistinct (field_names (fields_of ps)) → SpellsParts ps ts r
-parts_of [] ts r h d = absurd h
-parts_of (p ∷ ps) ts r h d = (h, d)
-
 -- fields through `)`
 fields_fill : (xs : Parts) (ts r : Tokens) → AreParts (codes ")") IsField xs ts r → AreNew [] (map (λ f. f.0) xs) → SpellsParts xs ts r
-fields_fill xs ts r h d = parts_of xs ts r (fields_spelled (codes ")") xs ts r h) (subst AreDistinct (field_names_of xs) (distinct_of [] (map (λ f. f.0) xs) tt d))
+fields_fill xs ts r h d = parts_there xs ts r (fields_spelled (codes ")") xs ts r h) (subst AreDistinct (field_names_of xs) (distinct_of [] (map (λ f. f.0) xs) tt d))
 
 params_fill : (n : ℕ) (ts r : Tokens) → Fills (last_due (codes ")") (more_fields n [])) ts r → (ps : Parts) × SpellsParts ps ts r
 params_fill n ts r (inl e) = ([], e)

@@ -151,57 +151,32 @@ new_behind (m ∷ ms) n more h = ap (λ b. b || is_one_of ms n) (not_equal n m (
 
 -- ---- the word of a type
 
-no_angle : (k : WasmTypeKind) → bytes_eq (kind_word k) (codes ">") ≡ false
-no_angle kinds.Bool = refl
-no_angle kinds.S8 = refl
-no_angle kinds.S16 = refl
-no_angle kinds.S32 = refl
-no_angle kinds.S64 = refl
-no_angle kinds.U8 = refl
-no_angle kinds.U16 = refl
-no_angle kinds.U32 = refl
-no_angle kinds.U64 = refl
-no_angle kinds.F32 = refl
-no_angle kinds.F64 = refl
-no_angle kinds.Char = refl
-no_angle kinds.String = refl
-no_angle kinds.List = refl
-no_angle kinds.FixedLengthList = refl
-no_angle kinds.Record = refl
-no_angle kinds.Tuple = refl
-no_angle kinds.Variant = refl
-no_angle kinds.Enum = refl
-no_angle kinds.Option = refl
-no_angle kinds.Result = refl
-no_angle kinds.Flags = refl
-no_angle kinds.Map = refl
-no_angle kinds.Unsupported = refl
-
-no_blank : (k : WasmTypeKind) → bytes_eq (kind_word k) (codes "_") ≡ false
-no_blank kinds.Bool = refl
-no_blank kinds.S8 = refl
-no_blank kinds.S16 = refl
-no_blank kinds.S32 = refl
-no_blank kinds.S64 = refl
-no_blank kinds.U8 = refl
-no_blank kinds.U16 = refl
-no_blank kinds.U32 = refl
-no_blank kinds.U64 = refl
-no_blank kinds.F32 = refl
-no_blank kinds.F64 = refl
-no_blank kinds.Char = refl
-no_blank kinds.String = refl
-no_blank kinds.List = refl
-no_blank kinds.FixedLengthList = refl
-no_blank kinds.Record = refl
-no_blank kinds.Tuple = refl
-no_blank kinds.Variant = refl
-no_blank kinds.Enum = refl
-no_blank kinds.Option = refl
-no_blank kinds.Result = refl
-no_blank kinds.Flags = refl
-no_blank kinds.Map = refl
-no_blank kinds.Unsupported = refl
+-- no word of a type is one of these marks
+pub no_mark_word : (k : WasmTypeKind) → (bytes_eq (kind_word k) (codes ">") ≡ false) × (bytes_eq (kind_word k) (codes "_") ≡ false) × (bytes_eq (kind_word k) (codes "(") ≡ false)
+no_mark_word kinds.Bool = (refl, refl, refl)
+no_mark_word kinds.S8 = (refl, refl, refl)
+no_mark_word kinds.S16 = (refl, refl, refl)
+no_mark_word kinds.S32 = (refl, refl, refl)
+no_mark_word kinds.S64 = (refl, refl, refl)
+no_mark_word kinds.U8 = (refl, refl, refl)
+no_mark_word kinds.U16 = (refl, refl, refl)
+no_mark_word kinds.U32 = (refl, refl, refl)
+no_mark_word kinds.U64 = (refl, refl, refl)
+no_mark_word kinds.F32 = (refl, refl, refl)
+no_mark_word kinds.F64 = (refl, refl, refl)
+no_mark_word kinds.Char = (refl, refl, refl)
+no_mark_word kinds.String = (refl, refl, refl)
+no_mark_word kinds.List = (refl, refl, refl)
+no_mark_word kinds.FixedLengthList = (refl, refl, refl)
+no_mark_word kinds.Record = (refl, refl, refl)
+no_mark_word kinds.Tuple = (refl, refl, refl)
+no_mark_word kinds.Variant = (refl, refl, refl)
+no_mark_word kinds.Enum = (refl, refl, refl)
+no_mark_word kinds.Option = (refl, refl, refl)
+no_mark_word kinds.Result = (refl, refl, refl)
+no_mark_word kinds.Flags = (refl, refl, refl)
+no_mark_word kinds.Map = (refl, refl, refl)
+no_mark_word kinds.Unsupported = (refl, refl, refl)
 
 pub key_there : (S : Simple) → key_of_word (kind_word (simple_kind S)) ≡ Some (simple S)
 key_there bool = refl
@@ -250,10 +225,10 @@ head_word (enum names) ts r (m, e, s, d) = (kinds.Enum, codes "{" ∷ m, e)
 head_word (flags names) ts r (m, e, s, d) = (kinds.Flags, codes "{" ∷ m, e)
 
 pub type_starts : (T : TypeTree) (ts r : Tokens) → Spells T ts r → after (codes ">") ts ≡ None
-type_starts T ts r h = let w = head_word T ts r h in ap (after (codes ">")) w.2 ∙ after_other (codes ">") (kind_word w.0) w.1 (no_angle w.0)
+type_starts T ts r h = let w = head_word T ts r h in ap (after (codes ">")) w.2 ∙ after_other (codes ">") (kind_word w.0) w.1 (no_mark_word w.0).0
 
 pub type_is_no_blank : (T : TypeTree) (ts r : Tokens) → Spells T ts r → after (codes "_") ts ≡ None
-type_is_no_blank T ts r h = let w = head_word T ts r h in ap (after (codes "_")) w.2 ∙ after_other (codes "_") (kind_word w.0) w.1 (no_blank w.0)
+type_is_no_blank T ts r h = let w = head_word T ts r h in ap (after (codes "_")) w.2 ∙ after_other (codes "_") (kind_word w.0) w.1 (no_mark_word w.0).1
 
 pub alone_there : (r : Tokens) → StandsAlone r → after (codes "<") r ≡ None
 alone_there [] a = refl

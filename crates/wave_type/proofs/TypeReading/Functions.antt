@@ -1,8 +1,5 @@
 -- The type of a function is read exactly where tokens spell it.
 use Rattle.std.proofs.Common.{◌≡◌, ℕ, ◌≤◌, true, false, List, [], ◌∷◌, Option, Some, None, Result, Ok, Err, IfOk, refl, sym, ap, subst, ◌∙◌, arith, length, codes}
-use Rattle.std.specs.Str.{bytes_eq}
-use Rattle.wave_wasm.specs.declared.wasm.WasmTypeKind.{WasmTypeKind}
-use Rattle.wave_wasm.specs.declared.wasm.WasmTypeKind.TheVariants as kinds
 use Rattle.wave_wasm.specs.Names.{AreDistinct}
 use Rattle.wave_wasm.specs.Types.{TypeTree, Fields, no_fields, field, fields_of, field_names}
 use Rattle.wave_wasm.specs.TypeText.{kind_word}
@@ -14,8 +11,9 @@ use Rattle.wave_type.specs.FunctionSpelling.{SpellsParts, SpellsResults, SpellsF
 use Rattle.wave_type.specs.TypeSpelling.{Tokens, Spells, SpellsFields, levels_of_fields}
 use Rattle.wave_type.specs.Private.TypeReading.{after, Reads, fields_read, type_read}
 use Rattle.wave_type.specs.Private.FunctionReading.{params_read, result_parts_read, results_read, signature_read, function_read}
-use Rattle.wave_type.proofs.TypeReading.Complete.{IsComplete, paren, name_stands, fields_all, after_other, onward_there, head_word}
+use Rattle.wave_type.proofs.TypeReading.Complete.{IsComplete, paren, name_stands, fields_all, after_other, onward_there, head_word, no_mark_word}
 use Rattle.wave_type.proofs.TypeTrees.Lists.{field_list-fields_of}
+use Rattle.wave_type.proofs.TypeReading.WholeTexts.{none_left}
 use Rattle.wave_type.proofs.TypeReading.Sound.{IsSound, onward_back, after_back, fields_back, read_sound}
 
 abbrev pub Parts : Type 0
@@ -27,7 +25,7 @@ no_empty_label h = let wrong : false ≡ true = matches_into [] label h in cc
 
 -- ---- what is read is spelled
 
-parts_there : (ps : Parts) (ts r : Tokens) → SpellsFields (codes ")") (fields_of ps) ts r → AreDistinct (field_names (fields_of ps)) → SpellsParts ps ts r
+pub parts_there : (ps : Parts) (ts r : Tokens) → SpellsFields (codes ")") (fields_of ps) ts r → AreDistinct (field_names (fields_of ps)) → SpellsParts ps ts r
 parts_there [] ts r h d = absurd h
 parts_there (p ∷ ps) ts r h d = (h, d)
 
@@ -80,34 +78,8 @@ paren_not no_fields ts r h = absurd h
 paren_not (field name T no_fields) ts r (t, m, l, e, n, s, c) = name_stands (codes ")") t name ts (codes ":" ∷ m) paren e n
 paren_not (field name T (field x U more)) ts r (t, m, l, e, n, s, h) = name_stands (codes ")") t name ts (codes ":" ∷ m) paren e n
 
-no_paren : (k : WasmTypeKind) → bytes_eq (kind_word k) (codes "(") ≡ false
-no_paren kinds.Bool = refl
-no_paren kinds.S8 = refl
-no_paren kinds.S16 = refl
-no_paren kinds.S32 = refl
-no_paren kinds.S64 = refl
-no_paren kinds.U8 = refl
-no_paren kinds.U16 = refl
-no_paren kinds.U32 = refl
-no_paren kinds.U64 = refl
-no_paren kinds.F32 = refl
-no_paren kinds.F64 = refl
-no_paren kinds.Char = refl
-no_paren kinds.String = refl
-no_paren kinds.List = refl
-no_paren kinds.FixedLengthList = refl
-no_paren kinds.Record = refl
-no_paren kinds.Tuple = refl
-no_paren kinds.Variant = refl
-no_paren kinds.Enum = refl
-no_paren kinds.Option = refl
-no_paren kinds.Result = refl
-no_paren kinds.Flags = refl
-no_paren kinds.Map = refl
-no_paren kinds.Unsupported = refl
-
 pub type_is_no_paren : (T : TypeTree) (ts r : Tokens) → Spells T ts r → after (codes "(") ts ≡ None
-type_is_no_paren T ts r h = let w = head_word T ts r h in ap (after (codes "(")) w.2 ∙ after_other (codes "(") (kind_word w.0) w.1 (no_paren w.0)
+type_is_no_paren T ts r h = let w = head_word T ts r h in ap (after (codes "(")) w.2 ∙ after_other (codes "(") (kind_word w.0) w.1 (no_mark_word w.0).2
 
 module _ (n : ℕ) (read : Reads) (complete : IsComplete n read) where
   fields_there : (ps : Parts) (ts r : Tokens) → levels_of_fields (fields_of ps) ≤ n → SpellsFields (codes ")") (fields_of ps) ts r → AreDistinct (field_names (fields_of ps)) → fields_read read (codes ")") ts ≡ Some (ps, r)
@@ -133,12 +105,8 @@ module _ (n : ℕ) (read : Reads) (complete : IsComplete n read) where
 
 -- ---- as a whole
 
-no_more : (r : Tokens) → length r ≡ 0 → r ≡ []
-no_more [] e = refl
-no_more (t ∷ r) e = absurd (omega (arith, e))
-
 pub function_sound : (n : ℕ) (ts r : Tokens) (f : FunctionType) → function_read (type_read n) ts ≡ Some (f, r) → length r ≡ 0 → SpellsFunction f ts
-function_sound n ts r f e none = function_back (type_read n) (read_sound n) ts (f, r) e (no_more r none)
+function_sound n ts r f e none = function_back (type_read n) (read_sound n) ts (f, r) e (none_left r none)
 
 -- what holds of the one value holds of what was made, which is it
 pub ok_more : {A E : Type 0} (P : A → Type 0) (g : A) (r : Result A E) → IfOk r (λ f. f ≡ g) → P g → IfOk r P

@@ -21,7 +21,8 @@ use Rattle.wave_type.specs.TypeWords.{onward}
 
 -- ---- the names that were taken
 
-eq_turn : (a b : List ℕ) → bytes_eq a b ≡ bytes_eq b a
+-- the same test, turned
+pub eq_turn : (a b : List ℕ) → bytes_eq a b ≡ bytes_eq b a
 eq_turn a b = search (rules, bytes_eq-Decides a b, bytes_eq-Decides b a)
 
 -- no names at first

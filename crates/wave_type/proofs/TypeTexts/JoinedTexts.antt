@@ -1,11 +1,13 @@
 -- Texts of types, fields and cases with commas between, item by item.
-use Rattle.std.proofs.Common.{◌≡◌, ℕ, ◌≤◌, List, [], ◌∷◌, ◌++◌, map, length, take, ap, ◌∙◌, refl, sym, codes, append_assoc, String, string_bytes, Option}
-use Rattle.std.specs.Fmt.{decimal}
+use Rattle.std.proofs.Common.{◌≡◌, ℕ, ◌+◌, ◌<◌, ◌≤◌, get_or, List, [], ◌∷◌, ◌++◌, map, length, take, ap, ◌∙◌, refl, sym, codes, append_assoc, String, string_bytes, Option}
+use Rattle.std.specs.Fmt.{decimal, HasWritten}
+use Rattle.std.specs.declared.fmt.Formatter.{Formatter}
+use Rattle.std.proofs.lemmas.Grind.{put_three}
 use Rattle.std.specs.declared.alloc.Global.{Global}
 use Rattle.wave_wasm.specs.Types.{TypeTree, fixed, types_of, fields_of, cases_of, maybe_type}
 use Rattle.wave_wasm.specs.Commas.{joined, behind_name}
 use Rattle.wave_wasm.specs.TypeText.{type_text, type_texts, field_texts, case_texts, payload_text}
-use Rattle.wave_wasm.proofs.Displays.JoinedTexts.{all_joined}
+use Rattle.wave_wasm.proofs.Displays.JoinedTexts.{separator, joined_turn, all_joined}
 use Rattle.wave_type.specs.TypeModel.{by_bytes}
 
 -- the text of a field that is kept with its name
@@ -39,6 +41,11 @@ all_fields xs fs i same h = all_joined field_line xs fs i same h ∙ ap joined (
 -- all cases
 pub all_cases : (xs cs : List (String Global × Option TypeTree)) (i : ℕ) → xs ≡ cs → length xs ≤ i → joined (map case_line (take i xs)) ≡ joined (case_texts (cases_of (map by_bytes cs)))
 all_cases xs cs i same h = all_joined case_line xs cs i same h ∙ ap joined (case_lines cs)
+
+-- one more item is written behind its separator, at a turn of a loop
+pub turn_written : {W : Type 0} (took : W → List ℕ → W → Type 0) {A : Type 0} (text : A → List ℕ) (xs : List A) (i : ℕ) (s : List ℕ) (x : A) → i < length xs → x ≡ get_or xs i x → s ≡ separator (map text (take i xs))
+    → (f g h k : Formatter W) → HasWritten took f (joined (map text (take i xs))) g → HasWritten took g s h → HasWritten took h (text x) k → HasWritten took f (joined (map text (take (i + 1) xs))) k
+turn_written took text xs i s x less at sep f g h k before comma part = put_three took f g h k _ _ _ _ before comma part (joined_turn text xs i s x less sep at)
 
 -- two texts in angle brackets, as they are written one after the other
 pub pair_text : (front a b all : List ℕ) → front ++ ((a ++ (codes ", " ++ b)) ++ codes ">") ≡ all → front ++ (a ++ (codes ", " ++ (b ++ codes ">"))) ≡ all

@@ -1,5 +1,5 @@
 -- What the constructor of flags makes and refuses.
-use Rattle.std.proofs.Common.{ℕ, ◌≡◌, ◌<◌, ◌≤◌, ◌+◌, Bool, true, false, ◌||◌, List, [], ◌∷◌, ◌++◌, map, length, take, get_or, refl, sym, ap, subst, ◌∙◌, arith, rules, Option, Some, None, cond, Bor}
+use Rattle.std.proofs.Common.{ℕ, ◌≡◌, ◌<◌, ◌≤◌, ◌+◌, Bool, true, false, ◌||◌, List, [], ◌∷◌, ◌++◌, map, length, take, get_or, refl, sym, ap, subst, ◌∙◌, arith, Option, Some, None, cond, Bor}
 use Rattle.std.specs.Prelude.{if◌then◌else◌, unwrap_or}
 use Rattle.std.specs.Str.{bytes_eq}
 use Rattle.std.specs.BTreeMap as tree
@@ -29,14 +29,12 @@ use Rattle.wave_value.specs.Private.CaseRules.{MarksNames, MarksOneMore}
 use Rattle.wave_value.specs.Private.RecordConstructor.{held}
 use Rattle.wave_value.specs.CaseRules.{RefusesNames}
 use Rattle.wave_value.proofs.ValueModel.ContentMeaning.{one_of, flags_value}
+use Rattle.wave_type.proofs.TypeReading.PartSteps.{eq_turn}
 
 -- ---- marks
 
 pub texts_more : (xs : List (Bor (List ℕ))) (i : ℕ) (d : Bor (List ℕ)) → i < length xs → texts (take (i + 1) xs) ≡ texts (take i xs) ++ (get_or xs i d).now ∷ []
 texts_more xs i d lt = rw (take_more xs i d lt) (map-append (λ (n : Bor (List ℕ)). n.now) (take i xs) (get_or xs i d ∷ []))
-
-eq_turn : (a b : List ℕ) → bytes_eq a b ≡ bytes_eq b a
-eq_turn a b = search (rules, bytes_eq-Decides a b, bytes_eq-Decides b a)
 
 one_of_next : (names : List (List ℕ)) (name q : List ℕ) → (is_one_of names q || (bytes_eq name q || false)) ≡ is_one_of (names ++ name ∷ []) q
 one_of_next names name q = ap (λ (b : Bool). is_one_of names q || (b || false)) (eq_turn name q) ∙ sym (list_any-append (bytes_eq q) names (name ∷ []))

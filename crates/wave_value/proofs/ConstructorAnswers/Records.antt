@@ -1,5 +1,5 @@
 -- What the constructor of records makes and refuses.
-use Rattle.std.proofs.Common.{ℕ, zero, suc, ◌≡◌, ◌≢◌, ◌<◌, ◌≤◌, ◌+◌, ◌⊎◌, inl, inr, Bool, true, false, ◌||◌, List, [], ◌∷◌, ◌++◌, map, length, take, get_or, refl, sym, ap, subst, ◌∙◌, arith, rules, Option, Some, None, cond, Bor, String, string_bytes}
+use Rattle.std.proofs.Common.{ℕ, zero, suc, ◌≡◌, ◌≢◌, ◌<◌, ◌≤◌, ◌+◌, ◌⊎◌, inl, inr, Bool, true, false, ◌||◌, List, [], ◌∷◌, ◌++◌, map, length, take, get_or, refl, sym, ap, subst, ◌∙◌, arith, Option, Some, None, cond, Bor, String, string_bytes}
 use Rattle.std.specs.Option.{option_or}
 use Rattle.std.specs.BTreeMap as tree
 use Rattle.std.specs.BTreeMap.{BTreeMap}
@@ -36,6 +36,7 @@ use Rattle.wave_value.specs.Private.ValueModel.{FieldsAt, RecordFits}
 use Rattle.wave_type.proofs.TypeTrees.Lists.{field_list-fields_of}
 use Rattle.wave_value.proofs.ValueModel.Lists.{some_mapped}
 use Rattle.wave_value.proofs.ValueModel.ContentMeaning.{record_value}
+use Rattle.wave_type.proofs.TypeReading.PartSteps.{eq_turn}
 
 -- ---- the last value under each name
 
@@ -66,9 +67,6 @@ pub record Taking (fs : List (List ℕ × TypeTree)) (under now : List ℕ → O
   pub left : (name : List ℕ) → now name ≡ cond (is_one_of (first_names fs) name) None (under name)
   pub held : FieldsHeld under fs vs
   pub distinct : AreDistinct (first_names fs)
-
-eq_turn : (a b : List ℕ) → bytes_eq a b ≡ bytes_eq b a
-eq_turn a b = search (rules, bytes_eq-Decides a b, bytes_eq-Decides b a)
 
 out_of : (a b : Bool) (o : Option TypedValue) → cond b None (cond a None o) ≡ cond (a || (b || false)) None o
 out_of true true o = refl

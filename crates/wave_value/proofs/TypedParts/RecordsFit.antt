@@ -5,8 +5,7 @@ use Rattle.std.specs.declared.alloc.Global.{Global}
 use Rattle.wave_wasm.specs.Lists.{AllOf}
 use Rattle.wave_wasm.specs.Names.{AreDistinct}
 use Rattle.wave_wasm.specs.Borrowed.{named}
-use Rattle.wave_wasm.specs.Types as type
-use Rattle.wave_wasm.specs.Types.{TypeTree, HasDistinctNames, fields_of, field_list}
+use Rattle.wave_wasm.specs.Types.{TypeTree, HasDistinctNames, fields_of}
 use Rattle.wave_wasm.specs.ConstructorContracts.{FieldsAreOf, TypedRecord}
 use Rattle.wave_type.specs.TypeModel.{by_bytes, record_part}
 use Rattle.wave_type.proofs.TypeTrees.Lists.{field_list-fields_of}

@@ -14,12 +14,12 @@ use Rattle.wave_value.specs.TypedValue.{TypedValue, IsAt}
 use Rattle.wave_value.specs.ValueModel.{payload_tree}
 use Rattle.wave_value.specs.Private.ValueModel.{entry_trees, EachAt, PayloadAt, ListFits, TupleFits, OptionFits, OkFits, ErrFits, MapFits}
 use Rattle.wave_value.specs.CaseRules.{IsFirstCase, MadeMap, TakesMap}
-use Rattle.wave_value.specs.ConstructorRules.{Made, PayloadOwn, TakesTuple, TakesOption, TakesResult}
+use Rattle.wave_value.specs.ConstructorRules.{Made, TakesTuple, TakesOption, TakesResult}
 use Rattle.wave_value.proofs.ValueModel.ContentMeaning.{option_value, ok_value, err_value, map_value}
 use Rattle.wave_value.proofs.ValueModel.Lists.{map_back, entry_list-entries}
 use Rattle.wave_value.proofs.ConstructorAnswers.Maps.{entries_own}
 use Rattle.wave_value.proofs.ConstructorAnswers.Tuples.{each_own}
-use Rattle.wave_value.proofs.ConstructorAnswers.VariantsAndFlags.{case_at, first_found}
+use Rattle.wave_value.proofs.ConstructorAnswers.VariantsAndFlags.{case_at, first_found, own_payload}
 use Rattle.wave_value.proofs.Lawful.VariantsFlagsMaps.{first_of, one_first}
 
 -- when a value is of a type
@@ -106,19 +106,13 @@ ok_made T own p q same held fits = record { own = same; tree = ap (λ x. value.o
 pub err_made : (T own : TypeTree) (p q : Option TypedValue) → own ≡ T → q ≡ p → ErrFits T p → Made (value.err (maybe_value (payload_tree p))) T (record { own = own; tree = value.err (maybe_value (payload_tree q)) })
 err_made T own p q same held fits = record { own = same; tree = ap (λ x. value.err (maybe_value (payload_tree x))) held; fits = err_value T p fits }
 
-payload_own : (P : Option TypeTree) (p : Option TypedValue) → PayloadAt P p → PayloadOwn P p
-payload_own None None h = tt
-payload_own None (Some v) h = absurd h
-payload_own (Some T) None h = absurd h
-payload_own (Some T) (Some v) h = h.own
-
 -- payloads that fit a result are taken
 pub ok_taken : (T : TypeTree) (p : Option TypedValue) → OkFits T p → TakesResult T (Ok p)
-ok_taken (type.result A B) p h = payload_own (type_option A) p h
+ok_taken (type.result A B) p h = own_payload (type_option A) p h
 ok_taken _ p h = absurd h
 
 pub err_taken : (T : TypeTree) (p : Option TypedValue) → ErrFits T p → TakesResult T (Err p)
-err_taken (type.result A B) p h = payload_own (type_option B) p h
+err_taken (type.result A B) p h = own_payload (type_option B) p h
 err_taken _ p h = absurd h
 
 -- ---- maps

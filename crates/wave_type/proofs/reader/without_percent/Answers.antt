@@ -2,14 +2,11 @@ use Rattle.std.proofs.Common.{◌≡◌, ℕ, zero, suc, ◌<◌, false, get_or,
 use Rattle.std.specs.Prelude.{◌==◌}
 use Rattle.std.proofs.lemmas.Str.{IsCharBoundary-after_ascii}
 use Rattle.wave_type.proofs.reader.without_percent.Goals as goal
-
-some_left : (n : ℕ) → (n == 0) ≡ false → 0 < n
-some_left zero e = cc
-some_left (suc n) e = omega arith
+use Rattle.std.proofs.lemmas.Bool.Decides.{nat_tests}
 
 pub range_from-requires : goal.range_from-requires
 range_from-requires c = λ _.
     let first = ap (λ z. get_or z 0 0) (sym c.as_bytes-bytes.ensures.value) ∙ c.if-bytes-ne37.false in
-    let some = some_left (length c.as_bytes-bytes.result.now) (sym c.is_empty.ensures ∙ c.if-is_empty.false) in
+    let some : 0 < length c.as_bytes-bytes.result.now = grind (arith, nat_tests, sym c.is_empty.ensures ∙ c.if-is_empty.false) in
     let same = ap length c.as_bytes-bytes.ensures.value in
     IsCharBoundary-after_ascii c.args.token.now 0 c.utf8.token (omega arith) (omega (arith, first))

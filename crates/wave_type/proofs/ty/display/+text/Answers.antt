@@ -7,8 +7,8 @@ use Rattle.wave_wasm.specs.Types.{fixed, types_of, fields_of, cases_of, maybe_ty
 use Rattle.wave_wasm.specs.Commas.{joined}
 use Rattle.wave_wasm.specs.TypeText.{type_text, type_texts, field_texts, case_texts, result_text, maybe_text}
 use Rattle.wave_type.specs.TypeModel.{by_bytes}
-use Rattle.wave_wasm.proofs.Displays.JoinedTexts.{separator_more, joined_turn}
-use Rattle.wave_type.proofs.TypeTexts.JoinedTexts.{field_line, case_line, all_types, all_fields, all_cases, pair_text, fixed_text}
+use Rattle.wave_wasm.proofs.Displays.JoinedTexts.{separator_more}
+use Rattle.wave_type.proofs.TypeTexts.JoinedTexts.{turn_written, field_line, case_line, all_types, all_fields, all_cases, pair_text, fixed_text}
 use Rattle.wave_type.proofs.TypeTrees.Equality.{type_at, field_at, case_at}
 use Rattle.wave_type.proofs.ty.display.+text.Goals as goal
 
@@ -17,16 +17,8 @@ write_types-write_type-requires g t c κs within = search (rules, type_at)
 
 pub write_types-loop-ty-preserved : goal.write_types-loop-ty-preserved
 write_types-loop-ty-preserved g t c =
-    let xs = c.deref-ty-items.result.now in
-    let i = c.loop-ty.ty-index in
-    let took = g.W.Write.write_str_gives in (
-      separator_more type_text xs i c.ty-item.result c.loop-ty-test.true,
-      λ p.
-          let before = c.loop-ty.invariant.1 p in
-          let comma : HasWritten took c.loop-ty.f c.loop-ty.separator.now c.write.new.self = search rules in
-          let part : HasWritten took c.write.new.self (type_text c.ty-item.result) c.write_type.new.f = search rules in
-          put_three _ _ _ _ _ _ _ _ _ before comma part (joined_turn type_text xs i c.loop-ty.separator.now c.ty-item.result c.loop-ty-test.true c.loop-ty.invariant.0 c.ty-item.is),
-    )
+    let next = turn_written g.W.Write.write_str_gives type_text c.deref-ty-items.result.now c.loop-ty.ty-index c.loop-ty.separator.now c.ty-item.result c.loop-ty-test.true c.ty-item.is c.loop-ty.invariant.0 in
+    (separator_more type_text c.deref-ty-items.result.now c.loop-ty.ty-index c.ty-item.result c.loop-ty-test.true, λ p. next _ c.loop-ty.f c.write.new.self c.write_type.new.f (c.loop-ty.invariant.1 p) (search rules) (search rules))
 
 pub write_types-returns : goal.write_types-returns
 write_types-returns g t c = λ p ok.
@@ -37,16 +29,8 @@ write_fields-write_field-requires g t c κs within = search (rules, field_at)
 
 pub write_fields-loop-field-preserved : goal.write_fields-loop-field-preserved
 write_fields-loop-field-preserved g t c =
-    let xs = c.deref-field-items.result.now in
-    let i = c.loop-field.field-index in
-    let took = g.W.Write.write_str_gives in (
-      separator_more field_line xs i c.field-item.result c.loop-field-test.true,
-      λ p.
-          let before = c.loop-field.invariant.1 p in
-          let comma : HasWritten took c.loop-field.f c.loop-field.separator.now c.write.new.self = search rules in
-          let part : HasWritten took c.write.new.self (field_line c.field-item.result) c.write_field.new.f = search rules in
-          put_three _ _ _ _ _ _ _ _ _ before comma part (joined_turn field_line xs i c.loop-field.separator.now c.field-item.result c.loop-field-test.true c.loop-field.invariant.0 c.field-item.is),
-    )
+    let next = turn_written g.W.Write.write_str_gives field_line c.deref-field-items.result.now c.loop-field.field-index c.loop-field.separator.now c.field-item.result c.loop-field-test.true c.field-item.is c.loop-field.invariant.0 in
+    (separator_more field_line c.deref-field-items.result.now c.loop-field.field-index c.field-item.result c.loop-field-test.true, λ p. next _ c.loop-field.f c.write.new.self c.write_field.new.f (c.loop-field.invariant.1 p) (search rules) (search rules))
 
 pub write_fields-returns : goal.write_fields-returns
 write_fields-returns g t c = λ p ok.
@@ -57,16 +41,8 @@ write_cases-write_case-requires g t c κs within = search (rules, case_at)
 
 pub write_cases-loop-case-preserved : goal.write_cases-loop-case-preserved
 write_cases-loop-case-preserved g t c =
-    let xs = c.deref-case-items.result.now in
-    let i = c.loop-case.case-index in
-    let took = g.W.Write.write_str_gives in (
-      separator_more case_line xs i c.case-item.result c.loop-case-test.true,
-      λ p.
-          let before = c.loop-case.invariant.1 p in
-          let comma : HasWritten took c.loop-case.f c.loop-case.separator.now c.write.new.self = search rules in
-          let part : HasWritten took c.write.new.self (case_line c.case-item.result) c.write_case.new.f = search rules in
-          put_three _ _ _ _ _ _ _ _ _ before comma part (joined_turn case_line xs i c.loop-case.separator.now c.case-item.result c.loop-case-test.true c.loop-case.invariant.0 c.case-item.is),
-    )
+    let next = turn_written g.W.Write.write_str_gives case_line c.deref-case-items.result.now c.loop-case.case-index c.loop-case.separator.now c.case-item.result c.loop-case-test.true c.case-item.is c.loop-case.invariant.0 in
+    (separator_more case_line c.deref-case-items.result.now c.loop-case.case-index c.case-item.result c.loop-case-test.true, λ p. next _ c.loop-case.f c.write.new.self c.write_case.new.f (c.loop-case.invariant.1 p) (search rules) (search rules))
 
 pub write_cases-returns : goal.write_cases-returns
 write_cases-returns g t c = λ p ok.
