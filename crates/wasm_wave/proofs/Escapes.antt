@@ -8,8 +8,8 @@ use Rattle.std.proofs.lemmas.Grind.{flat_map-append}
 use Rattle.std.proofs.Math.Seq.{take-add, take-append_seam}
 use Rattle.wave_lex.specs.Tokens.{backslash, single_quote, double_quote, line_feed}
 use Rattle.wave_lex.specs.Strings.{IsEscape, UnescapesTo}
-use Rattle.wasm_wave.specs.EscapeMarks.{IsInside, IsRun, IsEscapeMark}
 use Rattle.wave_grammar.proofs.Fields.Lookup.{all_last}
+use Rattle.wasm_wave.specs.EscapeMarks.{IsInside, IsRun, IsEscapeMark}
 
 -- before the first piece
 pub run_start : (q : ℕ) → IsRun q []

@@ -1,5 +1,6 @@
 -- Which types have a value, and what the parts say of the whole.
 use Rattle.std.proofs.Common.{ℕ, zero, suc, ◌≡◌, ◌<◌, ◌≤◌, ◌+◌, ◌||◌, ◌&&◌, ◌↔◌, ◌⊎◌, rules, Bool, true, false, IsTrue, List, [], ◌∷◌, Bor, length, drop, get_or, Option, Result, Ok, Err, IfOk, refl, arith, sym, ap, subst, ◌∙◌, inl, inr}
+use Rattle.std.proofs.lemmas.Bool.{or_cases, or_right}
 use Rattle.std.specs.List.{list_all, list_any}
 use Rattle.std.specs.Prelude.{pos}
 use Rattle.wave_wasm.specs.Borrowed.{shown_all}
@@ -42,11 +43,6 @@ copies : (E : TypeTree) (v : Value) → HasType E v → (n : ℕ) → (vs : List
 copies E v typed zero = ([], tt, refl)
 copies E v typed (suc n) = let (vs, all, count) = copies E v typed n in (v ∷ vs, (typed, all), ap suc count)
 
--- one of two tests passes
-one_passes : (a b : Bool) → (a || b) ≡ true → (a ≡ true) ⊎ (b ≡ true)
-one_passes true b e = inl refl
-one_passes false b e = inr e
-
 -- either of two gives it
 either : {A B X : Type 0} → (A → X) → (B → X) → A ⊎ B → X
 either f g (inl a) = f a
@@ -74,7 +70,7 @@ mutual
   value_of (type.enum (name ∷ more)) e = (value.enum name, (name, inl refl, refl))
   value_of (type.option P) e = (value.option no_value, inl refl)
   value_of (type.result A B) e =
-      either (λ h. let (payload, typed) = payload_of A h in (value.ok payload, inl (payload, typed, refl))) (λ h. let (payload, typed) = payload_of B h in (value.err payload, inr (payload, typed, refl))) (one_passes _ _ e)
+      either (λ h. let (payload, typed) = payload_of A h in (value.ok payload, inl (payload, typed, refl))) (λ h. let (payload, typed) = payload_of B h in (value.err payload, inr (payload, typed, refl))) (or_cases _ _ e)
   value_of (type.flags names) e = (value.flags [], ([], none_picked names, refl))
   value_of (type.map K V) e = (value.map (value.entries []), ([], tt, refl))
 
@@ -101,17 +97,13 @@ mutual
   case_in : (cs : Cases) → cases_inhabited cs ≡ true → (name : List ℕ) × (payload : MaybeValue) × HasCase cs name payload
   case_in no_cases e = absurd (cc)
   case_in (case_of name P more) e =
-      either (λ h. let (payload, typed) = payload_of P h in (name, payload, inl (refl, typed))) (λ h. let (n, payload, typed) = case_in more h in (n, payload, inr typed)) (one_passes _ _ e)
+      either (λ h. let (payload, typed) = payload_of P h in (name, payload, inl (refl, typed))) (λ h. let (n, payload, typed) = case_in more h in (n, payload, inr typed)) (or_cases _ _ e)
 
 -- ---- where there is a value the test says so
 
 first_passes : (a b : Bool) → a ≡ true → (a || b) ≡ true
 first_passes true b e = refl
 first_passes false b e = absurd (cc)
-
-second_passes : (a b : Bool) → b ≡ true → (a || b) ≡ true
-second_passes true b e = refl
-second_passes false b e = e
 
 two_pass : (a b : Bool) → a ≡ true → b ≡ true → (a && b) ≡ true
 two_pass true b e f = f
@@ -135,7 +127,7 @@ mutual
   tells (type.enum (name ∷ more)) v typed = refl
   tells (type.option P) v typed = refl
   tells (type.result A B) v (inl (payload, typed, is)) = first_passes _ _ (payload_tells A payload typed)
-  tells (type.result A B) v (inr (payload, typed, is)) = second_passes _ _ (payload_tells B payload typed)
+  tells (type.result A B) v (inr (payload, typed, is)) = or_right _ _ (payload_tells B payload typed)
   tells (type.flags names) v typed = refl
   tells (type.map K V) v typed = refl
 
@@ -154,7 +146,7 @@ mutual
   case_tells : (cs : Cases) (name : List ℕ) (payload : MaybeValue) → HasCase cs name payload → cases_inhabited cs ≡ true
   case_tells no_cases name payload typed = absurd typed
   case_tells (case_of other P more) name payload (inl (same, typed)) = first_passes _ _ (payload_tells P payload typed)
-  case_tells (case_of other P more) name payload (inr typed) = second_passes _ _ (case_tells more name payload typed)
+  case_tells (case_of other P more) name payload (inr typed) = or_right _ _ (case_tells more name payload typed)
 
 exact_by : {X : Type 0} (b c : Bool) → b ≡ c → (c ≡ true → X) → (X → c ≡ true) → IsTrue b ↔ X
 exact_by true c e there back = (λ _. there (sym e), λ _. refl)

@@ -7,14 +7,14 @@ use Rattle.wave_tree.specs.NodeDisplay.{shown_at}
 use Rattle.wave_tree.specs.ParserState.{Parsing, Finishes, first_at, limited, start_of}
 use Rattle.wave_tree.specs.Untyped.{Untyped, IsUntypedTaken, IsUntypedOf, RefusesTree}
 use Rattle.wave_tree.proofs.TextReading.TypedTexts.{whole_tree}
+use Rattle.wave_tree.proofs.Displays.Nodes.{shown_known}
+use Rattle.wave_tree.proofs.Displays.Meaning.{params_shown}
 use Rattle.wave_grammar.specs.ParserPosition.{Place}
 use Rattle.wave_grammar.specs.PrefixAutomaton.{value}
 use Rattle.wave_grammar.specs.SyntaxErrors.{LeadsBehindValue, FailsBySyntax}
 use Rattle.wave_tree.specs.UntypedCall.{Called, IsCalledOf, RefusesCall, params_at, call_shown}
 use Rattle.wave.specs.declared.request.Request.TheVariants.{Value, Call}
 use Rattle.wave.specs.Answers.{Answers, IsRefused}
-use Rattle.wave_tree.proofs.Displays.Nodes.{shown_known}
-use Rattle.wave_tree.proofs.Displays.Meaning.{params_shown}
 
 -- the display of the tree is the answer
 pub displayed : (n : ℕ) (s : List ℕ) (u : Untyped) (answer : List ℕ) → IsUntypedOf n s u → answer ≡ shown_at u.source u.node → Answers (Value n) s answer

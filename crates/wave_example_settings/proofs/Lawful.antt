@@ -8,13 +8,13 @@ use Rattle.wave_wasm.specs.Values as value
 use Rattle.wave_wasm.specs.Values.{Value, values, value_list, list_items, IsWellFormed, AreWellFormed}
 use Rattle.wave_wasm.specs.HasType.{HasType}
 use Rattle.wave_wasm.specs.ConstructorContracts.{MakesList, list_value}
+use Rattle.wave_value.proofs.ValueModel.Lists.{value_list-values}
 use Rattle.wave_example_settings.specs.BareTree.{tree, one_level}
 use Rattle.wave_example_settings.specs.Refusals.{AreElements}
 use Rattle.wave_example_settings.specs.declared.bare.Bare.{Bare, List as list_of, Fixed as fixed_of, the_lemmas}
 use Rattle.wave_example_settings.specs.declared.bare.Bare.TheOpen.{Bare-F}
 use Rattle.wave_example_settings.specs.declared.bare.Bare.TheViews.{roll-Bare}
 use Rattle.wave_example_settings.specs.declared.bare.Bare.TheFolds.{map-Bare, fold-roll-Bare, ind-Bare}
-use Rattle.wave_value.proofs.ValueModel.Lists.{value_list-values}
 
 pub tree_list : (v : Vec Bare Global) → tree (list_of v) ≡ value.list (values (map tree v.items))
 tree_list v = search (rules, the_lemmas)

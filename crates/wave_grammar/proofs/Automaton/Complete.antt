@@ -1,8 +1,9 @@
 -- Tokens that lead from where a value is due to its end are those of a tree.
 use Rattle.std.proofs.Common.{ℕ, zero, suc, ◌≡◌, ◌≢◌, ◌<◌, ◌≤◌, ◌+◌, inl, inr, List, [], ◌∷◌, ◌++◌, length, Bool, true, false, refl, sym, ap, subst, ◌∙◌, arith}
-use Rattle.std.specs.Prelude.{◌⊎◌, ◌||◌, nat_lt, if◌then◌else◌, map}
+use Rattle.std.specs.Prelude.{◌⊎◌, nat_lt, if◌then◌else◌, map}
 use Rattle.std.specs.Str.{bytes_eq}
 use Rattle.std.proofs.lemmas.Slice.Eq.{bytes_eq-Decides}
+use Rattle.std.proofs.lemmas.Bool.{or_parts}
 use Rattle.wave_wasm.specs.Names.{AreDistinct, IsOneOf, IsNoneOf, is_one_of}
 use Rattle.wave_grammar.specs.Token.{Token, brace_open, brace_close, paren_open, paren_close, bracket_open, bracket_close, colon, comma, number, label, char, string, multiline}
 use Rattle.wave_grammar.specs.CommaSeparated.{Spelling, FurtherItems, Items}
@@ -260,19 +261,14 @@ flags_taken n s x e end names (t ∷ u ∷ us) (d, r, h, (d', r', h', leads)) = 
         let there : step n (due.flag names) s u ≡ reads d' r' = subst (λ z. step n z s u ≡ reads d' r') dues (subst (λ z. step n d z u ≡ reads d' r') forms h') in
         subst (λ z. IsClosed n s (NewFlags names) (z ∷ u ∷ us) x e) (sym a_comma) (next flags (flag_reads names s u d' r' there))
 
--- where one or the other fails both do
-neither : (a b : Bool) → (a || b) ≡ false → (a ≡ false) × (b ≡ false)
-neither true b h = cc
-neither false b h = (refl, h)
-
 -- one of the names is no new one
 not_new : (names : List (List ℕ)) (x y : List ℕ) → IsOneOf names x → is_one_of names y ≡ false → x ≢ y
 not_new [] x y h new e = absurd h
 not_new (other ∷ names) x y (inl same) new e =
     let k : bytes_eq y other ≡ true = (bytes_eq-Decides y other).1 (sym e ∙ same) in
-    let w : false ≡ true = sym (neither (bytes_eq y other) (is_one_of names y) new).0 ∙ k in
+    let w : false ≡ true = sym (or_parts (bytes_eq y other) (is_one_of names y) new).0 ∙ k in
     cc
-not_new (other ∷ names) x y (inr h) new e = not_new names x y h (neither (bytes_eq y other) (is_one_of names y) new).1 e
+not_new (other ∷ names) x y (inr h) new e = not_new names x y h (or_parts (bytes_eq y other) (is_one_of names y) new).1 e
 
 -- one of the names is one of more names
 one_of_more : (names : List (List ℕ)) (x y : List ℕ) → IsOneOf names x → IsOneOf (names ++ y ∷ []) x

@@ -21,6 +21,7 @@ use Rattle.wave_lex.specs.Regex.{nothing, Matches}
 use Rattle.wave_lex.specs.Derive.{derivative, derivative_by}
 use Rattle.wave_lex.specs.Tokens.{function_name}
 use Rattle.wave_lex.proofs.Machines.FunctionNames.{name_steps}
+use Rattle.wave_lex.proofs.Tokenization.TokenEnds.{EndsBefore, no_longer, front_there, reached}
 use Rattle.wave_grammar.specs.Token.{Token, CutsInto, paren_open, paren_close}
 use Rattle.wave_grammar.specs.CommaSeparated.{Items}
 use Rattle.wave_grammar.specs.Params.{Params}
@@ -28,7 +29,6 @@ use Rattle.wave_grammar.specs.Tree.{Tree, MaybeTree, no_tree, a_tree, tuple, tre
 use Rattle.wave_grammar.specs.Calls.{SpellsParams, IsCall}
 use Rattle.wave_grammar.specs.DisplayLaws.{ShowsCallAgain, ShownCallKeepsMeaning}
 use Rattle.wave_grammar.proofs.Unambiguity.Levels.{takes-levels, all-within}
-use Rattle.wave_lex.proofs.Tokenization.TokenEnds.{EndsBefore, no_longer, front_there, reached}
 use Rattle.wave_grammar.proofs.RoundTrip.Tokens.{end_cut}
 use Rattle.wave_grammar.proofs.RoundTrip.Injective.{paren_open_cut, paren_close_cut}
 use Rattle.wave_grammar.proofs.Display.Tokens.{HasShape, cut_shapes}

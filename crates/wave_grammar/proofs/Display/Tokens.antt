@@ -12,11 +12,11 @@ use Rattle.wave_lex.specs.Labels.{IsLabel}
 use Rattle.wave_lex.specs.Tokenization.{Front}
 use Rattle.wave_lex.proofs.Machines.Multiline as multiline_state
 use Rattle.wave_lex.proofs.Machines.Multiline.{MultilineState, multiline_rest, multiline_step, multiline_steps}
+use Rattle.wave_lex.proofs.RegularShapes.LabelWords.{spelled_by_itself}
+use Rattle.wave_lex.proofs.Tokenization.TokenEnds.{no_mark, none_follows}
 use Rattle.wave_grammar.specs.Token.{Token, CutsInto, lexeme_of, text_of, number, label, char, string, multiline}
 use Rattle.wave_grammar.specs.LeafTokens.{name_of}
 use Rattle.wave_grammar.specs.Tree.{IsKey}
-use Rattle.wave_lex.proofs.RegularShapes.LabelWords.{spelled_by_itself}
-use Rattle.wave_lex.proofs.Tokenization.TokenEnds.{no_mark, none_follows}
 use Rattle.wave_grammar.proofs.RoundTrip.Tokens.{stops, NoStopAfter, stopped_cut, number_ends, label_ends}
 use Rattle.wave_grammar.proofs.RoundTrip.Strings.{character_ends, string_ends}
 use Rattle.wave_grammar.proofs.RoundTrip.Injective.{IsOneToken}

@@ -17,10 +17,10 @@ use Rattle.wave_grammar.specs.NodeFields.{IsLabelled, field_of, RefusesKey}
 use Rattle.wave_grammar.specs.declared.form.NodeType.TheVariants as kind
 use Rattle.wave_grammar.proofs.ChildNodes.Entries.{AreEntriesOf}
 use Rattle.wave_grammar.proofs.ByKind.Lists.{HasAt}
+use Rattle.wave_grammar.proofs.ByKind.Enums.{none_one}
 use Rattle.wave_grammar.proofs.Fields.Entries.{IsBadKey, bad_here, later, as_bad, label_token, record_nodes, key_fine, apart_more, none_at_first}
 use Rattle.wave_grammar.proofs.Fields.Reading.{RecordType, names_are, has_one}
 use Rattle.wave_grammar.proofs.Fields.FieldOrder.{record_blame}
-use Rattle.wave_grammar.proofs.ByKind.Enums.{none_one}
 
 -- ---- one entry
 

@@ -24,10 +24,10 @@ use Rattle.wave_grammar.proofs.OneFault.FaultyTrees.{value_fine}
 use Rattle.wave_grammar.proofs.ChildNodes.Inside.{inside}
 use Rattle.wave_grammar.proofs.ByKind.Lists.{HasAt}
 use Rattle.wave_grammar.proofs.ByKind.Tuples.{map_has, all_has}
+use Rattle.wave_grammar.proofs.ByKind.Enums.{none_one}
 use Rattle.wave_grammar.proofs.Fields.Lookup.{cut_at}
 use Rattle.wave_grammar.proofs.Fields.Entries.{AreFieldsOf, RecordBlame, record_nodes, for_one, entry_found, none_found, some_map, key_fine, apart_more, none_at_first, within_record}
 use Rattle.wave_grammar.proofs.Fields.Reading.{RecordType, fields_distinct, given_fields, all_from, FieldIsRead, FieldsRead, entry_reads}
-use Rattle.wave_grammar.proofs.ByKind.Enums.{none_one}
 
 -- ---- keys
 

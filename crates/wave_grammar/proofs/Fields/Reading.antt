@@ -34,10 +34,10 @@ use Rattle.wave_grammar.specs.NodeFields.{IsFieldsOf, RefusesFields, IsLeftOut, 
 use Rattle.wave_grammar.proofs.ChildNodes.Inside.{some_is}
 use Rattle.wave_grammar.proofs.ByKind.Leaves.{tree_is}
 use Rattle.wave_grammar.proofs.ByKind.Lists.{HasAt, some_at}
+use Rattle.wave_grammar.proofs.ByKind.Enums.{none_one}
 use Rattle.wave_grammar.proofs.Fields.Lookup.{not_found}
 use Rattle.wave_grammar.proofs.Fields.Entries.{AreFieldsOf, RecordNodes, record_nodes, fields_of_entries, for_one, entry_found, none_found, some_map, fields_blame}
 use Rattle.wave_wasm.proofs.TypesOfValues.TypeOfKind.{formed_as}
-use Rattle.wave_grammar.proofs.ByKind.Enums.{none_one}
 
 -- the entries with their trees
 abbrev pub entry_trees : List PlacedEntry → List (Token × Tree)

@@ -19,10 +19,10 @@ use Rattle.wave_grammar.specs.SpannedTree.{SpannedTree, at, entries, no_fields, 
 use Rattle.wave_grammar.specs.TypeErrors.{RefusesWith, Fault, names_in, KeyFault, UnknownField, RepeatedField, IsFor, MissingField, FaultOfField}
 use Rattle.wave_grammar.specs.TypedReading.{ReadsNone}
 use Rattle.wave_grammar.proofs.ByKind.Lists.{HasAt}
+use Rattle.wave_grammar.proofs.ByKind.Enums.{none_one}
 use Rattle.wave_grammar.proofs.Fields.Names.{is_found}
 use Rattle.wave_grammar.proofs.Fields.Entries.{RecordFault, apart_more, none_at_first}
 use Rattle.wave_grammar.proofs.Fields.Reading.{entry_trees}
-use Rattle.wave_grammar.proofs.ByKind.Enums.{none_one}
 
 -- an entry of this field's name has no value at the field's type
 abbrev pub HasBadField : Fields → List PlacedEntry → Type 0

@@ -4,7 +4,7 @@ use Rattle.std.specs.Prelude.{◌||◌, ◌==◌, codes, encode_utf8, if◌then�
 use Rattle.std.specs.Char.{IsScalar, digit_value}
 use Rattle.std.specs.Fmt.{digits, digits_onto, digit_glyph}
 use Rattle.std.specs.Str.Parse.{AllDigits}
-use Rattle.std.proofs.lemmas.Bool.{eqb-true, eqb-false}
+use Rattle.std.proofs.lemmas.Bool.{eqb-true, eqb-false, or_cases}
 use Rattle.std.proofs.lemmas.Bool.Decides.{nat_tests}
 use Rattle.std.proofs.lemmas.Fmt.{digits_is_IsNumeral}
 use Rattle.std.proofs.lemmas.List.{append-nil}
@@ -14,7 +14,7 @@ use Rattle.wave_lex.specs.Regex.{Matches, is_one_of, is_within}
 use Rattle.wave_lex.specs.Tokens.{escape, hexadecimal, up_to, one, word}
 use Rattle.wave_lex.specs.Strings.{IsEscape}
 use Rattle.wave_lex.proofs.StringDecoding.Parts.{AllPlain}
-use Rattle.wave_lex.proofs.RegularShapes.Derivatives.{matches_from, or_true}
+use Rattle.wave_lex.proofs.RegularShapes.Derivatives.{matches_from}
 use Rattle.wave_lex.proofs.LongestPrefix.ByComputing.{is_ascii}
 
 -- ---- hexadecimal digits
@@ -50,9 +50,9 @@ hexadecimal_small d h = grind (arith, nat_tests)
 
 one_hexadecimal : (d : ℕ) → digit_value d < 16 → Matches hexadecimal (d ∷ [])
 one_hexadecimal d h =
-    elim (or_true (is_within 48 57 d) (is_within 97 102 d || is_within 65 70 d) (is_hexadecimal d h)) [
+    elim (or_cases (is_within 48 57 d) (is_within 97 102 d || is_within 65 70 d) (is_hexadecimal d h)) [
       | inl e ↦ inl (d, refl, e)
-      | inr e ↦ elim (or_true (is_within 97 102 d) (is_within 65 70 d) e) [ inl f ↦ inr (inl (d, refl, f)) | inr f ↦ inr (inr (d, refl, f)) ]
+      | inr e ↦ elim (or_cases (is_within 97 102 d) (is_within 65 70 d) e) [ inl f ↦ inr (inl (d, refl, f)) | inr f ↦ inr (inr (d, refl, f)) ]
     ]
 
 -- at most n digits

@@ -8,6 +8,7 @@ use Rattle.wave_wasm.specs.Merge.{merged}
 use Rattle.wave_lex.specs.declared.lex.Token.TheVariants as class
 use Rattle.wave_lex.specs.Regex.{Matches}
 use Rattle.wave_lex.specs.Tokens.{label_or_keyword}
+use Rattle.wave_lex.proofs.RegularShapes.LabelWords.{spelled_by_itself}
 use Rattle.wave_grammar.specs.Token.{Token, CutsInto, brace_open, brace_close, paren_open, paren_close, bracket_open, bracket_close, colon, comma, label}
 use Rattle.wave_grammar.specs.CommaSeparated.{Spelling}
 use Rattle.wave_grammar.specs.TypedGrammar.{Reads}
@@ -16,7 +17,6 @@ use Rattle.wave_grammar.specs.RoundTripLaws.{ReadBack}
 use Rattle.wave_grammar.proofs.Elaboration.GrammarToTree.{through}
 use Rattle.wave_grammar.proofs.Elaboration.TreeToGrammar.{back}
 use Rattle.wave_grammar.proofs.Unambiguity.Levels.{takes-levels, takes-within}
-use Rattle.wave_lex.proofs.RegularShapes.LabelWords.{spelled_by_itself}
 use Rattle.wave_grammar.proofs.RoundTrip.Tokens.{Stops, mark_cut, space_cut, stopped_cut, label_ends, end_cut}
 
 -- before the end or a mark, after which the tokens are known, the text has tokens that spell the item

@@ -12,11 +12,11 @@ use Rattle.wave_lex.specs.declared.lex.Token.TheVariants as class
 use Rattle.wave_lex.specs.Tokens.{label_or_keyword}
 use Rattle.wave_lex.proofs.RegularShapes.Derivatives.{matches_from}
 use Rattle.wave_lex.proofs.Tokenization.OneCut.{cuts_once}
+use Rattle.wave_lex.proofs.LongestPrefix.ByComputing.{ascii_spelled}
 use Rattle.wave_grammar.specs.Token.{Token, CutsInto, lexeme_of, label, number, brace_open}
 use Rattle.wave_grammar.specs.ParserPosition.{token_of}
 use Rattle.wave_grammar.specs.LeafTokens.{Spells}
 use Rattle.wave_grammar.specs.TypedGrammar.{Reads}
-use Rattle.wave_lex.proofs.LongestPrefix.ByComputing.{ascii_spelled}
 use Rattle.wave_grammar.proofs.RoundTrip.Tokens.{stopped_cut, number_ends}
 use Rattle.wave_grammar.proofs.RoundTrip.Numbers.{is_written}
 use Rattle.wave_grammar.proofs.RoundTrip.Injective.{Prints, IsOneToken, label_cut}

@@ -5,7 +5,7 @@ use Rattle.std.specs.Prelude.{encode_utf8, encode_utf8_all}
 use Rattle.std.specs.Char.{IsScalar}
 use Rattle.std.specs.List.{flat_map}
 use Rattle.std.specs.Str.{chars, IsUtf8}
-use Rattle.std.proofs.lemmas.Bool.{ltb-true}
+use Rattle.std.proofs.lemmas.Bool.{ltb-true, and_parts}
 use lib.Utf8.{scalar, scalars}
 use Rattle.std.proofs.lemmas.List.{append-nil}
 use Rattle.std.proofs.lemmas.Str.{encodes-append, encodes-chars, scalars-chars, encode_ascii}
@@ -30,11 +30,10 @@ use Rattle.wave_lex.specs.Tokens as shapes
 use Rattle.wave_lex.specs.Tokens.{escape}
 use Rattle.wave_lex.proofs.StringDecoding.OneMeaning.{plain_from, escape_from}
 use Rattle.wave_lex.proofs.StringDecoding.Parts.{AllPlain}
-use Rattle.wave_lex.proofs.RegularShapes.Comparisons.{and_true}
 use Rattle.wave_lex.proofs.Machines.Steps.{character_steps, string_steps}
-use Rattle.wave_grammar.specs.Token as token
 use Rattle.wave_lex.proofs.LongestPrefix.ByComputing.{ascii_spelled}
 use Rattle.wave_lex.proofs.Tokenization.TokenEnds.{no_mark, none_follows}
+use Rattle.wave_grammar.specs.Token as token
 use Rattle.wave_grammar.proofs.RoundTrip.Tokens.{stops, NoStopAfter, stopped_cut}
 use Rattle.wave_grammar.proofs.RoundTrip.Escapes.{IsForm, is_form, all_plain}
 use Rattle.wave_grammar.proofs.RoundTrip.Leaves.{IsWritten, bool_written, whole_written}
@@ -107,7 +106,7 @@ record IsInside (cs x : List ℕ) : Type 0 where
 written_inside : (cs : List ℕ) → scalars cs ≡ true → IsInside cs (flat_map escaped cs)
 written_inside [] h = record { parts = []; spelled = refl; shaped = tt; decodes = ([], (refl, refl)) }
 written_inside (c ∷ cs) h =
-    let k : (scalar c ≡ true) × (scalars cs ≡ true) = and_true _ _ h in
+    let k : (scalar c ≡ true) × (scalars cs ≡ true) = and_parts _ _ h in
     by_form (is_form c k.0) (written_inside cs k.1)
   where
     more : (is x : List ℕ) → encode_utf8_all is ≡ escaped c → Matches inside is → Decodes (escaped c ++ flat_map escaped cs) (encode_utf8_all (c ∷ cs)) → IsInside cs (flat_map escaped cs)

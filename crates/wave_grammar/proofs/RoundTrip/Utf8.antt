@@ -5,7 +5,7 @@ use Rattle.std.specs.Char.{IsScalar}
 use Rattle.std.specs.Str.{IsUtf8, IsCharBoundary}
 use lib.Utf8.{scalar, scalars}
 use Rattle.std.proofs.Math.Seq.{take-append_seam}
-use Rattle.std.proofs.lemmas.Bool.{eqb-true, eqb-false, ltb-true}
+use Rattle.std.proofs.lemmas.Bool.{eqb-true, eqb-false, ltb-true, and_parts}
 use Rattle.std.proofs.lemmas.Bool.Decides.{nat_tests}
 use Rattle.std.proofs.lemmas.List.{append-nil}
 use Rattle.std.proofs.lemmas.Str.{IsUtf8-take, IsUtf8-drop, IsUtf8-append, IsUtf8-encode, IsUtf8-past_char, IsCharBoundary-at_seam, IsCharBoundary-from_rest, encode_ascii, length-encode, len_utf8_bounds, inside_one}
@@ -22,7 +22,6 @@ use Rattle.wave_lex.proofs.StringDecoding.OneMeaning.{plain_into, escape_head, d
 use Rattle.wave_lex.proofs.StringDecoding.Parts.{AllPlain}
 use Rattle.wave_lex.proofs.LongestPrefix.ByComputing.{is_ascii, ascii_spelled}
 use Rattle.wave_lex.proofs.LongestPrefix.MachineWalks.{front_boundary}
-use Rattle.wave_lex.proofs.RegularShapes.Comparisons.{and_true}
 use Rattle.wave_grammar.specs.Token.{Token, CutsInto, lexeme_of, text_of}
 use Rattle.wave_grammar.specs.LeafTokens.{Spells}
 use Rattle.wave_grammar.proofs.RoundTrip.Escapes.{all_plain, digits_ascii}
@@ -37,7 +36,7 @@ front_utf8 x y u v = subst IsUtf8 (take-append_seam x y) (IsUtf8-take (x ++ y) (
 pub ascii_off : (x y : List ℕ) → is_ascii x ≡ true → IsUtf8 (x ++ y) → IsUtf8 y
 ascii_off [] y a u = u
 ascii_off (b ∷ x) y a u =
-    let p : (nat_lt b 128 ≡ true) × (is_ascii x ≡ true) = and_true _ _ a in
+    let p : (nat_lt b 128 ≡ true) × (is_ascii x ≡ true) = and_parts _ _ a in
     ascii_off x y p.1 (IsUtf8-past_char (b ∷ (x ++ y)) (x ++ y) b u (ap (λ (z : List ℕ). z ++ (x ++ y)) (sym (encode_ascii b (ltb-true b 128 p.0)))))
 
 -- one scalar
@@ -128,7 +127,7 @@ decodes_within (suc n) s t l (cs, (h, e)) d = by_scalars cs h e (decodes_within 
             let same : c ≡ 92 = eqb-true c 92 f in
             escaped c (encode_utf8_all cs) (sym e ∙ (ap (λ (z : ℕ). encode_utf8 z ++ encode_utf8_all cs) same ∙ ap (λ (z : List ℕ). z ++ encode_utf8_all cs) (encode_ascii 92 (ltb-true 92 128 refl)))) less
         by_test false f =
-            let k : (scalar c ≡ true) × (scalars cs ≡ true) = and_true _ _ h in
+            let k : (scalar c ≡ true) × (scalars cs ≡ true) = and_parts _ _ h in
             let (u, g, more) = plain_off (encode_utf8 c) (encode_utf8_all cs) t (all_plain c (eqb-false c 92 f)) (subst (λ (z : List ℕ). Decodes z t) (sym e) d) in
             let size : length s ≡ length (encode_utf8 c) + length (encode_utf8_all cs) = ap length (sym e) ∙ length-append (encode_utf8 c) (encode_utf8_all cs) in
             let some : 1 ≤ length (encode_utf8 c) = omega (arith, length-encode c, len_utf8_bounds c) in
@@ -168,7 +167,7 @@ first_piece (b ∷ bs) s p ps h e =
 pieces_utf8 : (cs : List ℕ) → scalars cs ≡ true → (p : List ℕ) × (ps : List (List ℕ)) × (pieces (encode_utf8_all cs) ≡ p ∷ ps) × IsUtf8 p × AllOf IsUtf8 ps
 pieces_utf8 [] h = ([], [], refl, ([], (refl, refl)), tt)
 pieces_utf8 (c ∷ cs) h =
-    let k : (scalar c ≡ true) × (scalars cs ≡ true) = and_true _ _ h in
+    let k : (scalar c ≡ true) × (scalars cs ≡ true) = and_parts _ _ h in
     by_test (c == 10) refl k.0 (pieces_utf8 cs k.1)
   where
     by_test : (t : Bool) → (c == 10) ≡ t → scalar c ≡ true → ((p : List ℕ) × (ps : List (List ℕ)) × (pieces (encode_utf8_all cs) ≡ p ∷ ps) × IsUtf8 p × AllOf IsUtf8 ps)

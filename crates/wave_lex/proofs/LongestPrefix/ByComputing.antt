@@ -1,7 +1,7 @@
 -- Fronts that are found by computing, in a text of ASCII.
 use Rattle.std.proofs.Common.{◌≡◌, ℕ, ◌≤◌, ◌<◌, ◌+◌, Bool, true, false, nat_le, nat_lt, not, zero, suc, List, [], ◌∷◌, ◌++◌, refl, sym, ap, subst, ◌∙◌, length, take, arith, Some, length-take-le, length-append}
 use Rattle.std.specs.Prelude.{◌&&◌, ◌||◌, encode_utf8, encode_utf8_all}
-use Rattle.std.proofs.lemmas.Bool.{ltb-true, leb-true}
+use Rattle.std.proofs.lemmas.Bool.{ltb-true, leb-true, and_parts}
 use Rattle.std.proofs.lemmas.Str.{encode_same, encode_ascii, len_utf8_bounds, length-encode}
 use Rattle.wave_lex.specs.declared.lex.Token.{Token}
 use Rattle.wave_lex.specs.declared.lex.Token.TheVariants.{BraceOpen, BraceClose, ParenOpen, ParenClose, BracketOpen, BracketClose, Colon, Comma, Number, LabelOrKeyword, Char, String, MultilineString}
@@ -11,7 +11,7 @@ use Rattle.wave_lex.specs.LongestMatch.{Greatest, IsPrefixOf}
 use Rattle.wave_lex.specs.Tokens.{shape}
 use Rattle.wave_lex.specs.Tokenization.{MayStandAt, IsLongestToken, NoToken}
 use Rattle.wave_lex.proofs.RegularShapes.Derivatives.{matches_from, matches_into, empty_into}
-use Rattle.wave_lex.proofs.RegularShapes.Comparisons.{and_true, each_below, each_below_at}
+use Rattle.wave_lex.proofs.RegularShapes.Comparisons.{each_below, each_below_at}
 
 -- a text of a shape that is never empty has a byte
 positive : (r : Regex) (s : List ℕ) (k : ℕ) (cs : List ℕ) → nullable r ≡ false → k ≤ length s → encode_utf8_all cs ≡ take k s → Matches r cs → 0 < k
@@ -38,13 +38,13 @@ is_ascii (b ∷ s) = nat_lt b 128 && is_ascii s
 ascii_take : (k : ℕ) (s : List ℕ) → is_ascii s ≡ true → is_ascii (take k s) ≡ true
 ascii_take zero s h = refl
 ascii_take (suc k) [] h = refl
-ascii_take (suc k) (b ∷ s) h = let p : (nat_lt b 128 ≡ true) × (is_ascii s ≡ true) = and_true _ _ h in
+ascii_take (suc k) (b ∷ s) h = let p : (nat_lt b 128 ≡ true) × (is_ascii s ≡ true) = and_parts _ _ h in
     let q : is_ascii (take k s) ≡ true = ascii_take k s p.1 in cc
 
 -- ASCII stands for itself
 pub ascii_spelled : (s : List ℕ) → is_ascii s ≡ true → encode_utf8_all s ≡ s
 ascii_spelled [] h = refl
-ascii_spelled (b ∷ s) h = let p : (nat_lt b 128 ≡ true) × (is_ascii s ≡ true) = and_true _ _ h in
+ascii_spelled (b ∷ s) h = let p : (nat_lt b 128 ≡ true) × (is_ascii s ≡ true) = and_parts _ _ h in
     let q : encode_utf8 b ≡ b ∷ [] = encode_ascii b (ltb-true b 128 p.0) in
     ap (λ (z : List ℕ). z ++ encode_utf8_all s) q ∙ ap (λ (z : List ℕ). b ∷ z) (ascii_spelled s p.1)
 
@@ -55,7 +55,7 @@ ascii_scalars (y ∷ ds) [] h e =
     let n : length (encode_utf8 y ++ encode_utf8_all ds) ≡ 0 = ap length e in
     let w : ⊥ = omega (arith, n, length-append (encode_utf8 y) (encode_utf8_all ds), length-encode y, len_utf8_bounds y) in absurd w
 ascii_scalars (y ∷ ds) (b ∷ s) h e =
-    let p : (nat_lt b 128 ≡ true) × (is_ascii s ≡ true) = and_true _ _ h in
+    let p : (nat_lt b 128 ≡ true) × (is_ascii s ≡ true) = and_parts _ _ h in
     let q : encode_utf8 b ≡ b ∷ [] = encode_ascii b (ltb-true b 128 p.0) in
     let w = encode_same y b (encode_utf8_all ds) s (e ∙ sym (ap (λ (z : List ℕ). z ++ s) q)) in
     let t : ds ≡ s = ascii_scalars ds s p.1 w.1 in
@@ -117,9 +117,9 @@ each_class p = p BraceOpen && (p BraceClose && (p ParenOpen && (p ParenClose && 
 -- what is tested of each class holds of one
 each_class_at : (p : Token → Bool) → each_class p ≡ true → (c : Token) → p c ≡ true
 each_class_at p e c =
-    let a = and_true _ _ e in let b = and_true _ _ a.1 in let d = and_true _ _ b.1 in let f = and_true _ _ d.1 in
-    let g = and_true _ _ f.1 in let h = and_true _ _ g.1 in let i = and_true _ _ h.1 in let j = and_true _ _ i.1 in
-    let k = and_true _ _ j.1 in let l = and_true _ _ k.1 in let m = and_true _ _ l.1 in let n = and_true _ _ m.1 in
+    let a = and_parts _ _ e in let b = and_parts _ _ a.1 in let d = and_parts _ _ b.1 in let f = and_parts _ _ d.1 in
+    let g = and_parts _ _ f.1 in let h = and_parts _ _ g.1 in let i = and_parts _ _ h.1 in let j = and_parts _ _ i.1 in
+    let k = and_parts _ _ j.1 in let l = and_parts _ _ k.1 in let m = and_parts _ _ l.1 in let n = and_parts _ _ m.1 in
     of_class p c a.0 b.0 d.0 f.0 g.0 h.0 i.0 j.0 k.0 l.0 m.0 n.0 n.1
   where
     of_class : (p : Token → Bool) (c : Token) → p BraceOpen ≡ true → p BraceClose ≡ true → p ParenOpen ≡ true → p ParenClose ≡ true → p BracketOpen ≡ true → p BracketClose ≡ true → p Colon ≡ true → p Comma ≡ true → p Number ≡ true → p LabelOrKeyword ≡ true → p Char ≡ true → p String ≡ true → p MultilineString ≡ true → p c ≡ true

@@ -5,8 +5,7 @@ use Rattle.std.specs.Char.{len_utf8}
 use Rattle.std.specs.Str.{chars, IsUtf8, IsCharBoundary}
 use lib.Utf8.{scalars}
 use Rattle.wave_lex.specs.Tokens.{gap, invalid}
-use Rattle.wave_lex.proofs.RegularShapes.Comparisons.{and_true}
-use Rattle.std.proofs.lemmas.Bool.{cases_lt}
+use Rattle.std.proofs.lemmas.Bool.{cases_lt, and_parts}
 use Rattle.std.proofs.lemmas.List.{append-nil, take_more, take-take, take-append-drop}
 use Rattle.std.proofs.lemmas.Str.{encodes-append, length-encode, cons_from_encodes, encodes-chars, scalars-chars, IsCharBoundary-at_seam}
 use Rattle.std.proofs.Math.Seq.{take-append_seam, take-length}
@@ -220,7 +219,7 @@ scalars_drop : (cs : List ℕ) (i : ℕ) → scalars cs ≡ true → scalars (dr
 scalars_drop [] zero e = e
 scalars_drop [] (suc i) e = e
 scalars_drop (c ∷ cs) zero e = e
-scalars_drop (c ∷ cs) (suc i) e = scalars_drop cs i (and_true _ _ e).1
+scalars_drop (c ∷ cs) (suc i) e = scalars_drop cs i (and_parts _ _ e).1
 
 -- a text may be split after a prefix
 pub front_boundary : (r : Regex) (s : List ℕ) (k : ℕ) → IsUtf8 s → IsPrefixOf r s k → IsCharBoundary s k

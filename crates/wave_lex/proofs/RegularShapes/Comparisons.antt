@@ -2,7 +2,7 @@
 use Rattle.std.proofs.Common.{◌≡◌, ℕ, ◌≤◌, ◌<◌, zero, suc, Bool, true, false, cond, nat_eq, nat_lt, List, [], ◌∷◌, refl, sym, ap, subst, ◌∙◌, arith, inl, inr}
 use Rattle.std.specs.Prelude.{◌&&◌}
 use Rattle.std.specs.Bool.{beq}
-use Rattle.std.proofs.lemmas.Bool.{cases_lt, eqb-true, ltb-true}
+use Rattle.std.proofs.lemmas.Bool.{cases_lt, eqb-true, ltb-true, and_parts}
 use Rattle.std.proofs.lemmas.Bool.Decides.{nat_tests}
 use Rattle.wave_lex.specs.Regex.{Regex, nothing, empty, range, except, seq, alt, star, is_one_of, is_within}
 use Rattle.wave_lex.specs.Derive.{derivative, join, choice, nullable}
@@ -29,17 +29,12 @@ same (alt a b) (alt c d) = same a c && same b d
 same (star a) (star b) = same a b
 same p q = false
 
--- both are true where both at once are
-pub and_true : (a b : Bool) → (a && b) ≡ true → (a ≡ true) × (b ≡ true)
-and_true true b e = (refl, e)
-and_true false b e = cc
-
 -- lists that pass the test are equal
 pub same_list_true : (a b : List ℕ) → same_list a b ≡ true → a ≡ b
 same_list_true [] [] e = refl
 same_list_true [] (b ∷ bs) e = cc
 same_list_true (a ∷ x) [] e = cc
-same_list_true (a ∷ x) (b ∷ y) e = let h : (nat_eq a b ≡ true) × (same_list x y ≡ true) = and_true _ _ e in
+same_list_true (a ∷ x) (b ∷ y) e = let h : (nat_eq a b ≡ true) × (same_list x y ≡ true) = and_parts _ _ e in
     let i : a ≡ b = eqb-true a b h.0 in
     let j : x ≡ y = same_list_true x y h.1 in cc
 
@@ -47,12 +42,12 @@ same_list_true (a ∷ x) (b ∷ y) e = let h : (nat_eq a b ≡ true) × (same_li
 pub same_true : (p q : Regex) → same p q ≡ true → p ≡ q
 same_true nothing nothing e = refl
 same_true empty empty e = refl
-same_true (range a b) (range c d) e = let h : (nat_eq a c ≡ true) × (nat_eq b d ≡ true) = and_true _ _ e in
+same_true (range a b) (range c d) e = let h : (nat_eq a c ≡ true) × (nat_eq b d ≡ true) = and_parts _ _ e in
     let i : a ≡ c = eqb-true a c h.0 in let j : b ≡ d = eqb-true b d h.1 in cc
 same_true (except a) (except b) e = ap except (same_list_true a b e)
-same_true (seq a b) (seq c d) e = let h : (same a c ≡ true) × (same b d ≡ true) = and_true _ _ e in
+same_true (seq a b) (seq c d) e = let h : (same a c ≡ true) × (same b d ≡ true) = and_parts _ _ e in
     let i : a ≡ c = same_true a c h.0 in let j : b ≡ d = same_true b d h.1 in cc
-same_true (alt a b) (alt c d) e = let h : (same a c ≡ true) × (same b d ≡ true) = and_true _ _ e in
+same_true (alt a b) (alt c d) e = let h : (same a c ≡ true) × (same b d ≡ true) = and_parts _ _ e in
     let i : a ≡ c = same_true a c h.0 in let j : b ≡ d = same_true b d h.1 in cc
 same_true (star a) (star b) e = ap star (same_true a b e)
 same_true p q e = cc
@@ -66,7 +61,7 @@ each_below (suc n) p = p n && each_below n p
 pub each_below_at : (n b : ℕ) (p : ℕ → Bool) → each_below n p ≡ true → b < n → p b ≡ true
 each_below_at zero b p e l = let w : ⊥ = omega arith in absurd w
 each_below_at (suc n) b p e l =
-    let h : (p n ≡ true) × (each_below n p ≡ true) = and_true _ _ e in
+    let h : (p n ≡ true) × (each_below n p ≡ true) = and_parts _ _ e in
     elim (cases_lt b n) as (λ _. p b ≡ true) [
       | inl k ↦ each_below_at n b p h.1 k
       | inr k ↦ let s : b ≡ n = omega arith in subst (λ (z : ℕ). p z ≡ true) (sym s) h.0
@@ -106,7 +101,7 @@ outside lo hi c h k = grind (arith, nat_tests)
 none_of : (cs : List ℕ) (c : ℕ) → all_ascii cs ≡ true → 128 ≤ c → is_one_of c cs ≡ false
 none_of [] c e k = refl
 none_of (d ∷ ds) c e k =
-    let h : (nat_lt d 128 ≡ true) × (all_ascii ds ≡ true) = and_true _ _ e in
+    let h : (nat_lt d 128 ≡ true) × (all_ascii ds ≡ true) = and_parts _ _ e in
     let a : d < 128 = ltb-true d 128 h.0 in
     let b : nat_eq c d ≡ false = grind (arith, nat_tests) in
     rw (b, none_of ds c h.1 k) refl
@@ -122,10 +117,10 @@ after_past (range lo hi) c d e k l =
     ap (λ (z : Bool). cond z empty nothing) (x ∙ sym y)
 after_past (except cs) c d e k l = ap (λ (z : Bool). cond z nothing empty) (none_of cs c e k ∙ sym (none_of cs d e l))
 after_past (seq p q) c d e k l =
-    let h : (is_ascii_shape p ≡ true) × (is_ascii_shape q ≡ true) = and_true _ _ e in
+    let h : (is_ascii_shape p ≡ true) × (is_ascii_shape q ≡ true) = and_parts _ _ e in
     ap (λ (z : Regex). choice (join z q) (cond (nullable p) (derivative c q) nothing)) (after_past p c d h.0 k l)
     ∙ ap (λ (z : Regex). choice (join (derivative d p) q) (cond (nullable p) z nothing)) (after_past q c d h.1 k l)
 after_past (alt p q) c d e k l =
-    let h : (is_ascii_shape p ≡ true) × (is_ascii_shape q ≡ true) = and_true _ _ e in
+    let h : (is_ascii_shape p ≡ true) × (is_ascii_shape q ≡ true) = and_parts _ _ e in
     ap (λ (z : Regex). choice z (derivative c q)) (after_past p c d h.0 k l) ∙ ap (λ (z : Regex). choice (derivative d p) z) (after_past q c d h.1 k l)
 after_past (star p) c d e k l = ap (λ (z : Regex). join z (star p)) (after_past p c d e k l)

@@ -1,24 +1,9 @@
 -- The derivative means what it says, and a shape's texts are those that it accepts.
 use Rattle.std.proofs.Common.{◌≡◌, ℕ, Bool, true, false, cond, List, [], ◌∷◌, ◌++◌, ◌⊎◌, inl, inr, refl, sym, ap, subst, ◌∙◌}
+use Rattle.std.proofs.lemmas.Bool.{and_parts, or_cases, or_right}
 use Rattle.wave_wasm.specs.Lists.{AllOf}
-use Rattle.std.specs.Prelude.{◌&&◌, ◌||◌}
 use Rattle.wave_lex.specs.Regex.{Regex, nothing, empty, range, except, seq, alt, star, is_one_of, is_within, Matches, joined}
 use Rattle.wave_lex.specs.Derive.{nullable, join, choice, choice_right, derivative, derivative_by}
-
--- both are true where both at once are
-and_true : (a b : Bool) → (a && b) ≡ true → (a ≡ true) × (b ≡ true)
-and_true true b e = (refl, e)
-and_true false b e = cc
-
--- a true choice has a true side
-pub or_true : (a b : Bool) → (a || b) ≡ true → (a ≡ true) ⊎ (b ≡ true)
-or_true true b e = inl refl
-or_true false b e = inr e
-
--- a choice is true where its right side is
-or_true_right : (a b : Bool) → b ≡ true → (a || b) ≡ true
-or_true_right true b e = refl
-or_true_right false b e = e
 
 -- what joins to nothing is nothing
 append_nil_both : (x y : List ℕ) → x ++ y ≡ [] → (x ≡ []) × (y ≡ [])
@@ -31,9 +16,9 @@ empty_from nothing e = cc
 empty_from empty e = refl
 empty_from (range lo hi) e = cc
 empty_from (except cs) e = cc
-empty_from (seq p q) e = let h : (nullable p ≡ true) × (nullable q ≡ true) = and_true _ _ e in
+empty_from (seq p q) e = let h : (nullable p ≡ true) × (nullable q ≡ true) = and_parts _ _ e in
     ([], [], refl, empty_from p h.0, empty_from q h.1)
-empty_from (alt p q) e = elim (or_true (nullable p) (nullable q) e) [ inl h ↦ inl (empty_from p h) | inr h ↦ inr (empty_from q h) ]
+empty_from (alt p q) e = elim (or_cases (nullable p) (nullable q) e) [ inl h ↦ inl (empty_from p h) | inr h ↦ inr (empty_from q h) ]
 empty_from (star p) e = ([], refl, tt)
 
 -- what has the empty text may be empty
@@ -48,7 +33,7 @@ empty_into (seq p q) (x, y, e, hp, hq) =
     let b : nullable q ≡ true = empty_into q (subst (λ (z : List ℕ). Matches q z) n.1 hq) in
     rw (a, b) refl
 empty_into (alt p q) (inl h) = rw (empty_into p h) refl
-empty_into (alt p q) (inr h) = or_true_right (nullable p) (nullable q) (empty_into q h)
+empty_into (alt p q) (inr h) = or_right (nullable p) (nullable q) (empty_into q h)
 empty_into (star p) h = refl
 
 -- a text of the join is one of both in turn

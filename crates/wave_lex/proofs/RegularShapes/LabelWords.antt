@@ -5,7 +5,7 @@ use Rattle.std.specs.Int.{is_in_range}
 use Rattle.std.specs.Str.{IsAscii}
 use Rattle.std.specs.Char.{is_ascii_alphabetic}
 use Rattle.std.specs.List.{join_with_byte}
-use Rattle.std.proofs.lemmas.Bool.{or_left, or_right, or_cases}
+use Rattle.std.proofs.lemmas.Bool.{or_left, or_right, or_cases, and_parts}
 use Rattle.std.proofs.lemmas.Bool.Decides.{nat_tests}
 use Rattle.std.proofs.lemmas.List.{append-nil}
 use Rattle.std.proofs.lemmas.Str.{IsAscii-append}
@@ -17,7 +17,7 @@ use Rattle.wave_lex.specs.Tokens.{some, digit, label_or_keyword, first_word, nex
 use Rattle.wave_lex.specs.Labels.{IsLabel}
 use Rattle.wave_lex.specs.Tokenization.{IsToken}
 use Rattle.wave_lex.specs.LabelWords.{IsLowerOrDigit, IsUpperOrDigit, IsWord, BeginsWithLetter, IsJoinedWords, LabelsAreWords, LabelTokensAreLabels}
-use Rattle.wave_lex.proofs.RegularShapes.Comparisons.{and_true, one_is}
+use Rattle.wave_lex.proofs.RegularShapes.Comparisons.{one_is}
 
 -- a scalar of a range of ASCII is ASCII
 below : (lo hi c : ℕ) → nat_lt hi 128 ≡ true → is_within lo hi c ≡ true → c < 128
@@ -214,10 +214,10 @@ ascii_text empty s a m = subst IsAscii (sym m) IsAscii-nil
 ascii_text (range lo hi) s a (c, e, t) = subst IsAscii (sym e) (IsAscii-cons c [] (below lo hi c a t) IsAscii-nil)
 ascii_text (except cs) s a m = cc
 ascii_text (seq p q) s a (x, y, e, m, n) =
-    let b : (only_ascii p ≡ true) × (only_ascii q ≡ true) = and_true _ _ a in
+    let b : (only_ascii p ≡ true) × (only_ascii q ≡ true) = and_parts _ _ a in
     subst IsAscii (sym e) (IsAscii-append x y (ascii_text p x b.0 m) (ascii_text q y b.1 n))
-ascii_text (alt p q) s a (inl m) = ascii_text p s (and_true (only_ascii p) (only_ascii q) a).0 m
-ascii_text (alt p q) s a (inr m) = ascii_text q s (and_true (only_ascii p) (only_ascii q) a).1 m
+ascii_text (alt p q) s a (inl m) = ascii_text p s (and_parts (only_ascii p) (only_ascii q) a).0 m
+ascii_text (alt p q) s a (inr m) = ascii_text q s (and_parts (only_ascii p) (only_ascii q) a).1 m
 ascii_text (star p) s a (parts, e, each) = subst IsAscii (sym e) (ascii_joined (Matches p) (λ x m. ascii_text p x a m) parts each)
 
 -- a text of the class is spelled by itself

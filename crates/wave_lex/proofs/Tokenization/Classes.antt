@@ -1,7 +1,7 @@
 -- The first scalar of a token determines its class.
 use Rattle.std.proofs.Common.{◌≡◌, ℕ, ◌≤◌, ◌<◌, ◌≢◌, get_or, Bool, true, false, nat_eq, List, [], ◌∷◌, ◌++◌, inl, inr, refl, sym, ap, subst, ◌∙◌, length, take, drop, arith, Option, Some, None, append_assoc, length-take-le}
 use Rattle.std.specs.Prelude.{◌||◌, encode_utf8, encode_utf8_all, if◌then◌else◌}
-use Rattle.std.proofs.lemmas.Bool.{cases_lt, eqb-true}
+use Rattle.std.proofs.lemmas.Bool.{cases_lt, eqb-true, or_cases}
 use Rattle.std.proofs.lemmas.List.{take-append-drop}
 use Rattle.std.proofs.lemmas.Str.{encode_same}
 use Rattle.wave_lex.specs.declared.lex.Token.{Token}
@@ -11,7 +11,7 @@ use Rattle.wave_lex.specs.Derive.{nullable, derivative}
 use Rattle.wave_lex.specs.Tokens.{shape, word, string}
 use Rattle.wave_lex.specs.Tokenization.{three_quotes, MayStandAt, IsToken}
 use Rattle.wave_lex.specs.Classes.{class_of, ClassAt}
-use Rattle.wave_lex.proofs.RegularShapes.Derivatives.{after_into, empty_into, or_true}
+use Rattle.wave_lex.proofs.RegularShapes.Derivatives.{after_into, empty_into}
 use Rattle.wave_lex.proofs.RegularShapes.Comparisons.{same, same_true, each_below, each_below_at, is_ascii_shape, after_past, one_is}
 
 -- a number for each class
@@ -97,7 +97,7 @@ class_shown : (d : Token) (x : ℕ) (ds : List ℕ) → Matches (derivative x (s
 class_shown d x ds h =
     let w = begins_computed d in
     elim (cases_lt x 129) as (λ _. class_of x ≡ Some (group d)) [
-      | inl l ↦ elim (or_true (same (derivative x (shape d)) nothing) (shows (class_of x) (group d)) (each_below_at 129 x (begins_right d) w.0 l)) as (λ _. class_of x ≡ Some (group d)) [
+      | inl l ↦ elim (or_cases (same (derivative x (shape d)) nothing) (shows (class_of x) (group d)) (each_below_at 129 x (begins_right d) w.0 l)) as (λ _. class_of x ≡ Some (group d)) [
         | inl e ↦ absurd (subst (λ (z : Regex). Matches z ds) (same_true _ _ e) h)
         | inr e ↦ shows_true _ _ e
       ]

@@ -3,6 +3,7 @@ use Rattle.std.proofs.Common.{◌≡◌, ℕ, ◌≤◌, ◌<◌, ◌+◌, ◌/�
 use Rattle.std.specs.Fmt.{decimal}
 use Rattle.std.proofs.lemmas.Fmt.{decimal_by_steps}
 use Rattle.std.proofs.lemmas.Bool.Decides.{nat_tests}
+use Rattle.std.proofs.lemmas.Bool.{and_parts}
 use Rattle.wave_lex.specs.declared.machine.number.NumberState.{NumberState}
 use Rattle.wave_lex.specs.declared.machine.number.NumberState.TheVariants as state
 use Rattle.wave_lex.specs.Regex.{Matches}
@@ -10,7 +11,6 @@ use Rattle.wave_lex.specs.Derive.{nullable, derivative, derivative_by, after_nex
 use Rattle.wave_lex.specs.Tokens.{number}
 use Rattle.wave_lex.specs.Machines.{number_rest, number_step}
 use Rattle.wave_lex.proofs.RegularShapes.Derivatives.{matches_from}
-use Rattle.wave_lex.proofs.RegularShapes.Comparisons.{and_true}
 use Rattle.wave_lex.proofs.LongestPrefix.ByComputing.{is_ascii}
 use Rattle.wave_lex.proofs.LongestPrefix.MachineWalks.{after_all_append}
 use Rattle.wave_lex.proofs.Machines.Steps.{number_steps}
@@ -25,7 +25,7 @@ record IsDecimal (n : ℕ) (ds : List ℕ) : Type 0 where
 ascii_more : (ds : List ℕ) (b : ℕ) → nat_lt b 128 ≡ true → is_ascii ds ≡ true → is_ascii (ds ++ b ∷ []) ≡ true
 ascii_more [] b small h = rw small refl
 ascii_more (d ∷ ds) b small h =
-    let p : (nat_lt d 128 ≡ true) × (is_ascii ds ≡ true) = and_true _ _ h in rw (p.0, ascii_more ds b small p.1) refl
+    let p : (nat_lt d 128 ≡ true) × (is_ascii ds ≡ true) = and_parts _ _ h in rw (p.0, ascii_more ds b small p.1) refl
 
 one_digit : (n : ℕ) → n < 10 → IsDecimal n ((48 + n) ∷ [])
 one_digit n l = record {

@@ -1,7 +1,7 @@
 -- A mark is told by its byte.
 use Rattle.std.proofs.Common.{◌≡◌, ℕ, ◌<◌, ◌≢◌, get_or, List, [], ◌∷◌, ◌++◌, sym, ap, subst, ◌∙◌, length, drop, arith, nat_eq, true, false, inl, inr, refl, Option, Some, None}
 use Rattle.std.specs.Prelude.{◌-◌, ◌||◌, IfSome, codes, encode_utf8}
-use Rattle.std.proofs.lemmas.Bool.{eqb-true}
+use Rattle.std.proofs.lemmas.Bool.{eqb-true, or_cases}
 use Rattle.std.proofs.lemmas.Str.{encode_ascii}
 use Rattle.wave_lex.specs.declared.lex.TheConstants.{MARKS}
 use Rattle.wave_lex.specs.declared.lex.Token.{Token}
@@ -12,7 +12,6 @@ use Rattle.wave_lex.specs.Tokens.{shape, one}
 use Rattle.wave_lex.specs.Tokenization.{MayStandAt, IsLongestToken}
 use Rattle.wave_lex.specs.Classes.{class_of, ClassAt}
 use Rattle.wave_lex.specs.Private.Reading.{IsMark, IsFirstMark}
-use Rattle.wave_lex.proofs.RegularShapes.Derivatives.{or_true}
 use Rattle.wave_lex.proofs.Tokenization.Classes.{class_here, not_quoted}
 use Rattle.wave_lex.proofs.QuickScan.ByteRuns.{mark_here, no_gap}
 use Rattle.wave_lex.proofs.RegularShapes.Comparisons.{each_below_at}
@@ -24,7 +23,7 @@ mark_numbered d = get_or (codes "{}()[]:,") (d - 48) 0
 -- the table has a digit at the mark that it numbers alone, by computing
 pub numbered : (b d : ℕ) → b < 256 → get_or MARKS b 0 ≡ d → nat_eq d 46 ≡ false → b ≡ mark_numbered d
 numbered b d l e f =
-    elim (or_true (nat_eq (get_or MARKS b 0) 46) (nat_eq b (mark_numbered (get_or MARKS b 0))) (each_below_at 256 b (λ (k : ℕ). nat_eq (get_or MARKS k 0) 46 || nat_eq k (mark_numbered (get_or MARKS k 0))) refl l)) as (λ _. b ≡ mark_numbered d) [
+    elim (or_cases (nat_eq (get_or MARKS b 0) 46) (nat_eq b (mark_numbered (get_or MARKS b 0))) (each_below_at 256 b (λ (k : ℕ). nat_eq (get_or MARKS k 0) 46 || nat_eq k (mark_numbered (get_or MARKS k 0))) refl l)) as (λ _. b ≡ mark_numbered d) [
       | inl t ↦ let wrong : true ≡ false = sym t ∙ (ap (λ (z : ℕ). nat_eq z 46) e ∙ f) in cc
       | inr t ↦ eqb-true _ _ t ∙ ap mark_numbered e
     ]

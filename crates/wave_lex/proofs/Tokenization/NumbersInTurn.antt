@@ -2,7 +2,7 @@
 use Rattle.std.proofs.Common.{◌≡◌, ℕ, ◌<◌, ◌≢◌, get_or, nat_eq, true, false, List, ◌++◌, ◌+◌, sym, ap, subst, ◌∙◌, length, drop, arith, inl, inr, refl, Some}
 use Rattle.std.specs.Prelude.{◌||◌, not, encode_utf8}
 use Rattle.std.specs.Str.{IsUtf8, IsCharBoundary}
-use Rattle.std.proofs.lemmas.Bool.{eqb-true}
+use Rattle.std.proofs.lemmas.Bool.{eqb-true, or_cases}
 use Rattle.std.proofs.lemmas.List.{drop-drop}
 use Rattle.std.proofs.lemmas.Str.{encode_ascii, IsUtf8-drop}
 use Rattle.wave_lex.specs.declared.lex.Token.{Token}
@@ -18,19 +18,18 @@ use Rattle.wave_lex.specs.Private.Reading.{IsNumberBehindComma}
 use Rattle.wave_lex.proofs.LongestPrefix.MachineWalks.{front_boundary}
 use Rattle.wave_lex.proofs.RegularShapes.Comparisons.{each_below_at}
 use Rattle.wave_lex.proofs.QuickScan.ByteRuns.{digit_ascii}
-use Rattle.wave_lex.proofs.RegularShapes.Derivatives.{or_true}
 use Rattle.wave_lex.proofs.Tokenization.Classes.{class_here, not_quoted, shows, shows_true}
 use Rattle.wave_lex.proofs.Tokenization.LexerSteps.{stands_behind, stands_next}
 use Rattle.wave_lex.proofs.Tokenization.Marks.{first_then}
 
 -- such a byte is ASCII
 begin_ascii : (m : ℕ) → begins_number m ≡ true → m < 128
-begin_ascii m e = elim (or_true (nat_eq m 45) (is_digit m) e) as (λ _. m < 128) [ inl t ↦ let same = eqb-true m 45 t in omega arith | inr t ↦ digit_ascii m t ]
+begin_ascii m e = elim (or_cases (nat_eq m 45) (is_digit m) e) as (λ _. m < 128) [ inl t ↦ let same = eqb-true m 45 t in omega arith | inr t ↦ digit_ascii m t ]
 
 -- it shows a number, by computing
 begin_class : (m : ℕ) → begins_number m ≡ true → Some Number ≡ class_of m
 begin_class m e =
-    elim (or_true (not (begins_number m)) (shows (class_of m) Number) (each_below_at 128 m (λ (k : ℕ). not (begins_number k) || shows (class_of k) Number) refl (begin_ascii m e))) as (λ _. Some Number ≡ class_of m) [
+    elim (or_cases (not (begins_number m)) (shows (class_of m) Number) (each_below_at 128 m (λ (k : ℕ). not (begins_number k) || shows (class_of k) Number) refl (begin_ascii m e))) as (λ _. Some Number ≡ class_of m) [
       | inl t ↦ let wrong : false ≡ true = ap not (sym e) ∙ t in cc
       | inr t ↦ sym (shows_true _ _ t)
     ]

@@ -1,7 +1,7 @@
 -- Where the text of a token ends: what follows goes on with no longer text of its shape.
 use Rattle.std.proofs.Common.{◌≡◌, ℕ, ◌≤◌, ◌<◌, Bool, true, false, nat_eq, nat_lt, zero, suc, List, [], ◌∷◌, ◌++◌, ◌⊎◌, inl, inr, Option, Some, None, refl, sym, ap, subst, ◌∙◌, length, take, drop, arith, append_assoc, length-append, length-take-le}
 use Rattle.std.specs.Prelude.{◌&&◌, ◌||◌, encode_utf8, encode_utf8_all}
-use Rattle.std.proofs.lemmas.Bool.{cases_lt, eqb-true, ltb-true}
+use Rattle.std.proofs.lemmas.Bool.{cases_lt, eqb-true, ltb-true, or_cases, and_parts}
 use Rattle.std.proofs.lemmas.List.{take-append-drop}
 use Rattle.std.proofs.lemmas.Str.{encode_same, encode_ascii, len_utf8_bounds, length-encode}
 use Rattle.std.proofs.Math.Seq.{take-append_seam}
@@ -12,8 +12,8 @@ use Rattle.wave_lex.specs.LongestMatch.{IsPrefixOf}
 use Rattle.wave_lex.specs.Tokens.{shape, gap}
 use Rattle.wave_lex.specs.Tokenization.{MayStandAt, IsToken, IsLongestToken, IsGap}
 use Rattle.wave_lex.specs.Classes.{class_of}
-use Rattle.wave_lex.proofs.RegularShapes.Derivatives.{matches_from, matches_into, after_into, after_from, empty_into, or_true}
-use Rattle.wave_lex.proofs.RegularShapes.Comparisons.{and_true, same, same_true, each_below_at, after_past}
+use Rattle.wave_lex.proofs.RegularShapes.Derivatives.{matches_from, matches_into, after_into, after_from, empty_into}
+use Rattle.wave_lex.proofs.RegularShapes.Comparisons.{same, same_true, each_below_at, after_past}
 use Rattle.wave_lex.proofs.LongestPrefix.MachineWalks.{after_all_append, after_all_nothing}
 use Rattle.wave_lex.proofs.Tokenization.Classes.{group, token_shows, shape_not_empty}
 use Rattle.wave_lex.proofs.Tokenization.OneCut.{one_class}
@@ -88,7 +88,7 @@ is_none (Some c) = false
 token_no_gap : (x : ℕ) (c : Token) → class_of x ≡ Some c → derivative x gap ≡ nothing
 token_no_gap x c e =
     elim (cases_lt x 129) as (λ _. derivative x gap ≡ nothing) [
-      | inl l ↦ elim (or_true (same (derivative x gap) nothing) (is_none (class_of x)) (each_below_at 129 x (λ z. same (derivative z gap) nothing || is_none (class_of z)) refl l)) as (λ _. derivative x gap ≡ nothing) [
+      | inl l ↦ elim (or_cases (same (derivative x gap) nothing) (is_none (class_of x)) (each_below_at 129 x (λ z. same (derivative z gap) nothing || is_none (class_of z)) refl l)) as (λ _. derivative x gap ≡ nothing) [
         | inl f ↦ same_true _ _ f
         | inr f ↦ let wrong : false ≡ true = sym (ap is_none e) ∙ f in cc
       ]
@@ -141,8 +141,8 @@ all_pass p (b ∷ bs) = p b && all_pass p bs
 pub passes : (p : ℕ → Bool) (bs : List ℕ) (b : ℕ) → all_pass p bs ≡ true → is_one_of b bs ≡ true → p b ≡ true
 passes p [] b h e = cc
 passes p (d ∷ ds) b h e =
-    let k : (p d ≡ true) × (all_pass p ds ≡ true) = and_true _ _ h in
-    elim (or_true (nat_eq b d) (is_one_of b ds) e) as (λ _. p b ≡ true) [
+    let k : (p d ≡ true) × (all_pass p ds ≡ true) = and_parts _ _ h in
+    elim (or_cases (nat_eq b d) (is_one_of b ds) e) as (λ _. p b ≡ true) [
       | inl f ↦ let same : b ≡ d = eqb-true b d f in subst (λ (z : ℕ). p z ≡ true) (sym same) k.0
       | inr f ↦ passes p ds b k.1 f
     ]

@@ -16,6 +16,7 @@ use Rattle.wave_read.specs.PlainReading.{IsReadSparing}
 use Rattle.wave_read.specs.Reading.{IsReadAs}
 use Rattle.wave_read.specs.KeptParts.{AreKeptWhereDue, AreOfType}
 use Rattle.wave_grammar.specs.NodeParts.{IsOfParts}
+use Rattle.wave_grammar.proofs.ByKind.Tuples.{as_shown}
 use Rattle.wave_read.specs.PartsOfKinds.{AreDoomedAtOnce, IsSimpleAt, AreParts}
 use Rattle.wave_read.specs.TupleParts.{IsRow}
 use Rattle.wave_read.specs.declared.parts.Partial.TheVariants as parts
@@ -23,7 +24,6 @@ use Rattle.wave_read.specs.declared.tuples.TupleItems.{TupleItems}
 use Rattle.wave_read.specs.declared.values.Frame.{Frame}
 use Rattle.wave_read.proofs.PayloadReading.FlatValues.{flat_refused}
 use Rattle.wave_read.proofs.ItemReading.Tuples.{count_refused}
-use Rattle.wave_grammar.proofs.ByKind.Tuples.{as_shown}
 
 module _ {S V : Type 0} (type_tree : S → TypeTree) (tree : V → Value) (of : V → TypeTree → Type 0) (Full : TypeTree → Type 0) (w : Order) (source : List ℕ) (place : Range ℕ) (children : List NodeTree) (row : TupleItems S V) (e : Diagnostic) where
   row_told : (T : TypeTree) (ty : NodeType) → (ty ≡ kind.Tuple) × IsRow type_tree tree of Full w T source [] row → length children ≢ length row.types.items → refusal_of e ≡ caused (wrong_number (length row.types.items) (length children)) → e.span ≡ place → IsReadAs tree of Full by_type w T source (node ty place (node_trees children)) (Err e)

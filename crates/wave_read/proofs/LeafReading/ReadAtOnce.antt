@@ -1,7 +1,8 @@
 -- Values of one token that are read and made at once.
-use Rattle.std.proofs.Common.{ℕ, ℤ, ◌≡◌, ◌≢◌, ◌++◌, inl, Bool, true, false, nat_eq, List, [], ◌∷◌, Option, Some, None, Result, Ok, refl, sym, ap, subst, ◌∙◌}
-use Rattle.std.specs.Prelude.{◌||◌, IfOk, IfErr, IfSome}
+use Rattle.std.proofs.Common.{ℕ, ℤ, ◌≡◌, ◌≢◌, ◌++◌, inl, Bool, false, nat_eq, List, [], ◌∷◌, Option, Some, None, Result, Ok, refl, sym, ap, subst, ◌∙◌}
+use Rattle.std.specs.Prelude.{IfOk, IfErr, IfSome}
 use Rattle.std.specs.List.{list_any}
+use Rattle.std.proofs.lemmas.Bool.{or_parts}
 use Rattle.wave_wasm.specs.Types as type
 use Rattle.wave_wasm.specs.Types.{TypeTree, Whole, whole_kind, simple_kind, kind_of}
 use Rattle.wave_wasm.specs.Values as value
@@ -34,10 +35,6 @@ use Rattle.wave_read.proofs.LeafReading.SimpleTypes.{read_at_kind}
 abbrev pub is_backslash : ℕ → Bool
 is_backslash b = nat_eq b 92
 
-either : (a b : Bool) → (a || b) ≡ false → (a ≡ false) × (b ≡ false)
-either true b e = cc
-either false b e = (refl, e)
-
 not_it : (b : ℕ) → is_backslash b ≡ false → b ≢ 92
 not_it b e same = cc (sym e ∙ ap is_backslash same)
 
@@ -45,7 +42,7 @@ not_it b e same = cc (sym e ∙ ap is_backslash same)
 plain_decodes : (s : List ℕ) → list_any is_backslash s ≡ false → Decodes s s
 plain_decodes [] none = ([], (refl, refl))
 plain_decodes (b ∷ s) none =
-    let apart = either (is_backslash b) (list_any is_backslash s) none in
+    let apart = or_parts (is_backslash b) (list_any is_backslash s) none in
     plain_from b s (b ∷ s) (not_it b apart.0) (s, refl, plain_decodes s apart.1)
 
 -- a string without a `\` between its quotes stands for what stands there

@@ -11,6 +11,7 @@ use Rattle.wave_grammar.specs.NodeAccessors.{node_pairs}
 use Rattle.wave_grammar.specs.TypedReading.{IsValueOf}
 use Rattle.wave_grammar.specs.declared.form.NodeType.TheVariants as kind
 use Rattle.wave_grammar.proofs.ByKind.Lists.{HasAt}
+use Rattle.wave_grammar.proofs.ByKind.Tuples.{all_has}
 use Rattle.wave_grammar.proofs.ChildNodes.Inside.{inside, AreParsed, parsed, nodes_in, some_is}
 use Rattle.wave_grammar.proofs.ChildNodes.Trees.{list_of_trees}
 use Rattle.wave_grammar.proofs.ChildNodes.Cases.{shape_at}
@@ -20,7 +21,6 @@ use Rattle.wave_grammar.proofs.Fields.Lookup.{entry_has}
 use Rattle.wave_grammar.proofs.ErrorSpans.Nodes.{PairBelongs, entries_belong}
 use Rattle.wave_read.specs.RecordParts.{last_key}
 use Rattle.wave_read.proofs.RecordReading.Fields.{has_behind}
-use Rattle.wave_grammar.proofs.ByKind.Tuples.{all_has}
 
 -- ---- keys
 

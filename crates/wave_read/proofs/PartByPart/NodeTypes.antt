@@ -12,6 +12,7 @@ use Rattle.wave_grammar.specs.NodeParts.{IsOfParts}
 use Rattle.wave_grammar.specs.NodeTree.{NodeTree, node, node_trees}
 use Rattle.wave_grammar.specs.declared.form.NodeType.{NodeType}
 use Rattle.wave_grammar.specs.declared.form.NodeType.TheVariants as node_type
+use Rattle.wave_grammar.proofs.ByKind.Tuples.{as_shown, counted}
 use Rattle.wave_read.specs.Leaves.{IsSimpleOrUnreadable}
 use Rattle.wave_read.specs.PlainReading.{IsReadSparing}
 use Rattle.wave_read.specs.Faults.{IsOfKind, Tells}
@@ -25,7 +26,6 @@ use Rattle.wave_read.specs.declared.parts.Partial.{Partial}
 use Rattle.wave_read.specs.declared.parts.Partial.TheVariants as parts
 use Rattle.wave_read.specs.declared.tuples.TupleItems.{TupleItems}
 use Rattle.wave_read.specs.declared.values.Frame.{Frame}
-use Rattle.wave_grammar.proofs.ByKind.Tuples.{as_shown, counted}
 
 -- the flat payload's type is one
 one_flat : (T U W : TypeTree) (ty : NodeType) → IsFlatAt T ty U → IsFlatAt T ty W → U ≡ W

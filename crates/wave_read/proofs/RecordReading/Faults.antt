@@ -24,6 +24,7 @@ use Rattle.wave_grammar.proofs.ByKind.Lists.{HasAt}
 use Rattle.wave_grammar.proofs.ChildNodes.Inside.{inside}
 use Rattle.wave_grammar.proofs.Fields.Entries.{fields_of_entries, other_fault}
 use Rattle.wave_grammar.proofs.ByKind.Leaves.{said}
+use Rattle.wave_grammar.proofs.ByKind.Tuples.{all_has}
 use Rattle.wave_grammar.proofs.Fields.FieldOrder.{full_at}
 use Rattle.wave_grammar.proofs.Fields.EntryOrder.{AreReadAt, key_blamed, unknown_label, value_blamed}
 use Rattle.wave_grammar.proofs.Fields.Reading.{RecordType, record_is, names_are, fields_distinct}
@@ -31,7 +32,6 @@ use Rattle.wave_grammar.proofs.ErrorSpans.Nodes.{deeper, at_in, form_at, refused
 use Rattle.wave_read.specs.Reading.{IsReadAs}
 use Rattle.wave_read.specs.RecordParts.{last_key}
 use Rattle.wave_read.proofs.MapReading.KeyedChildren.{StandsBehind, key_stands, value_stands, entry_stands, pair_belongs}
-use Rattle.wave_grammar.proofs.ByKind.Tuples.{all_has}
 
 -- the entry of a label has its name
 entry_for : (source : List ℕ) (n : NodeTree) (t : SpannedTree) (children : List NodeTree) (k v : NodeTree) (is : IsNodeOf source n t) (set : type_of n ≡ kind.TupleSet) (here : StandsBehind n children k v) → type_of k ≡ kind.Label → IsFor (name_of (node_text source k)) (entry_stands source n t children k v is set here).0

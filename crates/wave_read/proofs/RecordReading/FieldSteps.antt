@@ -22,6 +22,7 @@ use Rattle.wave_grammar.specs.NodeAccessors.{node_text, node_pairs}
 use Rattle.wave_grammar.specs.NodeFields.{IsLabelled, field_of, fields_at}
 use Rattle.wave_grammar.specs.declared.form.NodeType.TheVariants as kind
 use Rattle.wave_grammar.proofs.ByKind.Lists.{HasAt}
+use Rattle.wave_grammar.proofs.ByKind.Tuples.{map_has, all_has}
 use Rattle.wave_grammar.proofs.Fields.Lookup.{all_last, map_last, not_found}
 use Rattle.wave_grammar.proofs.Fields.Reading.{RecordType, record_is, fields_distinct, names_are, look_has, all_from}
 use Rattle.wave_grammar.proofs.ErrorSpans.Nodes.{said_here}
@@ -39,7 +40,6 @@ use Rattle.wave_read.proofs.MapReading.KeyedChildren.{pairs_with_key, key_waits,
 use Rattle.wave_read.proofs.RecordReading.Faults.{key_dooms, unknown_dooms, value_dooms}
 use Rattle.wave_read.proofs.RecordReading.Fields.{has_got, one_of_fields, part_names, same_parts, same_names, kept_more, value_kept}
 use Rattle.wave_read.proofs.ReadErrors.HandedOn.{plain_says}
-use Rattle.wave_grammar.proofs.ByKind.Tuples.{map_has, all_has}
 
 module _ {V : Type 0} (tree : V → Value) (of : V → TypeTree → Type 0) (Full : TypeTree → Type 0) (w : Order) {S : Type 0} (type_tree : S → TypeTree) (T : TypeTree) (source : List ℕ) where
   -- what is said of fields speaks of their type, of them and of what is due alone

@@ -20,10 +20,10 @@ use Rattle.wave_grammar.proofs.ChildNodes.Inside.{From, Inside, inside, some_is,
 use Rattle.wave_grammar.proofs.ByKind.Lists.{trees_back}
 use Rattle.wave_grammar.proofs.ByKind.Options.{some_node, given_none}
 use Rattle.wave_grammar.proofs.ByKind.Results.{ok_node, err_node}
+use Rattle.wave_grammar.proofs.Fields.Entries.{not_record}
 use Rattle.wave_read.specs.PlainReading.{IsReadSparing}
 use Rattle.wave_read.specs.Flat.{IsFlatAt, ReadsNoRecord, IsCounted}
 use Rattle.wave_tree.proofs.NodeReading.Children.{as_long}
-use Rattle.wave_grammar.proofs.Fields.Entries.{not_record}
 
 -- a form that the type doesn't take is refused as such
 same_form : {A : Type 0} (f : Option A) (p : Range ℕ) (F G : A → Blame) (k : Refusal) (q : Range ℕ) → f ≡ None → OfForm f p F k q → OfForm f p G k q

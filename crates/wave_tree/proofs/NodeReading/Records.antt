@@ -33,6 +33,7 @@ use Rattle.wave_grammar.proofs.ByKind.MakerAnswers.{made}
 use Rattle.wave_wasm.proofs.Names.NameTests.{is_one, none_of}
 use Rattle.wave_grammar.proofs.ByKind.Lists.{HasAt}
 use Rattle.wave_grammar.proofs.ByKind.Tuples.{place_has, map_has}
+use Rattle.wave_grammar.proofs.ByKind.Enums.{none_one}
 use Rattle.wave_grammar.proofs.Fields.Lookup.{take_next, take_whole, map_last, eq_turn}
 use Rattle.wave_grammar.proofs.Fields.Entries.{AreFieldsOf, record_nodes, fields_of_entries, entry_found, some_map}
 use Rattle.wave_grammar.proofs.Fields.FieldOrder.{unknown_blamed}
@@ -41,7 +42,6 @@ use Rattle.wave_grammar.proofs.Fields.Reading.{RecordType, PartsDistinct, names_
 use Rattle.wave_grammar.proofs.ErrorSpans.Nodes.{BelongsTo, PairBelongs, entries_belong}
 use Rattle.wave_read.specs.Errors.{IsMadeOrMemory}
 use Rattle.wave_read.proofs.ReadErrors.HandedOn.{made_anew}
-use Rattle.wave_grammar.proofs.ByKind.Enums.{none_one}
 
 -- the name and the type at a place, where they are borrowed
 pub part_at : {S : Type 0} (type_tree : S → TypeTree) (xs : List (Bor (List ℕ) × Bor S)) (i : ℕ) (x : Bor (List ℕ) × Bor S) → i < length xs → x ≡ get_or xs i x → HasAt (shown_fields type_tree xs) i (x.0.now, type_tree x.1.now)

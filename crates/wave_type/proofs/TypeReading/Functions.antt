@@ -13,8 +13,8 @@ use Rattle.wave_type.specs.Private.TypeReading.{after, Reads, fields_read, type_
 use Rattle.wave_type.specs.Private.FunctionReading.{params_read, result_parts_read, results_read, signature_read, function_read}
 use Rattle.wave_type.proofs.TypeReading.Complete.{IsComplete, paren, name_stands, fields_all, after_other, onward_there, head_word, no_mark_word}
 use Rattle.wave_type.proofs.TypeTrees.Lists.{field_list-fields_of}
-use Rattle.wave_type.proofs.TypeReading.WholeTexts.{none_left}
 use Rattle.wave_type.proofs.TypeReading.Sound.{IsSound, onward_back, after_back, fields_back, read_sound}
+use Rattle.wave_type.proofs.TypeReading.WholeTexts.{none_left}
 
 abbrev pub Parts : Type 0
 Parts = List (List ℕ × TypeTree)

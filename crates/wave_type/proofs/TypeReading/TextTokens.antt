@@ -8,8 +8,8 @@ use Rattle.wave_lex.specs.Tokens.{invalid, shape}
 use Rattle.wave_wasm.specs.Names.{is_one_of}
 use Rattle.wave_lex.specs.Tokenization.{IsGap, IsLongestToken, IsInvalid, Lexed, Passes, NextIs, remainder_of}
 use Rattle.wave_lex.proofs.Tokenization.Classes.{shape_not_empty}
-use Rattle.wave_lex.proofs.Tokenization.LexerRuns.{passed_text, passed_rest}
 use Rattle.wave_lex.proofs.Tokenization.OneCut.{same_gap, no_token_left}
+use Rattle.wave_lex.proofs.Tokenization.LexerRuns.{passed_text, passed_rest}
 use Rattle.wave_lex.proofs.LongestPrefix.ByComputing.{front_positive}
 use Rattle.wave_type.specs.declared.tokens.Token.{Token as Piece}
 use Rattle.wave_type.specs.TypeSpelling.{Tokens, IsItem, IsCutInto}

@@ -1,9 +1,9 @@
 -- Texts of types, fields and cases with commas between, item by item.
 use Rattle.std.proofs.Common.{◌≡◌, ℕ, ◌+◌, ◌<◌, ◌≤◌, get_or, List, [], ◌∷◌, ◌++◌, map, length, take, ap, ◌∙◌, refl, sym, codes, append_assoc, String, string_bytes, Option}
-use Rattle.std.specs.Fmt.{decimal, HasWritten}
-use Rattle.std.specs.declared.fmt.Formatter.{Formatter}
 use Rattle.std.proofs.lemmas.Grind.{put_three}
+use Rattle.std.specs.Fmt.{decimal, HasWritten}
 use Rattle.std.specs.declared.alloc.Global.{Global}
+use Rattle.std.specs.declared.fmt.Formatter.{Formatter}
 use Rattle.wave_wasm.specs.Types.{TypeTree, fixed, types_of, fields_of, cases_of, maybe_type}
 use Rattle.wave_wasm.specs.Commas.{joined, behind_name}
 use Rattle.wave_wasm.specs.TypeText.{type_text, type_texts, field_texts, case_texts, payload_text}

@@ -21,6 +21,7 @@ use Rattle.wave_wasm.specs.declared.wasm.WasmValueError.{WasmValueError}
 use Rattle.wave_wasm.specs.declared.wasm.WasmValueError.TheVariants as error
 use Rattle.wave_wasm.proofs.Names.NameTests.{is_one, passes, none_of}
 use Rattle.wave_wasm.proofs.TypesOfValues.TypeOfKind.{formed_as}
+use Rattle.wave_type.proofs.TypeReading.PartSteps.{eq_turn}
 use Rattle.wave_value.specs.ValueModel.{name_at}
 use Rattle.wave_value.specs.Private.ValueModel.{Grows, FlagsFit}
 use Rattle.wave_value.specs.ConstructorRules.{Made}
@@ -29,7 +30,6 @@ use Rattle.wave_value.specs.Private.CaseRules.{MarksNames, MarksOneMore}
 use Rattle.wave_value.specs.Private.RecordConstructor.{held}
 use Rattle.wave_value.specs.CaseRules.{RefusesNames}
 use Rattle.wave_value.proofs.ValueModel.ContentMeaning.{one_of, flags_value}
-use Rattle.wave_type.proofs.TypeReading.PartSteps.{eq_turn}
 
 -- ---- marks
 

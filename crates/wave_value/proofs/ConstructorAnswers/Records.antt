@@ -34,9 +34,9 @@ use Rattle.wave_type.specs.TypeModel.{by_bytes, record_part}
 use Rattle.wave_value.specs.ValueModel.{first_names, trees, beside}
 use Rattle.wave_value.specs.Private.ValueModel.{FieldsAt, RecordFits}
 use Rattle.wave_type.proofs.TypeTrees.Lists.{field_list-fields_of}
+use Rattle.wave_type.proofs.TypeReading.PartSteps.{eq_turn}
 use Rattle.wave_value.proofs.ValueModel.Lists.{some_mapped}
 use Rattle.wave_value.proofs.ValueModel.ContentMeaning.{record_value}
-use Rattle.wave_type.proofs.TypeReading.PartSteps.{eq_turn}
 
 -- ---- the last value under each name
 

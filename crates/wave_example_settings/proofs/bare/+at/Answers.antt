@@ -1,7 +1,7 @@
 use Rattle.std.proofs.Common.{refl, sym, subst, ◌∙◌}
 use Rattle.wave_wasm.specs.HasType.{HasType}
-use Rattle.wave_example_settings.specs.BareTree.{tree}
 use Rattle.wave_value.proofs.ValueModel.Lists.{all_more, all_items}
+use Rattle.wave_example_settings.specs.BareTree.{tree}
 use Rattle.wave_example_settings.proofs.Lawful.{trees_at, is_list_at, is_fixed_at}
 use Rattle.wave_example_settings.proofs.bare.+at.Goals as goal
 

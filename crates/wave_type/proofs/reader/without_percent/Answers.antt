@@ -1,8 +1,7 @@
-use Rattle.std.proofs.Common.{◌≡◌, ℕ, zero, suc, ◌<◌, false, get_or, length, sym, ap, ◌∙◌, arith}
-use Rattle.std.specs.Prelude.{◌==◌}
+use Rattle.std.proofs.Common.{◌<◌, get_or, length, sym, ap, ◌∙◌, arith}
 use Rattle.std.proofs.lemmas.Str.{IsCharBoundary-after_ascii}
-use Rattle.wave_type.proofs.reader.without_percent.Goals as goal
 use Rattle.std.proofs.lemmas.Bool.Decides.{nat_tests}
+use Rattle.wave_type.proofs.reader.without_percent.Goals as goal
 
 pub range_from-requires : goal.range_from-requires
 range_from-requires c = λ _.

@@ -1,7 +1,7 @@
 use Rattle.std.proofs.Common.{rules, string_bytes}
 use Rattle.wave_wasm.proofs.Displays.JoinedTexts.{separator_more}
-use Rattle.wave_type.proofs.TypeTexts.JoinedTexts.{turn_written}
 use Rattle.wave_type.proofs.ty.display.write_names.Goals as goal
+use Rattle.wave_type.proofs.TypeTexts.JoinedTexts.{turn_written}
 
 pub loop-name-preserved : goal.loop-name-preserved
 loop-name-preserved g c =
