@@ -2,7 +2,7 @@ pub mod WrittenParts
 pub mod Sequences
 pub mod ValueParts
 pub mod Maps
-pub mod NumberRows
+pub mod Rows
 pub mod Records
 pub mod Flags
 pub mod Labels

@@ -4,7 +4,7 @@
 pub mod fingerprints;
 pub mod keyword;
 pub mod laws;
-pub(crate) mod numbers;
 pub(crate) mod plain;
+pub(crate) mod rows;
 pub mod wasm;
 pub mod writer;

@@ -1,8 +1,8 @@
 //! The canonical text of values.
 use crate::fingerprints::{all_differ, fingerprint};
 use crate::keyword::Keyword;
-use crate::numbers::{AT_ONCE, FEW, ROOM, fill_row};
 use crate::plain::plain_end;
+use crate::rows::{AT_ONCE, FEW, ROOM, fill_row};
 use crate::wasm::{WasmTypeKind, WasmValue};
 use itoa::{Buffer, Integer};
 use std::alloc::{AllocError, AllocFailed, Global};
@@ -218,7 +218,7 @@ impl<W: TextWrite> Writer<W> {
             return self.write_text(closing);
         };
         let front = items.as_slice();
-        let written = self.write_numbers(front)?;
+        let written = self.write_rows(front)?;
         for item in &front[written..] {
             self.write_value(alloc, *item)?;
             self.write_text(", ")?;
@@ -396,13 +396,13 @@ impl<W: TextWrite> Writer<W> {
         self.write_either(val, "true", "false")
     }
 
-    /// Writes the whole numbers at the beginning of the items, each before a comma, many at once, and
-    /// returns how many these are. It may leave some.
-    fn write_numbers<V: WasmValue>(&mut self, items: &[&V]) -> Result<usize, WriterError>
+    /// Writes short values at the beginning of the items, each before a comma, many at once, and returns how
+    /// many these are. It may leave some.
+    fn write_rows<V: WasmValue>(&mut self, items: &[&V]) -> Result<usize, WriterError>
         ensures within { IfOk result (λ n. n ≤ length items.now) }
         ensures ok { IfOk result
             (λ n. Appended (with_commas (map (λ v. text (V.tree v.now)) (take n items.now))) (W.output self.old) (W.output self.new)) }
-        ensures leaves { IfOk result (λ n. AllOf (λ v. IsLeaf (V.tree v.now)) (take n items.now)) }
+        ensures writable { IfOk result (λ n. AllOf (λ v. has_text (V.tree v.now) ≡ true) (take n items.now)) }
         ensures err { IfErr result
             (λ e. Refused (with_commas (map (λ v. text (V.tree v.now)) items.now)) true e (W.output self.old) (W.output self.new)) }
     {
@@ -417,13 +417,13 @@ impl<W: TextWrite> Writer<W> {
         Ok(at)
     }
 
-    /// Writes the items, each before a comma, where all are whole numbers, and returns whether they are.
+    /// Writes the items, each before a comma, where all are short, and returns whether they are. It may
+    /// leave them.
     #[inline(never)]
     fn write_row<V: WasmValue>(&mut self, items: &[&V]) -> Result<bool, WriterError>
-        requires { length items.now ≤ 16 }
         ensures ok { IfOk result
             (λ b. Appended (if b then with_commas (map (λ v. text (V.tree v.now)) items.now) else []) (W.output self.old) (W.output self.new)) }
-        ensures leaves { IfOk result (λ b. b ≡ true → AllOf (λ v. IsLeaf (V.tree v.now)) items.now) }
+        ensures writable { IfOk result (λ b. b ≡ true → AllOf (λ v. has_text (V.tree v.now) ≡ true) items.now) }
         ensures err { IfErr result
             (λ e. Refused (with_commas (map (λ v. text (V.tree v.now)) items.now)) true e (W.output self.old) (W.output self.new)) }
     {

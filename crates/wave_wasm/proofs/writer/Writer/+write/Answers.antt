@@ -9,7 +9,7 @@ use Rattle.wave_wasm.specs.Private.Text.{payload_text, has_payload_text}
 use Rattle.wave_wasm.specs.Values.{Value, maybe_value, depth, depth_of_maybe}
 use Rattle.wave_wasm.specs.Private.Values.{IsLeaf}
 use Rattle.wave_wasm.proofs.CanonicalText.WrittenParts.{writing_more, writing_refused, writing_refused_text, start_refused, start_written, writing_as, writing_none, refused_before, refused_grounded, refused_unsupported, writing_last, nothing_written}
-use Rattle.wave_wasm.proofs.CanonicalText.NumberRows.{writing_rest, refused_rows, rest_writable, rest_item, leaf_writable}
+use Rattle.wave_wasm.proofs.CanonicalText.Rows.{writing_rest, refused_rows, rest_writable, rest_item}
 use Rattle.wave_wasm.proofs.CanonicalText.Sequences.{writing_start, writing_close, item_blocks, item_passes, items_pass, part_depth, all_at, writing_front_start, writing_front, writing_front_close, front_split, front_writable, front_blocks, front_passes, last_decides, front_depth, last_depth, none_taken}
 use Rattle.wave_wasm.proofs.CanonicalText.ValueParts.{map_map, all_map, list_sequence, tuple_sequence, record_is, variant_text, variant_writable, ok_text, ok_writable, err_text, err_writable, no_text_of_kind, of_list_kind}
 use Rattle.wave_wasm.proofs.TypesOfValues.MatchedKinds.{leaf_of}
@@ -47,7 +47,7 @@ write_items-loop-item-init g t c =
     let w = writing_front_start f c.args.items.items ys c.in-Some.last _ _ (ap (λ z. enclosed c.args.opening.now z c.args.closing.now) (map_map text tree c.args.items.items)) split c.in_ok-write_text.ensures.ok in
     record {
       writing = writing_rest f ys c.in_ok-written.written _ _ w c.in_ok-written.ensures.ok;
-      writable = ap (λ b. b && ok c.in-Some.last) (rest_writable ok _ (λ v. leaf_writable (tree v)) ys c.in_ok-written.written c.in_ok-written.ensures.leaves) ∙ sym (all_map has_text tree c.args.items.items ∙ (ap (list_all ok) split ∙ front_writable ok ys c.in-Some.last));
+      writable = ap (λ b. b && ok c.in-Some.last) (rest_writable ok ys c.in_ok-written.written c.in_ok-written.ensures.writable) ∙ sym (all_map has_text tree c.args.items.items ∙ (ap (list_all ok) split ∙ front_writable ok ys c.in-Some.last));
     }
 
 pub write_items-write_value-requires : goal.write_items-write_value-requires

@@ -1,10 +1,9 @@
 use Rattle.std.proofs.Common.{◌-◌, drop, arith, sym, subst}
 use Rattle.std.specs.Str.{IsUtf8}
 use Rattle.std.proofs.lemmas.List.{length-drop, take_all}
-use Rattle.std.proofs.lemmas.Str.{IsUtf8-from_ascii}
 use Rattle.wave_wasm.proofs.writer.Writer.write_row.Goals as goal
 
 pub from_utf8_unchecked-requires : goal.from_utf8_unchecked-requires
 from_utf8_unchecked-requires g c =
     let row = drop c.in-Some.start c.fill_row.new.room in
-    subst IsUtf8 (sym (take_all (368 - c.in-Some.start) row (omega (arith, c.fill_row.array_long, length-drop c.in-Some.start c.fill_row.new.room)))) (IsUtf8-from_ascii row c.in-Some.ensures.ascii)
+    subst IsUtf8 (sym (take_all (368 - c.in-Some.start) row (omega (arith, c.fill_row.array_long, length-drop c.in-Some.start c.fill_row.new.room)))) c.in-Some.ensures.utf8

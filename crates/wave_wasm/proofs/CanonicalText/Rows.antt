@@ -1,10 +1,13 @@
--- The texts of numbers in turn, each before a comma, at the end of a room.
-use Rattle.std.proofs.Common.{ℕ, ◌≡◌, ◌<◌, ◌≤◌, ◌+◌, ◌-◌, ◌*◌, ◌^◌, List, [], ◌∷◌, ◌++◌, Bool, true, false, refl, sym, ap, subst, ◌∙◌, length, take, drop, get_or, map, arith, codes, append_assoc, IsAscii, decimal}
+-- The texts of short values in turn, each before a comma, at the end of a room.
+use Rattle.std.proofs.Common.{ℕ, ◌≡◌, ◌<◌, inl, inr, ◌≤◌, ◌+◌, ◌-◌, ◌^◌, List, [], ◌∷◌, ◌++◌, Bool, true, false, refl, sym, ap, subst, ◌∙◌, length, take, drop, get_or, map, arith, codes, append_assoc, IsAscii, decimal}
 use Rattle.std.proofs.Math.Seq.{take-add}
 use Rattle.std.proofs.lemmas.Fmt.{IsAscii-decimal}
 use Rattle.std.proofs.lemmas.List.{append-nil, drop_all, get_or-drop, length-drop, map-append, take_all, take-append-drop}
-use Rattle.std.proofs.lemmas.Str.{IsAscii-append}
+use Rattle.std.proofs.lemmas.Bool.{cases_Bool}
+use Rattle.std.proofs.lemmas.Str.{IsUtf8-append, IsUtf8-from_ascii, IsUtf8-nil}
 use Rattle.std.proofs.lemmas.Str.Ascii.{IsAscii-nil, IsAscii-cons}
+use Rattle.std.specs.Str.{IsUtf8}
+use Rattle.wave_wasm.specs.Keywords.{case_label, is_keyword}
 use Rattle.wave_wasm.specs.Lists.{AllOf}
 use Rattle.wave_wasm.specs.WriterState.{Output, Appended, Refused}
 use Rattle.wave_wasm.specs.declared.writer.WriterError.{WriterError}
@@ -12,63 +15,84 @@ use Rattle.wave_wasm.specs.Private.Commas.{with_commas}
 use Rattle.std.specs.List.{list_all}
 use Rattle.std.specs.Prelude.{◌&&◌, Err}
 use Rattle.wave_wasm.specs.Private.Text.{whole_text}
-use Rattle.wave_wasm.specs.Private.Values.{IsLeaf}
 use Rattle.wave_wasm.specs.Private.WriterState.{Writes}
-use Rattle.wave_wasm.specs.Text.{has_text}
-use Rattle.wave_wasm.specs.Values.{Value}
+use Rattle.wave_wasm.specs.Text.{bool_text}
 use Rattle.wave_wasm.proofs.CanonicalText.Sequences.{at_end, at_item, fronted}
 use Rattle.wave_wasm.proofs.CanonicalText.WrittenParts.{Writing, start_written, writing_as, writing_more, writing_refused}
 
+-- ---- texts that are put into a row
+
+ascii_number : (negative : Bool) (distance : ℕ) → distance < 2 ^ 64 → IsAscii (whole_text negative distance)
+ascii_number false distance h = IsAscii-decimal distance h
+ascii_number true distance h = IsAscii-cons 45 (decimal distance) (omega arith) (IsAscii-decimal distance h)
+
+pub number_utf8 : (negative : Bool) (distance : ℕ) → distance < 2 ^ 64 → IsUtf8 (whole_text negative distance)
+number_utf8 negative distance h = IsUtf8-from_ascii (whole_text negative distance) (ascii_number negative distance h)
+
+pub bool_utf8 : (b : Bool) → IsUtf8 (bool_text b)
+bool_utf8 true = IsUtf8-from_ascii (codes "true") (IsAscii-cons 116 (codes "rue") (omega arith) (IsAscii-cons 114 (codes "ue") (omega arith) (IsAscii-cons 117 (codes "e") (omega arith) (IsAscii-cons 101 [] (omega arith) IsAscii-nil))))
+bool_utf8 false = IsUtf8-from_ascii (codes "false") (IsAscii-cons 102 (codes "alse") (omega arith) (IsAscii-cons 97 (codes "lse") (omega arith) (IsAscii-cons 108 (codes "se") (omega arith) (IsAscii-cons 115 (codes "e") (omega arith) (IsAscii-cons 101 [] (omega arith) IsAscii-nil)))))
+
+percent_utf8 : IsUtf8 (codes "%")
+percent_utf8 = IsUtf8-from_ascii (codes "%") (IsAscii-cons 37 [] (omega arith) IsAscii-nil)
+
+pub label_utf8 : (name : List ℕ) → IsUtf8 name → IsUtf8 (case_label name)
+label_utf8 name u = elim (cases_Bool (is_keyword name)) [
+  | inl t ↦ rw t (IsUtf8-append (codes "%") name percent_utf8 u)
+  | inr f ↦ rw f u
+]
+
+comma_utf8 : (rest : List ℕ) → IsUtf8 rest → IsUtf8 (codes ", " ++ rest)
+comma_utf8 rest u = IsUtf8-append (codes ", ") rest (IsUtf8-from_ascii (codes ", ") (IsAscii-cons 44 (32 ∷ []) (omega arith) (IsAscii-cons 32 [] (omega arith) IsAscii-nil))) u
+
+-- ---- a row
+
 -- the room from start on has the texts of the last n of the items
 pub record Row {X : Type 0} (f : X → List ℕ) (P : X → Type 0) (items : List X) (n start : ℕ) (room : List ℕ) : Type 0 where
-  pub within : (start ≤ 368) × (368 ≤ start + 23 * n)
+  pub within : start ≤ 368
   pub row : drop start room ≡ with_commas (map f (drop (length items - n) items))
-  pub ascii : IsAscii (drop start room)
-  pub leaves : AllOf P (drop (length items - n) items)
-
-whole_ascii : (negative : Bool) (distance : ℕ) → distance < 2 ^ 64 → IsAscii (whole_text negative distance)
-whole_ascii false distance h = IsAscii-decimal distance h
-whole_ascii true distance h = IsAscii-cons 45 (decimal distance) (omega arith) (IsAscii-decimal distance h)
+  pub utf8 : IsUtf8 (drop start room)
+  pub each : AllOf P (drop (length items - n) items)
 
 -- none of them
 pub row_start : {X : Type 0} (f : X → List ℕ) (P : X → Type 0) (items : List X) (room : List ℕ) → length room ≡ 368 → Row f P items 0 368 room
 row_start f P items room long =
     let none : drop 368 room ≡ [] = drop_all 368 room (omega (arith, long)) in
     record {
-      within = (omega arith, omega arith);
+      within = omega arith;
       row = none ∙ sym (at_end (λ l. with_commas (map f l)) items (length items - 0) (omega arith));
-      ascii = subst IsAscii (sym none) IsAscii-nil;
-      leaves = subst (AllOf P) (sym (at_end (λ l. l) items (length items - 0) (omega arith))) tt;
+      utf8 = subst IsUtf8 (sym none) IsUtf8-nil;
+      each = subst (AllOf P) (sym (at_end (λ l. l) items (length items - 0) (omega arith))) tt;
     }
 
 -- one more before them
-pub row_more : {X : Type 0} (f : X → List ℕ) (P : X → Type 0) (items : List X) (n start : ℕ) (room : List ℕ) (x : X) (negative : Bool) (distance next : ℕ) (new : List ℕ) → Row f P items n start room → n < length items → x ≡ get_or items (length items - 1 - n) x → P x → f x ≡ whole_text negative distance → distance < 2 ^ 64 → drop next new ≡ whole_text negative distance ++ (codes ", " ++ drop start room) → (next ≤ start) × (start ≤ next + 23) → Row f P items (n + 1) next new
-row_more {X} f P items n start room x negative distance next new r lt is p t small w l =
+pub row_more : {X : Type 0} (f : X → List ℕ) (P : X → Type 0) (items : List X) (n start : ℕ) (room : List ℕ) (x : X) (next : ℕ) (new : List ℕ) → Row f P items n start room → n < length items → x ≡ get_or items (length items - 1 - n) x → P x → IsUtf8 (f x) → drop next new ≡ f x ++ (codes ", " ++ drop start room) → next ≤ start → Row f P items (n + 1) next new
+row_more {X} f P items n start room x next new r lt is p u w l =
     let k : ℕ = length items - 1 - n in
     let here : k ≡ length items - (n + 1) = omega arith in
     let behind : k + 1 ≡ length items - n = omega arith in
     let begins : drop (length items - (n + 1)) items ≡ x ∷ drop (length items - n) items = ap (λ i. drop i items) (sym here) ∙ (at_item (λ z. z) items k x (omega arith) is ∙ ap (λ i. x ∷ drop i items) behind) in
-    let text : drop next new ≡ with_commas (map f (x ∷ drop (length items - n) items)) = w ∙ (ap (λ z. z ++ (codes ", " ++ drop start room)) (sym t) ∙ ap (λ z. f x ++ (codes ", " ++ z)) r.row) in
+    let text : drop next new ≡ with_commas (map f (x ∷ drop (length items - n) items)) = w ∙ ap (λ z. f x ++ (codes ", " ++ z)) r.row in
     record {
-      within = (omega (arith, r.within, l.0), omega (arith, r.within, l.1));
+      within = omega (arith, r.within, l);
       row = text ∙ ap (λ z. with_commas (map f z)) (sym begins);
-      ascii = subst IsAscii (sym w) (IsAscii-append (whole_text negative distance) (codes ", " ++ drop start room) (whole_ascii negative distance small) (IsAscii-cons 44 (32 ∷ drop start room) (omega arith) (IsAscii-cons 32 (drop start room) (omega arith) r.ascii)));
-      leaves = subst (AllOf P) (sym begins) (p, r.leaves);
+      utf8 = subst IsUtf8 (sym w) (IsUtf8-append (f x) (codes ", " ++ drop start room) u (comma_utf8 (drop start room) r.utf8));
+      each = subst (AllOf P) (sym begins) (p, r.each);
     }
 
 -- ---- rows that are written
 
--- of the items the first ones are written, each before a comma, and all of them are of one token
+-- of the items the first ones are written, each before a comma, and P holds of these
 pub record Taken {X : Type 0} (f : X → List ℕ) (P : X → Type 0) (items : List X) (at : ℕ) (old now : Output) : Type 0 where
   pub within : at ≤ length items
   pub written : Appended (with_commas (map f (take at items))) old now
-  pub leaves : AllOf P (take at items)
+  pub each : AllOf P (take at items)
 
 pub taken_none : {X : Type 0} (f : X → List ℕ) (P : X → Type 0) (items : List X) (old : Output) → Taken f P items 0 old old
 taken_none f P items old = record {
   within = omega arith;
   written = record { written = sym (append-nil old.written); failures = refl };
-  leaves = tt;
+  each = tt;
 }
 
 commas_joined : (xs ys : List (List ℕ)) → with_commas (xs ++ ys) ≡ with_commas xs ++ with_commas ys
@@ -94,7 +118,7 @@ taken_more f P items at end row {old} {now} r le l is a h =
         written = a.written ∙ (ap (λ z. z ++ with_commas (map f row)) r.written.written ∙ (append_assoc old.written (with_commas (map f (take at items))) (with_commas (map f row)) ∙ ap (λ z. old.written ++ z) (sym text)));
         failures = a.failures ∙ r.written.failures;
       };
-      leaves = subst (AllOf P) (sym more) (all_joined P (take at items) row r.leaves h);
+      each = subst (AllOf P) (sym more) (all_joined P (take at items) row r.each h);
     }
 
 -- a row is refused
@@ -129,18 +153,14 @@ refused_rows f ys last close w r =
     let begins = ap (λ z. fronted z last ++ close) (sym (append-nil (map f ys))) ∙ (ap (λ z. z ++ close) (rows_fronted (map f ys) [] last) ∙ append_assoc (with_commas (map f ys)) last close) in
     writing_refused (last ++ close) (writing_as begins w) (λ h. cc) r
 
-all_of_first : {X : Type 0} (ok : X → Bool) (P : X → Type 0) → ((x : X) → P x → ok x ≡ true) → (xs ys : List X) → AllOf P xs → list_all ok ys ≡ list_all ok (xs ++ ys)
-all_of_first ok P good [] ys h = refl
-all_of_first ok P good (x ∷ xs) ys h = all_of_first ok P good xs ys h.1 ∙ ap (λ b. b && list_all ok (xs ++ ys)) (sym (good x h.0))
+all_of_first : {X : Type 0} (ok : X → Bool) (xs ys : List X) → AllOf (λ x. ok x ≡ true) xs → list_all ok ys ≡ list_all ok (xs ++ ys)
+all_of_first ok [] ys h = refl
+all_of_first ok (x ∷ xs) ys h = all_of_first ok xs ys h.1 ∙ ap (λ b. b && list_all ok (xs ++ ys)) (sym h.0)
 
 -- the others decide whether all can be written
-pub rest_writable : {X : Type 0} (ok : X → Bool) (P : X → Type 0) → ((x : X) → P x → ok x ≡ true) → (ys : List X) (n : ℕ) → AllOf P (take n ys) → list_all ok (take (length ys - n) (drop n ys)) ≡ list_all ok ys
-rest_writable ok P good ys n h = ap (list_all ok) (left_is ys n) ∙ (all_of_first ok P good (take n ys) (drop n ys) h ∙ ap (list_all ok) (take-append-drop n ys))
+pub rest_writable : {X : Type 0} (ok : X → Bool) (ys : List X) (n : ℕ) → AllOf (λ x. ok x ≡ true) (take n ys) → list_all ok (take (length ys - n) (drop n ys)) ≡ list_all ok ys
+rest_writable ok ys n h = ap (list_all ok) (left_is ys n) ∙ (all_of_first ok (take n ys) (drop n ys) h ∙ ap (list_all ok) (take-append-drop n ys))
 
 -- an item of the others, by its place among all
 pub rest_item : {X : Type 0} (ys : List X) (n i : ℕ) (x : X) → i < length (take (length ys - n) (drop n ys)) → x ≡ get_or (take (length ys - n) (drop n ys)) i x → (n + i < length ys) × (x ≡ get_or ys (n + i) x)
 rest_item ys n i x lt is = (omega (arith, ap length (left_is ys n), length-drop n ys), is ∙ (ap (λ l. get_or l i x) (left_is ys n) ∙ get_or-drop n ys i x))
-
--- a value of one token can be written
-pub leaf_writable : (v : Value) → IsLeaf v → has_text v ≡ true
-leaf_writable v h = ap has_text h.1

@@ -1,7 +1,7 @@
 use Rattle.std.proofs.Common.{◌+◌, arith, refl}
 use Rattle.std.proofs.lemmas.Result.{err_from_is_err_and}
-use Rattle.wave_wasm.proofs.CanonicalText.NumberRows.{taken_more, taken_refused}
-use Rattle.wave_wasm.proofs.writer.Writer.write_numbers.Goals as goal
+use Rattle.wave_wasm.proofs.CanonicalText.Rows.{taken_more, taken_refused}
+use Rattle.wave_wasm.proofs.writer.Writer.write_rows.Goals as goal
 
 pub returns-in_err-write_row-clause-err : goal.returns-in_err-write_row-clause-err
 returns-in_err-write_row-clause-err g c =
@@ -10,4 +10,4 @@ returns-in_err-write_row-clause-err g c =
 
 pub loop-at-preserved : goal.loop-at-preserved
 loop-at-preserved g c =
-    taken_more _ _ c.args.items.now c.loop-at.at (c.loop-at.at + c.min-count.result) _ c.loop-at.invariant (omega arith) (omega (arith, c.min-count.ensures, c.loop-at.invariant.within)) refl (rw c.if-not-branch.false at c.in_ok-write_row.ensures.ok) (c.in_ok-write_row.ensures.leaves c.if-not-branch.false)
+    taken_more _ _ c.args.items.now c.loop-at.at (c.loop-at.at + c.min-count.result) _ c.loop-at.invariant (omega arith) (omega (arith, c.min-count.ensures, c.loop-at.invariant.within)) refl (rw c.if-not-branch.false at c.in_ok-write_row.ensures.ok) (c.in_ok-write_row.ensures.writable c.if-not-branch.false)
