@@ -374,7 +374,7 @@ def deep(chance):
 class Case(NamedTuple):
     way: str
     kind: str
-    # the types of the value or of the parameters, and the text of the type or of the function; none where no type is due
+    # the types of the value or of the parameters, and the text of the type or of the function; none where no type is expected
     types: list
     spelled: str
     text: bytes
@@ -425,7 +425,7 @@ def made_call(chance, kind):
 
 
 def tokens_of(chance, way, kind):
-    """The types that are due, and the tokens of a text."""
+    """The types that are expected, and the tokens of a text."""
     if way in ("params", "call"):
         return made_call(chance, kind)
     ty, tokens = made(chance, kind)

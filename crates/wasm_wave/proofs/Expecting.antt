@@ -4,25 +4,25 @@ use Rattle.wave_tree.specs.declared.expected.Expected.{Expected}
 use Rattle.wasm_wave.specs.declared.explain.syntax.Reading.{Reading}
 use Rattle.wasm_wave.specs.declared.explain.syntax.Reading.TheVariants.{Value, Call}
 use Rattle.wave_tree.specs.Expected.{expected_words}
-use Rattle.wasm_wave.specs.ValueExplained.{expected_line, TellsExpected}
+use Rattle.wasm_wave.specs.ValueExplained.{expected_line, ReportsExpected}
 use Rattle.wasm_wave.specs.Private.Readings.{MayStandAs, TellsAs}
 
 -- the line says what may stand there
-pub told_as : (r : Reading) (source : List ℕ) (at : ℕ) (x : Expected) (lines : List ℕ) → MayStandAs r source at (Some x) → TellsExpected x lines → TellsAs r source at lines
-told_as Value source at x lines may told = (x, may, told)
-told_as Call source at x lines may told = inr (x, may, told)
+pub reported_as : (r : Reading) (source : List ℕ) (at : ℕ) (x : Expected) (lines : List ℕ) → MayStandAs r source at (Some x) → ReportsExpected x lines → TellsAs r source at lines
+reported_as Value source at x lines may reported = (x, may, reported)
+reported_as Call source at x lines may reported = inr (x, may, reported)
 
--- nothing is due where a call has no name
+-- nothing is expected where a call has no name
 pub none_as : (r : Reading) (source : List ℕ) (at : ℕ) (lines : List ℕ) → MayStandAs r source at None → TellsAs r source at lines
 none_as Value source at lines never = absurd never
 none_as Call source at lines unnamed = inl unnamed
 
 -- further lines change nothing
-more_told : (x : Expected) (lines more : List ℕ) → TellsExpected x lines → TellsExpected x (lines ++ more)
-more_told x lines more (inl nothing) = inl nothing
-more_told x lines more (inr (rest, is)) = inr (rest ++ more, ap (λ t. t ++ more) is ∙ append_assoc (expected_line (expected_words x.classes.items x.may_end) []) rest more)
+more_reported : (x : Expected) (lines more : List ℕ) → ReportsExpected x lines → ReportsExpected x (lines ++ more)
+more_reported x lines more (inl nothing) = inl nothing
+more_reported x lines more (inr (rest, is)) = inr (rest ++ more, ap (λ t. t ++ more) is ∙ append_assoc (expected_line (expected_words x.classes.items x.may_end) []) rest more)
 
 pub more_as : (r : Reading) (source : List ℕ) (at : ℕ) (lines more all : List ℕ) → all ≡ lines ++ more → TellsAs r source at lines → TellsAs r source at all
-more_as Value source at lines more all is (x, may, told) = (x, may, subst (TellsExpected x) (sym is) (more_told x lines more told))
+more_as Value source at lines more all is (x, may, reported) = (x, may, subst (ReportsExpected x) (sym is) (more_reported x lines more reported))
 more_as Call source at lines more all is (inl unnamed) = inl unnamed
-more_as Call source at lines more all is (inr (x, may, told)) = inr (x, may, subst (TellsExpected x) (sym is) (more_told x lines more told))
+more_as Call source at lines more all is (inr (x, may, reported)) = inr (x, may, subst (ReportsExpected x) (sym is) (more_reported x lines more reported))

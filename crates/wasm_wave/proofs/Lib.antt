@@ -4,6 +4,6 @@ mod Shown
 mod OneExplanation
 mod Examples
 mod Steps
-mod Told
+mod Reported
 mod Expecting
 mod Escapes

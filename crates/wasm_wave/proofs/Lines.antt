@@ -31,17 +31,17 @@ module _ (c : ℕ) where
   drop_at (b ∷ s) zero lt e = ap (λ x. x ∷ s) e
   drop_at (b ∷ s) (suc k) lt e = drop_at s k (omega (arith, lt)) e
 
--- the front of a line
-front_in_line : (xs ys : List ℕ) → IsInOneLine (xs ++ ys) → IsInOneLine xs
-front_in_line [] ys h = tt
-front_in_line (x ∷ xs) ys h = (h.0, front_in_line xs ys h.1)
+-- the prefix of a line
+prefix_in_line : (xs ys : List ℕ) → IsInOneLine (xs ++ ys) → IsInOneLine xs
+prefix_in_line [] ys h = tt
+prefix_in_line (x ∷ xs) ys h = (h.0, prefix_in_line xs ys h.1)
 
 -- a line without its line end
 pub without_end : (text line shorter more : List ℕ) → IsInOneLine line → text ≡ line ++ 10 ∷ more
     → (line ≡ shorter ++ 13 ∷ []) ⊎ (line ≡ shorter) × (EndsWithReturn line → ⊥)
     → IsInOneLine shorter × ((behind : List ℕ) × (text ≡ shorter ++ behind) × IsBehindLine shorter behind)
 without_end text line shorter more one is (inl both) = (
-  front_in_line shorter (13 ∷ []) (subst IsInOneLine both one),
+  prefix_in_line shorter (13 ∷ []) (subst IsInOneLine both one),
   (13 ∷ 10 ∷ more, is ∙ (ap (λ (x : List ℕ). x ++ 10 ∷ more) both ∙ append_assoc shorter (13 ∷ []) (10 ∷ more)), inr (inl (more, refl))),
 )
 without_end text line shorter more one is (inr (same, alone)) = (
@@ -50,60 +50,60 @@ without_end text line shorter more one is (inr (same, alone)) = (
 )
 
 -- a part of a line that is behind another part ends as the line does
-ends_so : (front rest : List ℕ) (b : ℕ) → EndsWithReturn (front ++ b ∷ rest) → EndsWithReturn (b ∷ rest)
+ends_so : (prefix rest : List ℕ) (b : ℕ) → EndsWithReturn (prefix ++ b ∷ rest) → EndsWithReturn (b ∷ rest)
 ends_so [] rest b ends = ends
-ends_so (f ∷ front) rest b ([], e) = absurd (omega (arith, ap length e, length-append front (b ∷ rest)))
-ends_so (f ∷ front) rest b (t ∷ text, e) = ends_so front rest b (text, cc)
+ends_so (f ∷ prefix) rest b ([], e) = absurd (omega (arith, ap length e, length-append prefix (b ∷ rest)))
+ends_so (f ∷ prefix) rest b (t ∷ text, e) = ends_so prefix rest b (text, cc)
 
 -- a CR and a line feed, side by side
-parted : (source front behind : List ℕ) (at : ℕ) → source ≡ front ++ 13 ∷ 10 ∷ behind → suc (length front) ≡ at → PartsLineEnd source at
-parted source front behind at is at_is =
-    let last : at - 1 ≡ length front = omega arith in
-    let next : length front + 1 ≡ at = omega arith in (
+parted : (source prefix behind : List ℕ) (at : ℕ) → source ≡ prefix ++ 13 ∷ 10 ∷ behind → suc (length prefix) ≡ at → PartsLineEnd source at
+parted source prefix behind at is at_is =
+    let last : at - 1 ≡ length prefix = omega arith in
+    let next : length prefix + 1 ≡ at = omega arith in (
       omega arith,
-      ap (λ n. get_or source n 0) last ∙ (ap (λ s. get_or s (length front) 0) is ∙ get_or-append_seam front 13 (10 ∷ behind) 0),
-      ap (λ n. get_or source n 0) (sym next) ∙ (ap (λ s. get_or s (length front + 1) 0) is ∙ get_or-append-add front (13 ∷ 10 ∷ behind) 1 0),
+      ap (λ n. get_or source n 0) last ∙ (ap (λ s. get_or s (length prefix) 0) is ∙ get_or-append_seam prefix 13 (10 ∷ behind) 0),
+      ap (λ n. get_or source n 0) (sym next) ∙ (ap (λ s. get_or s (length prefix + 1) 0) is ∙ get_or-append-add prefix (13 ∷ 10 ∷ behind) 1 0),
     )
 
 -- a CR before the place, and a line feed behind it
-parted_here : (source before front text more : List ℕ) (at : ℕ)
-    → source ≡ before ++ (front ++ 10 ∷ more) → length (before ++ front) ≡ at → front ≡ text ++ 13 ∷ [] → PartsLineEnd source at
-parted_here source before front text more at is at_is ends =
+parted_here : (source before prefix text more : List ℕ) (at : ℕ)
+    → source ≡ before ++ (prefix ++ 10 ∷ more) → length (before ++ prefix) ≡ at → prefix ≡ text ++ 13 ∷ [] → PartsLineEnd source at
+parted_here source before prefix text more at is at_is ends =
     parted source (before ++ text) more at
     (is ∙ (ap (λ (x : List ℕ). before ++ (x ++ 10 ∷ more)) ends
     ∙ (ap (λ (x : List ℕ). before ++ x) (append_assoc text (13 ∷ []) (10 ∷ more)) ∙ sym (append_assoc before text (13 ∷ 10 ∷ more)))))
-    (omega (arith, at_is, ap length ends, length-append before front, length-append before text, length-append text (13 ∷ [])))
+    (omega (arith, at_is, ap length ends, length-append before prefix, length-append before text, length-append text (13 ∷ [])))
 
 -- what stands behind the rest of a line stands behind the line
-pub behind_whole : (source before front rest behind : List ℕ) (at : ℕ)
-    → source ≡ before ++ (front ++ (rest ++ behind)) → length (before ++ front) ≡ at → (PartsLineEnd source at → ⊥) → IsBehindLine rest behind
-    → IsBehindLine (front ++ rest) behind
-behind_whole source before front rest behind at is at_is whole (inl none) = inl none
-behind_whole source before front rest behind at is at_is whole (inr (inl both)) = inr (inl both)
-behind_whole source before front [] behind at is at_is whole (inr (inr (more, feed, alone))) =
-    let here = is ∙ ap (λ (x : List ℕ). before ++ (front ++ x)) feed in
-    inr (inr (more, feed, λ (text, ends). whole (parted_here source before front text more at here at_is (sym (append-nil front) ∙ ends))))
-behind_whole source before front (b ∷ rest) behind at is at_is whole (inr (inr (more, feed, alone))) =
-    inr (inr (more, feed, λ ends. alone (ends_so front rest b ends)))
+pub behind_whole : (source before prefix rest behind : List ℕ) (at : ℕ)
+    → source ≡ before ++ (prefix ++ (rest ++ behind)) → length (before ++ prefix) ≡ at → (PartsLineEnd source at → ⊥) → IsBehindLine rest behind
+    → IsBehindLine (prefix ++ rest) behind
+behind_whole source before prefix rest behind at is at_is whole (inl none) = inl none
+behind_whole source before prefix rest behind at is at_is whole (inr (inl both)) = inr (inl both)
+behind_whole source before prefix [] behind at is at_is whole (inr (inr (more, feed, alone))) =
+    let here = is ∙ ap (λ (x : List ℕ). before ++ (prefix ++ x)) feed in
+    inr (inr (more, feed, λ (text, ends). whole (parted_here source before prefix text more at here at_is (sym (append-nil prefix) ∙ ends))))
+behind_whole source before prefix (b ∷ rest) behind at is at_is whole (inr (inr (more, feed, alone))) =
+    inr (inr (more, feed, λ ends. alone (ends_so prefix rest b ends)))
 
 -- a place of the source
-pub is_place : (source lines front rest behind from : List ℕ) (at line column : ℕ) → at ≤ length source → (PartsLineEnd source at → ⊥)
-    → take at source ≡ lines ++ front → from ≡ drop at source → from ≡ rest ++ behind
-    → AreWholeLines lines → IsInOneLine front → IsInOneLine rest → IsBehindLine rest behind → line ≡ suc (line_feeds lines) → column ≡ suc (length (chars front)) → IsPlaceOf source at line column front rest
-is_place source lines front rest behind from at line column le unparted cut is parts whole in_line rest_in ends line_is column_is =
+pub is_place : (source lines prefix rest behind from : List ℕ) (at line column : ℕ) → at ≤ length source → (PartsLineEnd source at → ⊥)
+    → take at source ≡ lines ++ prefix → from ≡ drop at source → from ≡ rest ++ behind
+    → AreWholeLines lines → IsInOneLine prefix → IsInOneLine rest → IsBehindLine rest behind → line ≡ suc (line_feeds lines) → column ≡ suc (length (chars prefix)) → IsPlaceOf source at line column prefix rest
+is_place source lines prefix rest behind from at line column le unparted cut is parts whole in_line rest_in ends line_is column_is =
     let source_is =
     sym (take-append-drop at source)
     ∙ (ap (λ (x : List ℕ). x ++ drop at source) cut
-    ∙ (ap (λ (x : List ℕ). (lines ++ front) ++ x) (sym is ∙ parts) ∙ append_assoc lines front (rest ++ behind))) in
-    let at_is : length (lines ++ front) ≡ at = ap length (sym cut) ∙ length-take-le at source le in
+    ∙ (ap (λ (x : List ℕ). (lines ++ prefix) ++ x) (sym is ∙ parts) ∙ append_assoc lines prefix (rest ++ behind))) in
+    let at_is : length (lines ++ prefix) ≡ at = ap length (sym cut) ∙ length-take-le at source le in
     record {
       before = lines;
       behind = behind;
       source_is = source_is;
       at_is = at_is;
       begins = whole;
-      ends = behind_whole source lines front rest behind at source_is at_is unparted ends;
-      front_in_line = in_line;
+      ends = behind_whole source lines prefix rest behind at source_is at_is unparted ends;
+      prefix_in_line = in_line;
       rest_in_line = rest_in;
       line_is = line_is;
       column_is = column_is;

@@ -13,15 +13,15 @@ one_greatest P most n k g h =
     let not_more : k < n → ⊥ = λ lt. h.greatest n lt g.bound g.holds in
     omega (arith, not_less, not_more)
 
--- two fronts of one length
-same_front : (xs ys us vs : List ℕ) → length xs ≡ length ys → xs ++ us ≡ ys ++ vs → (xs ≡ ys) × (us ≡ vs)
-same_front [] [] us vs long e = (refl, e)
-same_front [] (y ∷ ys) us vs long e = absurd (omega (arith, long))
-same_front (x ∷ xs) [] us vs long e = absurd (omega (arith, long))
-same_front (x ∷ xs) (y ∷ ys) us vs long e =
+-- two prefixes of one length
+same_prefix : (xs ys us vs : List ℕ) → length xs ≡ length ys → xs ++ us ≡ ys ++ vs → (xs ≡ ys) × (us ≡ vs)
+same_prefix [] [] us vs long e = (refl, e)
+same_prefix [] (y ∷ ys) us vs long e = absurd (omega (arith, long))
+same_prefix (x ∷ xs) [] us vs long e = absurd (omega (arith, long))
+same_prefix (x ∷ xs) (y ∷ ys) us vs long e =
     let head : x ≡ y = cc in
     let tail : xs ++ us ≡ ys ++ vs = cc in
-    let r = same_front xs ys us vs (omega (arith, long)) tail in
+    let r = same_prefix xs ys us vs (omega (arith, long)) tail in
     (λ i. head i ∷ r.0 i, r.1)
 
 -- ---- the lines before
@@ -57,47 +57,47 @@ one_split (x ∷ b) (y ∷ c) f g wb wc of og e =
 -- ---- the rest of the line
 
 -- a line end isn't parted
-unparted : (front d more : List ℕ) (y : ℕ) → y ≡ 13 → d ≡ 10 ∷ more → IsBehindLine (front ++ y ∷ []) d → ⊥
-unparted front d more y return feed (inl none) = cc
-unparted front d more y return feed (inr (inl (others, both))) = let e : y ≡ 10 = cc in omega (arith, return, e)
-unparted front d more y return feed (inr (inr (others, is, alone))) = alone (front, ap (λ n. front ++ n ∷ []) return)
+unparted : (prefix d more : List ℕ) (y : ℕ) → y ≡ 13 → d ≡ 10 ∷ more → IsBehindLine (prefix ++ y ∷ []) d → ⊥
+unparted prefix d more y return feed (inl none) = cc
+unparted prefix d more y return feed (inr (inl (others, both))) = let e : y ≡ 10 = cc in omega (arith, return, e)
+unparted prefix d more y return feed (inr (inr (others, is, alone))) = alone (prefix, ap (λ n. prefix ++ n ∷ []) return)
 
 -- a line ends where a line end begins
-no_longer : (front q b d : List ℕ) (y : ℕ) → IsInOneLine (y ∷ q) → IsBehindLine (front ++ []) b → IsBehindLine (front ++ y ∷ q) d → b ≡ (y ∷ q) ++ d → ⊥
-no_longer front q b d y one (inl none) behind e = cc
-no_longer front [] b d y one (inr (inl (more, both))) behind e = unparted front d more y (cc) (cc) behind
-no_longer front (z ∷ q) b d y one (inr (inl (more, both))) behind e = one.1.0 (cc)
-no_longer front q b d y one (inr (inr (more, feed, alone))) behind e = one.0 (cc)
+no_longer : (prefix q b d : List ℕ) (y : ℕ) → IsInOneLine (y ∷ q) → IsBehindLine (prefix ++ []) b → IsBehindLine (prefix ++ y ∷ q) d → b ≡ (y ∷ q) ++ d → ⊥
+no_longer prefix q b d y one (inl none) behind e = cc
+no_longer prefix [] b d y one (inr (inl (more, both))) behind e = unparted prefix d more y (cc) (cc) behind
+no_longer prefix (z ∷ q) b d y one (inr (inl (more, both))) behind e = one.1.0 (cc)
+no_longer prefix q b d y one (inr (inr (more, feed, alone))) behind e = one.0 (cc)
 
 -- so the rest of the line is one
-one_rest : (front r q b d : List ℕ) → IsInOneLine r → IsInOneLine q → IsBehindLine (front ++ r) b → IsBehindLine (front ++ q) d → r ++ b ≡ q ++ d → r ≡ q
-one_rest front [] [] b d or oq hb hd e = refl
-one_rest front [] (y ∷ q) b d or oq hb hd e = absurd (no_longer front q b d y oq hb hd e)
-one_rest front (x ∷ r) [] b d or oq hb hd e = absurd (no_longer front r d b x or hd hb (sym e))
-one_rest front (x ∷ r) (y ∷ q) b d or oq hb hd e =
+one_rest : (prefix r q b d : List ℕ) → IsInOneLine r → IsInOneLine q → IsBehindLine (prefix ++ r) b → IsBehindLine (prefix ++ q) d → r ++ b ≡ q ++ d → r ≡ q
+one_rest prefix [] [] b d or oq hb hd e = refl
+one_rest prefix [] (y ∷ q) b d or oq hb hd e = absurd (no_longer prefix q b d y oq hb hd e)
+one_rest prefix (x ∷ r) [] b d or oq hb hd e = absurd (no_longer prefix r d b x or hd hb (sym e))
+one_rest prefix (x ∷ r) (y ∷ q) b d or oq hb hd e =
     let head : x ≡ y = cc in
     let tail : r ++ b ≡ q ++ d = cc in
-    let first = subst (λ (l : List ℕ). IsBehindLine l b) (sym (append_assoc front (x ∷ []) r)) hb in
-    let second = subst (λ (l : List ℕ). IsBehindLine l d) (ap (λ n. front ++ n ∷ q) (sym head) ∙ sym (append_assoc front (x ∷ []) q)) hd in
-    let same = one_rest (front ++ x ∷ []) r q b d or.1 oq.1 first second tail in
+    let first = subst (λ (l : List ℕ). IsBehindLine l b) (sym (append_assoc prefix (x ∷ []) r)) hb in
+    let second = subst (λ (l : List ℕ). IsBehindLine l d) (ap (λ n. prefix ++ n ∷ q) (sym head) ∙ sym (append_assoc prefix (x ∷ []) q)) hd in
+    let same = one_rest (prefix ++ x ∷ []) r q b d or.1 oq.1 first second tail in
     λ i. head i ∷ same i
 
 -- ---- the place, the mark and the text
 
 -- a byte of the source stands in one line, at one column
-one_place : (source : List ℕ) (at line row column scalar : ℕ) (front f rest r : List ℕ) → IsPlaceOf source at line column front rest → IsPlaceOf source at row scalar f r
-    → (line ≡ row) × (column ≡ scalar) × (front ≡ f) × (rest ≡ r)
-one_place source at line row column scalar front f rest r p q =
+one_place : (source : List ℕ) (at line row column scalar : ℕ) (prefix f rest r : List ℕ) → IsPlaceOf source at line column prefix rest → IsPlaceOf source at row scalar f r
+    → (line ≡ row) × (column ≡ scalar) × (prefix ≡ f) × (rest ≡ r)
+one_place source at line row column scalar prefix f rest r p q =
     let whole =
-    append_assoc p.before front (rest ++ p.behind)
+    append_assoc p.before prefix (rest ++ p.behind)
     ∙ (sym p.source_is ∙ (q.source_is ∙ sym (append_assoc q.before f (r ++ q.behind)))) in
-    let parts = same_front (p.before ++ front) (q.before ++ f) (rest ++ p.behind) (r ++ q.behind) (p.at_is ∙ sym q.at_is) whole in
-    let lines = one_split p.before q.before front f p.begins q.begins p.front_in_line q.front_in_line parts.0 in
+    let parts = same_prefix (p.before ++ prefix) (q.before ++ f) (rest ++ p.behind) (r ++ q.behind) (p.at_is ∙ sym q.at_is) whole in
+    let lines = one_split p.before q.before prefix f p.begins q.begins p.prefix_in_line q.prefix_in_line parts.0 in
     let behind = subst (λ (x : List ℕ). IsBehindLine (x ++ r) q.behind) (sym lines.1) q.ends in (
       p.line_is ∙ (ap (λ (x : List ℕ). suc (line_feeds x)) lines.0 ∙ sym q.line_is),
       p.column_is ∙ (ap (λ (x : List ℕ). suc (length (chars x))) lines.1 ∙ sym q.column_is),
       lines.1,
-      one_rest front rest r p.behind q.behind p.rest_in_line q.rest_in_line p.ends behind parts.1,
+      one_rest prefix rest r p.behind q.behind p.rest_in_line q.rest_in_line p.ends behind parts.1,
     )
 
 -- one part of a line is marked
@@ -111,7 +111,7 @@ one_mark rest r n k marked m same count (end, greatest, is) (last, also, so) =
 pub one_explanation : (source message : List ℕ) (span : Range ℕ) (text other : List ℕ) → IsExplained source message span text → IsExplained source message span other → text ≡ other
 one_explanation source message span text other e f =
     let there : e.there ≡ f.there = one_greatest (IsPlaceIn source) span.start e.there f.there e.place.nearest f.place.nearest in
-    let placed = subst (λ n. IsPlaceOf source n f.line f.column f.front f.rest) (sym there) f.place.place in
-    let p = one_place source e.there e.line f.line e.column f.column e.front f.front e.rest f.rest e.place.place placed in
+    let placed = subst (λ n. IsPlaceOf source n f.line f.column f.prefix f.rest) (sym there) f.place.place in
+    let p = one_place source e.there e.line f.line e.column f.column e.prefix f.prefix e.rest f.rest e.place.place placed in
     let m = one_mark e.rest f.rest (span.end - e.there) (span.end - f.there) e.marked f.marked p.3 (ap (λ n. span.end - n) there) e.is_marked f.is_marked in
     e.text_is ∙ ((λ i. heading message (p.0 i) (p.1 i) ++ shown_lines (p.2 i) (p.3 i) (m i)) ∙ sym f.text_is)

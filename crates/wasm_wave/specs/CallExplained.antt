@@ -12,7 +12,7 @@ use Rattle.wave_tree.specs.declared.expected.Expected.{Expected}
 use Rattle.wave_tree.specs.Expected.{IsExpectedInCall, IsWithoutName}
 use Rattle.wave_tree.specs.UntypedCall.{Called, IsCalledOf, IsNoCall}
 use Rattle.wasm_wave.specs.EscapeMarks.{IsSyntaxMark}
-use Rattle.wasm_wave.specs.ValueExplained.{is_of_type, TellsPart, IsPartMark, IsBlock, IsUnexpected, TellsExpected, IsSyntaxExplained}
+use Rattle.wasm_wave.specs.ValueExplained.{is_of_type, ReportsPart, IsPartMark, IsBlock, IsUnexpected, ReportsExpected, IsSyntaxExplained}
 
 -- the call gives the value of this node to the parameter at index i
 abbrev pub Gives : Called → ℕ → NodeTree → Type 0
@@ -28,46 +28,46 @@ abbrev pub parameter_text : List (List ℕ) → ℕ → List ℕ
 parameter_text names i = codes "parameter " ++ name_or_number (slice_get names i) i
 
 -- the path names the parameter that has a type and whose value holds the span, and leads from its value to the deepest part that holds
--- the span; the first line says which type is due there
-pub record TellsParameter (source : List ℕ) (f : Func) (span : Range ℕ) (path lines : List ℕ) : Type 0 where
+-- the span; the first line says which type is expected there
+pub record ReportsParameter (source : List ℕ) (f : Func) (span : Range ℕ) (path lines : List ℕ) : Type 0 where
   pub call : Called
   pub is_call : IsCalledOf source call
   pub index : ℕ
   pub value : NodeTree
-  pub due : TypeTree
+  pub expected : TypeTree
   pub gives : Gives call index value
-  pub has_type : slice_get f.params index ≡ Some due
+  pub has_type : slice_get f.params index ≡ Some expected
   pub holds : LiesInNode value span
   pub way : List ℕ
   pub path_is : path ≡ parameter_text f.param_names index ++ way
-  pub part : TellsPart source span value due way lines
+  pub part : ReportsPart source span value expected way lines
 
 -- no value that is given to a parameter with a type holds the span
 abbrev pub NoValueHolds : Called → List TypeTree → Range ℕ → Type 0
 NoValueHolds call types span =
     (i : ℕ) (n : NodeTree) (T : TypeTree) → Gives call i n → slice_get types i ≡ Some T → LiesInNode n span → ⊥
 
--- no parameter is told: the kind tells no fault of type, the source is no call, or no parameter's value holds the span
+-- no parameter is reported: the kind is no fault of type, the source is no call, or no parameter's value holds the span
 abbrev pub HasNoParameter : ParserErrorKind → List ℕ → List TypeTree → Range ℕ → Type 0
 HasNoParameter k source types span =
     (is_of_type k ≡ false) ⊎ IsNoCall source ⊎ ((call : Called) × IsCalledOf source call × NoValueHolds call types span)
 
 -- behind the name of a call the first line says what may stand at this place
-abbrev pub TellsExpectedInCall : List ℕ → ℕ → List ℕ → Type 0
-TellsExpectedInCall source at lines = IsWithoutName source at ⊎ ((x : Expected) × IsExpectedInCall source at x × TellsExpected x lines)
+abbrev pub ReportsExpectedInCall : List ℕ → ℕ → List ℕ → Type 0
+ReportsExpectedInCall source at lines = IsWithoutName source at ⊎ ((x : Expected) × IsExpectedInCall source at x × ReportsExpected x lines)
 
 -- the text explains the refusal of the source, which is read as a call without types
 abbrev pub IsUntypedCallExplained : List ℕ → Diagnostic → List ℕ → Type 0
-IsUntypedCallExplained source e text = IsSyntaxExplained TellsExpectedInCall source e text
+IsUntypedCallExplained source e text = IsSyntaxExplained ReportsExpectedInCall source e text
 
 -- the text explains the refusal of the source, a call of the function f: a block with the path to the part of a parameter that is wrong
--- and the type that is due there, or without a path where no parameter is told
+-- and the type that is expected there, or without a path where no parameter is reported
 pub record IsCallExplained (source : List ℕ) (f : Func) (e : Diagnostic) (text : List ℕ) : Type 0 where
   pub mark : Range ℕ
   pub path : List ℕ
   pub lines : List ℕ
-  pub told :
-      TellsParameter source f e.span path lines × IsPartMark source e.span mark
+  pub reported :
+      ReportsParameter source f e.span path lines × IsPartMark source e.span mark
       ⊎ (path ≡ []) × HasNoParameter e.kind source f.params e.span × IsSyntaxMark source e mark
-      × (IsUnexpected e.kind → TellsExpectedInCall source e.span.start lines)
+      × (IsUnexpected e.kind → ReportsExpectedInCall source e.span.start lines)
   pub block : IsBlock source (error_text e) mark path lines text

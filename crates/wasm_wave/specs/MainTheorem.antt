@@ -24,8 +24,8 @@ abbrev pub RefusesWriting : Value → WriterError → Type 0
 RefusesWriting v e = IsGrounded e (has_text v) 0 0 × IsForMemory v e
 
 -- another value of the type has the same canonical text exactly where the two are equal, merged
-abbrev pub IsToldByText : TypeTree → Value → Type 0
-IsToldByText T v = (w : Value) → HasType T w → (text v ≡ text w) ↔ (merged v ≡ merged w)
+abbrev pub IsDistinguishedByText : TypeTree → Value → Type 0
+IsDistinguishedByText T v = (w : Value) → HasType T w → (text v ≡ text w) ↔ (merged v ≡ merged w)
 
 -- where its canonical text holds at most n levels, that text means the value, merged, within n levels
 abbrev pub IsReadAgain : TypeTree → Value → Type 0

@@ -1,4 +1,4 @@
--- The way from a whole value to a part of it, and the type that is due there.
+-- The way from a whole value to a part of it, and the type that is expected there.
 use Rattle.std.specs.Prelude.{ℕ, ◌≡◌, ◌≢◌, ◌⊎◌, ◌-◌, List, [], ◌∷◌, ◌++◌, length, take, chars, codes, Option, Some, option_map, slice_get}
 use Rattle.std.specs.Fmt.{decimal}
 use Rattle.std.specs.List.{find, flat_map}
@@ -54,7 +54,7 @@ abbrev pub HasEntry : NodeTree → NodeTree → NodeTree → Type 0
 HasEntry n k v =
     ((type_of n ≡ form.TupleSet) ⊎ (type_of n ≡ form.EmptySet)) × SomeOf (λ e. e ≡ (k, v)) (node_pairs (children_of n))
 
--- the step leads from the node, where a value of type T is due, to the part m, where one of U is
+-- the step leads from the node, where a value of type T is expected, to the part m, where one of U is
 abbrev pub StepsTo : List ℕ → Step → NodeTree → TypeTree → NodeTree → TypeTree → Type 0
 StepsTo source (field name) n T m U =
     (k : NodeTree) × HasEntry n k m × (type_of k ≡ form.Label) × (name_of (node_text source k) ≡ name) × (field_type name T ≡ Some U)
@@ -84,7 +84,7 @@ LeadsTo source (step ∷ more) n T m U = (k : NodeTree) × (E : TypeTree) × Ste
 abbrev pub IsDeepest : List ℕ → Range ℕ → NodeTree → TypeTree → Type 0
 IsDeepest source span n T = (step : Step) (m : NodeTree) (U : TypeTree) → StepsTo source step n T m U → LiesInNode m span → ⊥
 
--- the path leads from the node, where a value of type T is due, to the deepest part that holds the span, where one of U is due; the
+-- the path leads from the node, where a value of type T is expected, to the deepest part that holds the span, where one of U is expected; the
 -- path is empty where the node doesn't hold the span
 pub record IsPartAt (source : List ℕ) (span : Range ℕ) (n : NodeTree) (T : TypeTree) (path : List Step) (m : NodeTree) (U : TypeTree) : Type 0 where
   pub leads : LeadsTo source path n T m U

@@ -20,7 +20,7 @@ AreWholeLines s = (s ≡ []) ⊎ ((lines : List ℕ) × (s ≡ lines ++ 10 ∷ [
 
 -- the text ends with a CR
 abbrev pub EndsWithReturn : List ℕ → Type 0
-EndsWithReturn s = (front : List ℕ) × (s ≡ front ++ 13 ∷ [])
+EndsWithReturn s = (prefix : List ℕ) × (s ≡ prefix ++ 13 ∷ [])
 
 -- what stands behind a line: nothing, or a line end, which is CR LF, or LF alone where the line ends without a CR
 abbrev pub IsBehindLine : List ℕ → List ℕ → Type 0
@@ -43,24 +43,24 @@ pub record IsGreatest (P : ℕ → Type 0) (most n : ℕ) : Type 0 where
   pub holds : P n
   pub greatest : (k : ℕ) → n < k → k ≤ most → P k → ⊥
 
--- the source's byte at this place stands in this line, counted from 1, after `front` of it and before the rest, which are the line
--- without its end; the column counts the scalars of `front`, from 1
-pub record IsPlaceOf (source : List ℕ) (at line column : ℕ) (front rest : List ℕ) : Type 0 where
+-- the source's byte at this place stands in this line, counted from 1, after `prefix` of it and before the rest, which are the line
+-- without its end; the column counts the scalars of `prefix`, from 1
+pub record IsPlaceOf (source : List ℕ) (at line column : ℕ) (prefix rest : List ℕ) : Type 0 where
   pub before : List ℕ
   pub behind : List ℕ
-  pub source_is : source ≡ before ++ (front ++ (rest ++ behind))
-  pub at_is : length (before ++ front) ≡ at
+  pub source_is : source ≡ before ++ (prefix ++ (rest ++ behind))
+  pub at_is : length (before ++ prefix) ≡ at
   pub begins : AreWholeLines before
-  pub ends : IsBehindLine (front ++ rest) behind
-  pub front_in_line : IsInOneLine front
+  pub ends : IsBehindLine (prefix ++ rest) behind
+  pub prefix_in_line : IsInOneLine prefix
   pub rest_in_line : IsInOneLine rest
   pub line_is : line ≡ suc (line_feeds before)
-  pub column_is : column ≡ suc (length (chars front))
+  pub column_is : column ≡ suc (length (chars prefix))
 
 -- so does the byte at `there`, which is the last place of the source up to `at`
-pub record IsPlaceNear (source : List ℕ) (at there line column : ℕ) (front rest : List ℕ) : Type 0 where
+pub record IsPlaceNear (source : List ℕ) (at there line column : ℕ) (prefix rest : List ℕ) : Type 0 where
   pub nearest : IsGreatest (IsPlaceIn source) at there
-  pub place : IsPlaceOf source there line column front rest
+  pub place : IsPlaceOf source there line column prefix rest
 
 -- what is marked of the line from the place on: the scalars that end within its first `count` bytes
 abbrev pub IsMarked : List ℕ → ℕ → List ℕ → Type 0
@@ -75,9 +75,9 @@ pub record IsExplained (source message : List ℕ) (span : Range ℕ) (text : Li
   pub there : ℕ
   pub line : ℕ
   pub column : ℕ
-  pub front : List ℕ
+  pub prefix : List ℕ
   pub rest : List ℕ
   pub marked : List ℕ
-  pub place : IsPlaceNear source span.start there line column front rest
+  pub place : IsPlaceNear source span.start there line column prefix rest
   pub is_marked : IsMarked rest (span.end - there) marked
-  pub text_is : text ≡ heading message line column ++ shown_lines front rest marked
+  pub text_is : text ≡ heading message line column ++ shown_lines prefix rest marked

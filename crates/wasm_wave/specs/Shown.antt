@@ -40,7 +40,7 @@ ellipsis (suc n) = encode_utf8 0x2026
 
 -- the line before the place: its last 48 scalars
 abbrev pub shown_before : List ℕ → List ℕ
-shown_before front = ellipsis (length (chars front) - 48) ++ shown_text (drop (length (chars front) - 48) (chars front))
+shown_before prefix = ellipsis (length (chars prefix) - 48) ++ shown_text (drop (length (chars prefix) - 48) (chars prefix))
 
 -- the line from the place on: its first 48 scalars
 abbrev pub shown_after : List ℕ → List ℕ
@@ -52,8 +52,8 @@ columns text = str_width false (chars text)
 
 -- the marks: below the place, as wide as what is shown of what is marked, at least one
 abbrev pub marks : List ℕ → List ℕ → List ℕ
-marks front marked = replicate (columns (shown_before front)) 32 ++ replicate (max 1 (columns (shown_text (take 48 (chars marked))))) 94
+marks prefix marked = replicate (columns (shown_before prefix)) 32 ++ replicate (max 1 (columns (shown_text (take 48 (chars marked))))) 94
 
 -- the line, and the marks below it
 abbrev pub shown_lines : List ℕ → List ℕ → List ℕ → List ℕ
-shown_lines front rest marked = codes "  | " ++ (shown_before front ++ (shown_after rest ++ (codes "\n  | " ++ (marks front marked ++ codes "\n"))))
+shown_lines prefix rest marked = codes "  | " ++ (shown_before prefix ++ (shown_after rest ++ (codes "\n  | " ++ (marks prefix marked ++ codes "\n"))))

@@ -9,7 +9,7 @@ use Rattle.wave_lex.specs.declared.error.ParserErrorKind.{ParserErrorKind}
 use Rattle.wave_lex.specs.declared.error.ParserErrorKind.TheVariants as kind
 use Rattle.wave_grammar.specs.NodeTree.{NodeTree}
 use Rattle.wave_grammar.specs.ParserPosition.{Place}
-use Rattle.wave_grammar.specs.PrefixAutomaton as due_first
+use Rattle.wave_grammar.specs.PrefixAutomaton as expected_first
 use Rattle.wave_grammar.specs.SyntaxErrors.{IsSyntaxError}
 use Rattle.wave_tree.specs.declared.expected.Expected.{Expected}
 use Rattle.wave_tree.specs.Expected.{IsExpected, expected_words}
@@ -21,7 +21,7 @@ use Rattle.wasm_wave.specs.Paths.{Step, IsPartAt, shown_first, path_text}
 use Rattle.wasm_wave.specs.WordMarks.{IsWordMark}
 use Rattle.wasm_wave.specs.EscapeMarks.{IsSyntaxMark}
 
--- the kinds that tell a fault of a value at its type
+-- the kinds of faults of a value at its type
 abbrev pub is_of_type : ParserErrorKind → Bool
 is_of_type kind.InvalidType = true
 is_of_type kind.InvalidValue = true
@@ -31,33 +31,33 @@ is_of_type kind.DuplicateField = true
 is_of_type kind.WasmValueError = true
 is_of_type _ = false
 
--- no part is looked for: the kind tells no fault of type, or no value of at most 1000 levels begins the source
+-- no part is looked for: the kind is no fault of type, or no value of at most 1000 levels begins the source
 abbrev pub HasNoPart : ParserErrorKind → List ℕ → Type 0
-HasNoPart k source = (is_of_type k ≡ false) ⊎ ((e : Diagnostic) × (p : Place) × IsSyntaxError e 1000 due_first.value [] (start_of source) p)
+HasNoPart k source = (is_of_type k ≡ false) ⊎ ((e : Diagnostic) × (p : Place) × IsSyntaxError e 1000 expected_first.value [] (start_of source) p)
 
 -- the value that begins the source was read without a type, within 1000 levels
-abbrev pub IsFront : List ℕ → Untyped → Type 0
-IsFront source u = (behind : Place) × IsUntypedTaken 1000 (start_of source) behind u
+abbrev pub IsPrefix : List ℕ → Untyped → Type 0
+IsPrefix source u = (behind : Place) × IsUntypedTaken 1000 (start_of source) behind u
 
--- the line that says which type is due: the type's text, of which at most 60 scalars are shown, and more on it
+-- the line that says which type is expected: the type's text, of which at most 60 scalars are shown, and more on it
 abbrev pub expected_line : List ℕ → List ℕ → List ℕ
 expected_line text more = codes "  = expected " ++ (shown_first 60 text ++ (more ++ codes "\n"))
 
--- the path leads from the node, where a value of type T is due, to the deepest part that holds the span, and the first line says which
--- type is due there
-pub record TellsPart (source : List ℕ) (span : Range ℕ) (n : NodeTree) (T : TypeTree) (path lines : List ℕ) : Type 0 where
+-- the path leads from the node, where a value of type T is expected, to the deepest part that holds the span, and the first line says which
+-- type is expected there
+pub record ReportsPart (source : List ℕ) (span : Range ℕ) (n : NodeTree) (T : TypeTree) (path lines : List ℕ) : Type 0 where
   pub steps : List Step
   pub part : NodeTree
-  pub due : TypeTree
-  pub is_part : IsPartAt source span n T steps part due
+  pub expected : TypeTree
+  pub is_part : IsPartAt source span n T steps part expected
   pub path_is : path ≡ path_text steps
   pub more : List ℕ
   pub hints : List ℕ
-  pub lines_are : lines ≡ expected_line (type_text due) more ++ hints
+  pub lines_are : lines ≡ expected_line (type_text expected) more ++ hints
 
 -- so they do from the value that begins the source
-abbrev pub TellsPartOfValue : List ℕ → Range ℕ → TypeTree → List ℕ → List ℕ → Type 0
-TellsPartOfValue source span T path lines = (u : Untyped) × IsFront source u × TellsPart source span u.node T path lines
+abbrev pub ReportsPartOfValue : List ℕ → Range ℕ → TypeTree → List ℕ → List ℕ → Type 0
+ReportsPartOfValue source span T path lines = (u : Untyped) × IsPrefix source u × ReportsPart source span u.node T path lines
 
 -- what is marked is the span, or a name within it
 abbrev pub IsWithin : Range ℕ → Range ℕ → Type 0
@@ -83,12 +83,12 @@ pub record IsBlock (source message : List ℕ) (mark : Range ℕ) (path lines te
   pub there : ℕ
   pub line : ℕ
   pub column : ℕ
-  pub front : List ℕ
+  pub prefix : List ℕ
   pub rest : List ℕ
   pub marked : List ℕ
-  pub place : IsPlaceNear source mark.start there line column front rest
+  pub place : IsPlaceNear source mark.start there line column prefix rest
   pub is_marked : IsMarked rest (mark.end - there) marked
-  pub text_is : text ≡ heading_with_path message line column path ++ (shown_lines front rest marked ++ lines)
+  pub text_is : text ≡ heading_with_path message line column path ++ (shown_lines prefix rest marked ++ lines)
 
 -- ---- without a type
 
@@ -97,35 +97,35 @@ abbrev pub IsUnexpected : ParserErrorKind → Type 0
 IsUnexpected k = (k ≡ kind.UnexpectedToken) ⊎ (k ≡ kind.UnexpectedEnd)
 
 -- the first line says what may stand there; nothing is said where nothing may
-abbrev pub TellsExpected : Expected → List ℕ → Type 0
-TellsExpected x lines =
+abbrev pub ReportsExpected : Expected → List ℕ → Type 0
+ReportsExpected x lines =
     (x.classes.items ≡ []) × (x.may_end ≡ false) ⊎ ((more : List ℕ) × (lines ≡ expected_line (expected_words x.classes.items x.may_end) [] ++ more))
 
 -- so it does of this place of a source in which a value of at most 1000 levels is read
-abbrev pub TellsExpectedAt : List ℕ → ℕ → List ℕ → Type 0
-TellsExpectedAt source at lines = (x : Expected) × IsExpected source at 1000 x × TellsExpected x lines
+abbrev pub ReportsExpectedAt : List ℕ → ℕ → List ℕ → Type 0
+ReportsExpectedAt source at lines = (x : Expected) × IsExpected source at 1000 x × ReportsExpected x lines
 
 -- the text explains the refusal of the source: a block without a path, whose lines tell what may stand where a token or the end is refused
-pub record IsSyntaxExplained (Tells : List ℕ → ℕ → List ℕ → Type 0) (source : List ℕ) (e : Diagnostic) (text : List ℕ) : Type 0 where
+pub record IsSyntaxExplained (Reports : List ℕ → ℕ → List ℕ → Type 0) (source : List ℕ) (e : Diagnostic) (text : List ℕ) : Type 0 where
   pub mark : Range ℕ
   pub is_mark : IsSyntaxMark source e mark
   pub lines : List ℕ
-  pub told : IsUnexpected e.kind → Tells source e.span.start lines
+  pub reported : IsUnexpected e.kind → Reports source e.span.start lines
   pub block : IsBlock source (error_text e) mark [] lines text
 
 -- so it does where a value is read without a type
 abbrev pub IsUntypedExplained : List ℕ → Diagnostic → List ℕ → Type 0
-IsUntypedExplained source e text = IsSyntaxExplained TellsExpectedAt source e text
+IsUntypedExplained source e text = IsSyntaxExplained ReportsExpectedAt source e text
 
 -- ---- at a type
 
--- the text explains the refusal of the source at the type T: a block with the path to the part that is wrong and the type that is due
+-- the text explains the refusal of the source at the type T: a block with the path to the part that is wrong and the type that is expected
 -- there, or without a path where no part is looked for
 pub record IsValueExplained (source : List ℕ) (T : TypeTree) (e : Diagnostic) (text : List ℕ) : Type 0 where
   pub mark : Range ℕ
   pub path : List ℕ
   pub lines : List ℕ
-  pub told :
-      TellsPartOfValue source e.span T path lines × IsPartMark source e.span mark
-      ⊎ (path ≡ []) × HasNoPart e.kind source × IsSyntaxMark source e mark × (IsUnexpected e.kind → TellsExpectedAt source e.span.start lines)
+  pub reported :
+      ReportsPartOfValue source e.span T path lines × IsPartMark source e.span mark
+      ⊎ (path ≡ []) × HasNoPart e.kind source × IsSyntaxMark source e mark × (IsUnexpected e.kind → ReportsExpectedAt source e.span.start lines)
   pub block : IsBlock source (error_text e) mark path lines text

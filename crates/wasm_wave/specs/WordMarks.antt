@@ -1,4 +1,4 @@
--- What is marked where a word is wrong as a whole, as `0512`, of which a token is only the front.
+-- What is marked where a word is wrong as a whole, as `0512`, of which only a prefix is a token.
 use Rattle.std.specs.Prelude.{ℕ, ◌≡◌, ◌⊎◌, ◌≤◌, ◌<◌, ◌-◌, List, length, slice_index}
 use Rattle.std.specs.declared.ops.Range.{Range}
 

@@ -15,8 +15,8 @@ use wave_lex::error::ParserError;
 use wave_lex::lex::Span;
 
 mod call;
-mod due;
 mod escape;
+mod expected;
 mod forms;
 mod hints;
 mod names;
@@ -67,7 +67,7 @@ pub fn explain_at(
     let place = place_of(source, span.start);
     let mut text = heading(alloc, message, &place)?;
     let marked = marked_of(place.rest, span.end.saturating_sub(place.at));
-    let lines = shown_lines(alloc, place.front, place.rest, marked)?;
+    let lines = shown_lines(alloc, place.prefix, place.rest, marked)?;
     text.push_str(lines.as_str())?;
     Ok(text)
 }
@@ -90,23 +90,23 @@ fn marked_of(rest: &str, count: usize) -> &str
 }
 
 /// The line, truncated around the place, and the mark below it.
-fn shown_lines(alloc: Global, front: &str, rest: &str, marked: &str) -> Result<String, AllocError>
-    ensures { IfOk result (λ text. string_bytes text ≡ shown_lines front.now rest.now marked.now) }
+fn shown_lines(alloc: Global, prefix: &str, rest: &str, marked: &str) -> Result<String, AllocError>
+    ensures { IfOk result (λ text. string_bytes text ≡ shown_lines prefix.now rest.now marked.now) }
 {
-    let before = shown_before(alloc, front)?;
+    let before = shown_before(alloc, prefix)?;
     let after = shown_after(alloc, rest)?;
     let marks = marks(alloc, before.as_str(), marked)?;
     format!(in alloc; "  | {before}{after}\n  | {marks}\n")
 }
 
 /// The line before the place: its last scalars.
-fn shown_before(alloc: Global, front: &str) -> Result<String, AllocError>
-    ensures { IfOk result (λ text. string_bytes text ≡ shown_before front.now) }
+fn shown_before(alloc: Global, prefix: &str) -> Result<String, AllocError>
+    ensures { IfOk result (λ text. string_bytes text ≡ shown_before prefix.now) }
 {
-    let left_out = scalars(front).saturating_sub(SHOWN);
+    let left_out = scalars(prefix).saturating_sub(SHOWN);
     let mut text = String::new(alloc);
     push_ellipsis(&mut text, left_out)?;
-    push_shown(&mut text, front, left_out, SHOWN)?;
+    push_shown(&mut text, prefix, left_out, SHOWN)?;
     Ok(text)
 }
 

@@ -3,7 +3,7 @@
 ghost use Rattle.std.specs.Prelude.{ℕ, List, ◌≡◌};
 ghost use Rattle.std.specs.declared.ops.Range.{Range};
 ghost use Rattle.wave_wasm.specs.Types.{TypeTree, HasDistinctNames, IsRepresentable};
-ghost use Rattle.wave_lex.specs.Labels.{Good};
+ghost use Rattle.wave_lex.specs.Labels.{HasDistinctLabels};
 ghost use Rattle.wave_grammar.specs.UnambiguityLaws.{OneReading};
 ghost use Rattle.wave_grammar.specs.RoundTripLaws.{ReadsBack, EqualTexts, ReadsMerged, ReadsBackWithinTwice};
 ghost use Rattle.wasm_wave.specs.MainTheorem.{OneValue};
@@ -42,13 +42,13 @@ pub fn one_value()
 /// Two values of a type whose names are distinct labels have one canonical text exactly where they
 /// are equal, merged, however deep they nest.
 pub fn text_injective()
-    ensures { (T : TypeTree) → Good T → EqualTexts T }
+    ensures { (T : TypeTree) → HasDistinctLabels T → EqualTexts T }
 {}
 
 /// The canonical text of a value of such a type has the tokens that spell the value, merged, and
 /// no more levels than they hold are needed.
 pub fn text_reads_back()
-    ensures { (T : TypeTree) → Good T → IsRepresentable T → ReadsBack T }
+    ensures { (T : TypeTree) → HasDistinctLabels T → IsRepresentable T → ReadsBack T }
 {}
 
 /// What tokens spell at a type is merged: in each map of it, inner ones too, each key stands once.
@@ -59,7 +59,7 @@ pub fn read_values_are_merged()
 /// Where the tokens of a text spell a value of such a type within some levels, the value's
 /// canonical text reads back, and holds at most twice as many.
 pub fn levels_at_most_double()
-    ensures { (T : TypeTree) → Good T → IsRepresentable T → ReadsBackWithinTwice T }
+    ensures { (T : TypeTree) → HasDistinctLabels T → IsRepresentable T → ReadsBackWithinTwice T }
 {}
 
 /// One text explains a refusal: the source, the message and the span determine it, byte for byte.

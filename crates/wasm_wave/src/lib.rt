@@ -4,13 +4,13 @@
 ghost use Rattle.std.specs.Prelude.{IfOk, IfErr};
 ghost use Rattle.std.specs.String.{string_bytes};
 ghost use Rattle.wave_wasm.specs.HasType.{HasType};
-ghost use Rattle.wave_lex.specs.Labels.{Good};
+ghost use Rattle.wave_lex.specs.Labels.{HasDistinctLabels};
 ghost use Rattle.wave_grammar.specs.UnambiguityLaws.{OneReading};
 ghost use Rattle.wave_grammar.specs.RoundTripLaws.{ReadBack, ReadsBackWithinTwice};
 ghost use Rattle.wave_wasm.specs.Types.{TypeTree, HasDistinctNames, IsRepresentable};
 ghost use Rattle.wave_tree.specs.FromStr.{IsRead, RefusesText};
 ghost use Rattle.wasm_wave.specs.MainTheorem.{OneValue, IsTextOf, RefusesWriting};
-ghost use Rattle.wasm_wave.specs.MainTheorem.{IsToldByText, IsReadAgain};
+ghost use Rattle.wasm_wave.specs.MainTheorem.{IsDistinguishedByText, IsReadAgain};
 
 use crate::wasm::WasmValue;
 use crate::writer::WriterError;
@@ -43,7 +43,7 @@ pub fn from_str<V: WasmValue>(alloc: Global, ty: &V::Type, s: &str) -> Result<V,
     ensures refused { IfErr result (RefusesText V.is_full (V.Type.tree ty.now) 100 s.now) }
     ensures one { let T = V.Type.tree ty.now in HasDistinctNames T → OneValue T }
     ensures reading { let T = V.Type.tree ty.now in HasDistinctNames T → OneReading T }
-    ensures twice { let T = V.Type.tree ty.now in Good T → IsRepresentable T → ReadsBackWithinTwice T }
+    ensures twice { let T = V.Type.tree ty.now in HasDistinctLabels T → IsRepresentable T → ReadsBackWithinTwice T }
 {
     wave_tree::from_str::<V>(alloc, ty, s)
 }
@@ -60,11 +60,11 @@ pub fn to_string<V: WasmValue>(alloc: Global, val: &V) -> Result<String, WriterE
     ensures text { IfOk result (λ s. IsTextOf (V.tree val.now) (string_bytes s)) }
     ensures refused { IfErr result (RefusesWriting (V.tree val.now)) }
     ensures equal { let v = V.tree val.now in
-        (T : TypeTree) → Good T → HasType T v → IsToldByText T v }
+        (T : TypeTree) → HasDistinctLabels T → HasType T v → IsDistinguishedByText T v }
     ensures back { let v = V.tree val.now in
-        (T : TypeTree) → Good T → IsRepresentable T → HasType T v → ReadBack T v }
+        (T : TypeTree) → HasDistinctLabels T → IsRepresentable T → HasType T v → ReadBack T v }
     ensures again { (T : TypeTree) → IsReadAgain T (V.tree val.now) }
-    ensures twice { (T : TypeTree) → Good T → IsRepresentable T → ReadsBackWithinTwice T }
+    ensures twice { (T : TypeTree) → HasDistinctLabels T → IsRepresentable T → ReadsBackWithinTwice T }
 {
     writer::to_string(alloc, val)
 }

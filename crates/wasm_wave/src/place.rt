@@ -13,7 +13,7 @@ pub struct Place<'source> {
     /// The scalar of the line.
     pub column: usize,
     /// The line's text up to the place.
-    pub front: &'source str,
+    pub prefix: &'source str,
     /// The line's text from the place on, without its line end, LF or CR LF.
     pub rest: &'source str,
 }
@@ -21,16 +21,16 @@ pub struct Place<'source> {
 /// The place of the source's byte at `at`: within a scalar that of its first byte, at the LF of a CR LF
 /// that of the CR, and past the end that of the end.
 pub fn place_of(source: &str, at: usize) -> Place<'_>
-    ensures { IsPlaceNear source.now at result.at result.line result.column result.front.now result.rest.now }
+    ensures { IsPlaceNear source.now at result.at result.line result.column result.prefix.now result.rest.now }
 {
     let there = last_place(source, at);
     let (before, from) = source.split_at(there);
-    let (lines, front) = last_line(before);
+    let (lines, prefix) = last_line(before);
     Place {
         at: there,
         line: line_feeds(lines) + 1,
-        column: scalars(front) + 1,
-        front,
+        column: scalars(prefix) + 1,
+        prefix,
         rest: first_line(from),
     }
 }

@@ -6,15 +6,15 @@ use Rattle.wave.specs.Requests.{AreWordsOf, AskFor, AskForType, HaveType, AreUnk
 use Rattle.wave.specs.Private.Requests.{AskByLines, AskNoneByLines, MakeNone}
 
 -- the texts of all arguments but the last, and the last
-pub texts_before : (words front : List (String Global)) (last : String Global) (t : List ℕ) → words ≡ front ++ last ∷ [] → t ≡ string_bytes last → map string_bytes words ≡ map string_bytes front ++ t ∷ []
-texts_before words front last t is same = ap (map string_bytes) is ∙ behind front where
+pub texts_before : (words prefix : List (String Global)) (last : String Global) (t : List ℕ) → words ≡ prefix ++ last ∷ [] → t ≡ string_bytes last → map string_bytes words ≡ map string_bytes prefix ++ t ∷ []
+texts_before words prefix last t is same = ap (map string_bytes) is ∙ behind prefix where
   behind : (ws : List (String Global)) → map string_bytes (ws ++ last ∷ []) ≡ map string_bytes ws ++ t ∷ []
   behind [] = ap (λ z. z ∷ []) (sym same)
   behind (w ∷ ws) = ap (λ z. string_bytes w ∷ z) (behind ws)
 
 -- so where the last is known
-pub texts_before_lines : (words front : List (String Global)) (last : String Global) (t : List ℕ) → words ≡ front ++ last ∷ [] → t ≡ string_bytes last → t ≡ codes "--lines" → map string_bytes words ≡ map string_bytes front ++ codes "--lines" ∷ []
-texts_before_lines words front last t is same lines = texts_before words front last t is same ∙ ap (λ z. map string_bytes front ++ z ∷ []) lines
+pub texts_before_lines : (words prefix : List (String Global)) (last : String Global) (t : List ℕ) → words ≡ prefix ++ last ∷ [] → t ≡ string_bytes last → t ≡ codes "--lines" → map string_bytes words ≡ map string_bytes prefix ++ codes "--lines" ∷ []
+texts_before_lines words prefix last t is same lines = texts_before words prefix last t is same ∙ ap (λ z. map string_bytes prefix ++ z ∷ []) lines
 
 -- two lists with a last one
 ends_alike : (xs ys : List (List ℕ)) (x y : List ℕ) → xs ++ x ∷ [] ≡ ys ++ y ∷ [] → (xs ≡ ys) × (x ≡ y)
@@ -27,28 +27,28 @@ ends_alike (a ∷ xs) (b ∷ ys) x y e =
 
 -- no arguments
 pub no_lines_of_none : (words : List (List ℕ)) (request : Request) → words ≡ [] → AskFor (Lines request) words → ⊥
-no_lines_of_none words request none (front, is, makes) = absurd (omega (arith, ap length (sym none ∙ is), length-append front (codes "--lines" ∷ [])))
+no_lines_of_none words request none (prefix, is, makes) = absurd (omega (arith, ap length (sym none ∙ is), length-append prefix (codes "--lines" ∷ [])))
 
 -- another last one
-pub no_lines_of_other : (words front : List (List ℕ)) (last : List ℕ) (request : Request) → words ≡ front ++ last ∷ [] → last ≢ codes "--lines" → AskFor (Lines request) words → ⊥
-no_lines_of_other words front last request is other (before, lines, makes) = other (ends_alike front before last (codes "--lines") (sym is ∙ lines)).1
+pub no_lines_of_other : (words prefix : List (List ℕ)) (last : List ℕ) (request : Request) → words ≡ prefix ++ last ∷ [] → last ≢ codes "--lines" → AskFor (Lines request) words → ⊥
+no_lines_of_other words prefix last request is other (before, lines, makes) = other (ends_alike prefix before last (codes "--lines") (sym is ∙ lines)).1
 
 -- `--lines` behind what makes no request
-pub no_lines_of_unknown : (words front : List (List ℕ)) (request : Request) → words ≡ front ++ codes "--lines" ∷ [] → MakeNone front → AskFor (Lines request) words → ⊥
-no_lines_of_unknown words front request is none (before, lines, makes) =
-    none request (subst (AreWordsOf request) (sym (ends_alike front before (codes "--lines") (codes "--lines") (sym is ∙ lines)).0) makes)
+pub no_lines_of_unknown : (words prefix : List (List ℕ)) (request : Request) → words ≡ prefix ++ codes "--lines" ∷ [] → MakeNone prefix → AskFor (Lines request) words → ⊥
+no_lines_of_unknown words prefix request is none (before, lines, makes) =
+    none request (subst (AreWordsOf request) (sym (ends_alike prefix before (codes "--lines") (codes "--lines") (sym is ∙ lines)).0) makes)
 
 -- what the arguments before `--lines` make is asked for of each line
-pub of_each_line : {E : Type 0} (words front : List (List ℕ)) (r : Result (Option Request) E) → words ≡ front ++ codes "--lines" ∷ []
-    → IfOk r (λ found. MatchOption found (MakeNone front) (λ request. AreWordsOf request front))
+pub of_each_line : {E : Type 0} (words prefix : List (List ℕ)) (r : Result (Option Request) E) → words ≡ prefix ++ codes "--lines" ∷ []
+    → IfOk r (λ found. MatchOption found (MakeNone prefix) (λ request. AreWordsOf request prefix))
     → IfOk r (λ found. MatchOption found ((request : Request) → AskFor (Lines request) words → ⊥) (λ request. AskFor (Lines request) words))
-of_each_line words front (Ok (Some request)) is made = (front, is, made)
-of_each_line words front (Ok None) is made = λ request. no_lines_of_unknown words front request is made
-of_each_line words front (Err e) is made = tt
+of_each_line words prefix (Ok (Some request)) is built = (prefix, is, built)
+of_each_line words prefix (Ok None) is built = λ request. no_lines_of_unknown words prefix request is built
+of_each_line words prefix (Err e) is built = tt
 
-pub type_before_lines : {X E : Type 0} (words front : List (List ℕ)) (r : Result X E) → words ≡ front ++ codes "--lines" ∷ [] → IfErr r (λ e. HaveType front) → IfErr r (λ e. AskForType words)
-type_before_lines words front (Ok x) is memory = tt
-type_before_lines words front (Err e) is memory = inr (front, is, memory)
+pub type_before_lines : {X E : Type 0} (words prefix : List (List ℕ)) (r : Result X E) → words ≡ prefix ++ codes "--lines" ∷ [] → IfErr r (λ e. HaveType prefix) → IfErr r (λ e. AskForType words)
+type_before_lines words prefix (Ok x) is memory = tt
+type_before_lines words prefix (Err e) is memory = inr (prefix, is, memory)
 
 -- neither of each line nor of the whole input
 pub of_neither : (words : List (List ℕ)) → ((request : Request) → AskFor (Lines request) words → ⊥) → MakeNone words → AreUnknown words

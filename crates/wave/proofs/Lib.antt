@@ -5,7 +5,7 @@ pub mod Requested
 pub mod Named
 pub mod Untyped
 pub mod TypedCalls
-pub mod Told
+pub mod Reported
 pub mod LineReading
 pub mod LinesAnswered
 pub mod AskedFor

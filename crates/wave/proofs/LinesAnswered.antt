@@ -95,13 +95,13 @@ module _ {W : Type 0} (contents : W → Option (List ℕ)) where
   whole_whole a b c s t (first, well) (later, fine) = (Appends-trans _ _ _ s t first later, fine ∙ well)
 
   whole_less : (a b c : Output W) (s t : List ℕ) → WritesWhole contents a b s → WritesLess contents b c t → WritesLess contents a c (s ++ t)
-  whole_less a b c s t (first, well) (one, front, rest, is, some, later) =
-      (subst (λ n. CountsOne n c.failures) well one, s ++ front, rest, ap (λ z. s ++ z) is ∙ sym (append_assoc s front rest), some, Appends-trans _ _ _ s front first later)
+  whole_less a b c s t (first, well) (one, prefix, rest, is, some, later) =
+      (subst (λ n. CountsOne n c.failures) well one, s ++ prefix, rest, ap (λ z. s ++ z) is ∙ sym (append_assoc s prefix rest), some, Appends-trans _ _ _ s prefix first later)
 
   pub less_more : (a b : Output W) (s t : List ℕ) → WritesLess contents a b s → WritesLess contents a b (s ++ t)
-  less_more a b s t (one, front, rest, is, some, wrote) = (one, front, rest ++ t, ap (λ z. z ++ t) is ∙ append_assoc front rest t, longer rest t some, wrote)
+  less_more a b s t (one, prefix, rest, is, some, wrote) = (one, prefix, rest ++ t, ap (λ z. z ++ t) is ∙ append_assoc prefix rest t, longer rest t some, wrote)
 
-  -- a fault was told behind what was printed
+  -- a fault was reported behind what was printed
   ends_behind : (a b c : Output W) (fault : Fault) (number count : ℕ) (s t last : List ℕ) (ended : Ended) → WritesWhole contents a b s → number ≡ count → EndsAtFault contents b c fault number t last ended → EndsAtFault contents a c fault count (s ++ t) last ended
   ends_behind a b c fault number count s t last ended whole same (three, inl (later, shown)) = (
     three,
@@ -114,50 +114,50 @@ module _ {W : Type 0} (contents : W → Option (List ℕ)) where
       (three, inr (subst (WritesLess contents a c) (sym (append_assoc s t (line (words_of_fault fault)))) (whole_less a b c s (t ++ line (words_of_fault fault)) whole later), nothing))
 
   -- all that was held was written, and one text more, or a beginning of it
-  none_held : (s front rest : List ℕ) → s ≡ front ++ rest → rest ≡ [] → s ≡ front
-  none_held s front rest is none = is ∙ (ap (λ z. front ++ z) none ∙ append-nil front)
+  none_held : (s prefix rest : List ℕ) → s ≡ prefix ++ rest → rest ≡ [] → s ≡ prefix
+  none_held s prefix rest is none = is ∙ (ap (λ z. prefix ++ z) none ∙ append-nil prefix)
 
   pub released_with : (a b c : Output W) (s t rest : List ℕ) → Releases contents a b s rest → rest ≡ [] → WritesWhole contents b c t → Releases contents a c (s ++ t) rest
-  released_with a b c s t rest (front, is, wrote) none later =
-      (front ++ t, ap (λ z. z ++ t) (none_held s front rest is none) ∙ (sym (append-nil (front ++ t)) ∙ ap (λ z. (front ++ t) ++ z) (sym none)), whole_whole a b c front t wrote later)
+  released_with a b c s t rest (prefix, is, wrote) none later =
+      (prefix ++ t, ap (λ z. z ++ t) (none_held s prefix rest is none) ∙ (sym (append-nil (prefix ++ t)) ∙ ap (λ z. (prefix ++ t) ++ z) (sym none)), whole_whole a b c prefix t wrote later)
 
   pub released_less : (a b c : Output W) (s t rest : List ℕ) → Releases contents a b s rest → rest ≡ [] → WritesLess contents b c t → WritesLess contents a c (s ++ t)
-  released_less a b c s t rest (front, is, wrote) none less = subst (λ z. WritesLess contents a c (z ++ t)) (sym (none_held s front rest is none)) (whole_less a b c front t wrote less)
+  released_less a b c s t rest (prefix, is, wrote) none less = subst (λ z. WritesLess contents a c (z ++ t)) (sym (none_held s prefix rest is none)) (whole_less a b c prefix t wrote less)
 
-  -- the answers that wait were not written whole, or a fault behind them was not told whole, or it was
+  -- the answers that wait were not written whole, or a fault behind them was not reported whole, or it was
   pub unwritten : (a b : Output W) (fault : Fault) (number : ℕ) (s : List ℕ) (ended : Ended) → WritesLess contents a b s → ended.status ≡ 3 → ended.shown ≡ Ok tt → EndsAtFault contents a b fault number s [] ended
   unwritten a b fault number s ended less three quiet = (three, inr (less_more a b s (line (words_of_fault fault)) less, (refl, quiet)))
 
-  pub untold : (a b c : Output W) (fault : Fault) (number : ℕ) (s : List ℕ) (ended : Ended) → WritesWhole contents a b s → WritesLess contents b c (line (words_of_fault fault)) → ended.status ≡ 3 → ended.shown ≡ Ok tt
+  pub unreported : (a b c : Output W) (fault : Fault) (number : ℕ) (s : List ℕ) (ended : Ended) → WritesWhole contents a b s → WritesLess contents b c (line (words_of_fault fault)) → ended.status ≡ 3 → ended.shown ≡ Ok tt
       → EndsAtFault contents a c fault number s [] ended
-  untold a b c fault number s ended whole less three quiet = (three, inr (whole_less a b c s (line (words_of_fault fault)) whole less, (refl, quiet)))
+  unreported a b c fault number s ended whole less three quiet = (three, inr (whole_less a b c s (line (words_of_fault fault)) whole less, (refl, quiet)))
 
-  pub all_told : (a b c : Output W) (fault : Fault) (number : ℕ) (s last : List ℕ) (ended : Ended) → WritesWhole contents a b s → WritesWhole contents b c (line (words_of_fault fault)) → ended.status ≡ 3 → IsPlaceShown number fault last ended.shown
+  pub all_reported : (a b c : Output W) (fault : Fault) (number : ℕ) (s last : List ℕ) (ended : Ended) → WritesWhole contents a b s → WritesWhole contents b c (line (words_of_fault fault)) → ended.status ≡ 3 → IsPlaceShown number fault last ended.shown
       → EndsAtFault contents a c fault number s last ended
-  all_told a b c fault number s last ended whole later three is = (three, inl (whole_whole a b c s (line (words_of_fault fault)) whole later, is))
+  all_reported a b c fault number s last ended whole later three is = (three, inl (whole_whole a b c s (line (words_of_fault fault)) whole later, is))
 
   -- the explanations were written while all writes went well
-  told_more : (a b c : Output W) (s t : List ℕ) (was is : Bool) → MatchBool was (WritesWhole contents a b s) (WritesLess contents a b s)
+  reported_more : (a b c : Output W) (s t : List ℕ) (was is : Bool) → MatchBool was (WritesWhole contents a b s) (WritesLess contents a b s)
       → (was ≡ true → is ≡ true → WritesWhole contents b c t) → (was ≡ true → is ≡ false → WritesLess contents b c t) → (was ≡ false → (c ≡ b) × (is ≡ false))
       → MatchBool is (WritesWhole contents a c (s ++ t)) (WritesLess contents a c (s ++ t))
-  told_more a b c s t true true told whole less none = whole_whole a b c s t told (whole refl refl)
-  told_more a b c s t true false told whole less none = whole_less a b c s t told (less refl refl)
-  told_more a b c s t false true told whole less none = let h = none refl in absurd (cc (h.1))
-  told_more a b c s t false false told whole less none = let h = none refl in subst (λ z. WritesLess contents a z (s ++ t)) (sym h.0) (less_more a b s t told)
+  reported_more a b c s t true true reported whole less none = whole_whole a b c s t reported (whole refl refl)
+  reported_more a b c s t true false reported whole less none = whole_less a b c s t reported (less refl refl)
+  reported_more a b c s t false true reported whole less none = let h = none refl in absurd (cc (h.1))
+  reported_more a b c s t false false reported whole less none = let h = none refl in subst (λ z. WritesLess contents a z (s ++ t)) (sym h.0) (less_more a b s t reported)
 
-  either_told : (a b : Output W) (s : List ℕ) (is : Bool) → MatchBool is (WritesWhole contents a b s) (WritesLess contents a b s) → WritesWhole contents a b s ⊎ WritesLess contents a b s
-  either_told a b s true told = inl told
-  either_told a b s false told = inr told
+  either_reported : (a b : Output W) (s : List ℕ) (is : Bool) → MatchBool is (WritesWhole contents a b s) (WritesLess contents a b s) → WritesWhole contents a b s ⊎ WritesLess contents a b s
+  either_reported a b s true reported = inl reported
+  either_reported a b s false reported = inr reported
 
   -- one text more was written, or not as a write had failed
-  told_last : (a b c : Output W) (s t : List ℕ) (is : Bool) → MatchBool is (WritesWhole contents a b s) (WritesLess contents a b s) → ShowsLast contents b c is t → WritesWhole contents a c (s ++ t) ⊎ WritesLess contents a c (s ++ t)
-  told_last a b c s t true told (inl whole) = inl (whole_whole a b c s t told whole)
-  told_last a b c s t true told (inr less) = inr (whole_less a b c s t told less)
-  told_last a b c s t false told same = inr (subst (λ z. WritesLess contents a z (s ++ t)) (sym same) (less_more a b s t told))
+  reported_last : (a b c : Output W) (s t : List ℕ) (is : Bool) → MatchBool is (WritesWhole contents a b s) (WritesLess contents a b s) → ShowsLast contents b c is t → WritesWhole contents a c (s ++ t) ⊎ WritesLess contents a c (s ++ t)
+  reported_last a b c s t true reported (inl whole) = inl (whole_whole a b c s t reported whole)
+  reported_last a b c s t true reported (inr less) = inr (whole_less a b c s t reported less)
+  reported_last a b c s t false reported same = inr (subst (λ z. WritesLess contents a z (s ++ t)) (sym same) (less_more a b s t reported))
 
   -- nothing more was
-  told_all : (a b : Output W) (s : List ℕ) (is : Bool) → MatchBool is (WritesWhole contents a b s) (WritesLess contents a b s) → WritesWhole contents a b (s ++ []) ⊎ WritesLess contents a b (s ++ [])
-  told_all a b s is told = subst (λ z. WritesWhole contents a b z ⊎ WritesLess contents a b z) (sym (append-nil s)) (either_told a b s is told)
+  reported_all : (a b : Output W) (s : List ℕ) (is : Bool) → MatchBool is (WritesWhole contents a b s) (WritesLess contents a b s) → WritesWhole contents a b (s ++ []) ⊎ WritesLess contents a b (s ++ [])
+  reported_all a b s is reported = subst (λ z. WritesWhole contents a b z ⊎ WritesLess contents a b z) (sym (append-nil s)) (either_reported a b s is reported)
 
   -- nothing was written
   pub shows_nothing : (a : Output W) (is : Bool) → ShowsLast contents a a is []
@@ -211,7 +211,7 @@ module _ {R W E : Type 0} (remaining : R → Option (List ℕ)) (contents : W �
     pub answered : AreAnswered request 1 texts said shown
     pub said_is : said ≡ written ++ waiting
     pub printed : WritesWhole contents before after written
-    pub told : MatchBool is_shown (WritesWhole held errors_before errors_after shown) (WritesLess held errors_before errors_after shown)
+    pub reported : MatchBool is_shown (WritesWhole held errors_before errors_after shown) (WritesLess held errors_before errors_after shown)
     pub refused : MatchBool is_refused (shown ≢ []) (shown ≡ [])
     pub number_is : number ≡ 1 + length texts
     pub fewer : number + most_lines now unread ≤ first.reads_left * 65537 + 1
@@ -231,7 +231,7 @@ module _ {R W E : Type 0} (remaining : R → Option (List ℕ)) (contents : W �
     answered = (refl, refl);
     said_is = sym no_answers;
     printed = whole_nothing contents before;
-    told = whole_nothing held errors;
+    reported = whole_nothing held errors;
     refused = refl;
     number_is = refl;
     fewer = omega (arith, ap length none);
@@ -253,7 +253,7 @@ module _ {R W E : Type 0} (remaining : R → Option (List ℕ)) (contents : W �
     are_lines = with_rest (remaining first.reader) (remaining first.reader) [] (nothing (remaining first.reader));
     answered = (refl, refl);
     ends = inr (inl (InputFailed, inr (inr (had, refl)), ends));
-    told = shows;
+    reported = shows;
   } where
     nothing : (r : Option (List ℕ)) → TakesLines r r []
     nothing None = tt
@@ -263,16 +263,16 @@ module _ {R W E : Type 0} (remaining : R → Option (List ℕ)) (contents : W �
       (g : AreAnsweredSoFar request first now unread before after waiting errors_before errors_after number is_refused is_shown) where
     -- a beginning of the answers that wait was written
     pub released : (later : Output W) (rest : List ℕ) → Releases contents after later waiting rest → AreAnsweredSoFar request first now unread before later rest errors_before errors_after number is_refused is_shown
-    released later rest (front, is, wrote) = record {
+    released later rest (prefix, is, wrote) = record {
       texts = g.texts;
       said = g.said;
-      written = g.written ++ front;
+      written = g.written ++ prefix;
       shown = g.shown;
       taken = g.taken;
       answered = g.answered;
-      said_is = g.said_is ∙ (ap (λ z. g.written ++ z) is ∙ sym (append_assoc g.written front rest));
-      printed = whole_whole contents before after later g.written front g.printed wrote;
-      told = g.told;
+      said_is = g.said_is ∙ (ap (λ z. g.written ++ z) is ∙ sym (append_assoc g.written prefix rest));
+      printed = whole_whole contents before after later g.written prefix g.printed wrote;
+      reported = g.reported;
       refused = g.refused;
       number_is = g.number_is;
       fewer = g.fewer;
@@ -293,14 +293,14 @@ module _ {R W E : Type 0} (remaining : R → Option (List ℕ)) (contents : W �
       are_lines = with_rest _ _ g.texts g.taken;
       answered = g.answered;
       ends = inr (inr (three, subst (WritesLess contents before later) (sym g.said_is) (whole_less contents before after later g.written waiting g.printed wrote), (refl, quiet)));
-      told = told_all held errors_before errors_after g.shown is_shown g.told;
+      reported = reported_all held errors_before errors_after g.shown is_shown g.reported;
     }
 
     -- the input has no more lines
     pub all_answered : (new : Input R) (later : Output W) (printed : List ℕ) (status result : ℕ) (ended : Ended) → first.has_ended ≡ false → IsAtEnd (left remaining now unread) → new.has_ended ≡ true → new.failures ≡ now.failures → status ≡ (if is_refused then 1 else 0)
         → printed ≡ waiting → Prints contents after later printed status result → ended.status ≡ result → ended.shown ≡ Ok tt → AnswersLines contents held request (remaining first.reader) first new before later errors_before errors_after ended
     all_answered new later printed status result ended goes_on end at_end fine is all (inr (three, wrote)) same quiet = cut_short new later ended (subst (WritesLess contents after later) all wrote) (same ∙ three) quiet
-    all_answered new later printed status result ended goes_on end at_end fine is all (inl (due, wrote)) same quiet = record {
+    all_answered new later printed status result ended goes_on end at_end fine is all (inl (expected, wrote)) same quiet = record {
       texts = g.texts;
       rest = rest_of (left remaining now unread);
       said = g.said;
@@ -312,15 +312,15 @@ module _ {R W E : Type 0} (remaining : R → Option (List ℕ)) (contents : W �
           inl (
             no_rest (left remaining now unread) end,
             (goes_on, at_end, fine ∙ g.well),
-            status_of g.shown is_refused ended.status g.refused (same ∙ (due ∙ is)),
+            status_of g.shown is_refused ended.status g.refused (same ∙ (expected ∙ is)),
             subst (WritesWhole contents before later) (sym g.said_is) (whole_whole contents before after later g.written waiting g.printed (subst (WritesWhole contents after later) all wrote)),
             (refl, quiet),
           );
-      told = told_all held errors_before errors_after g.shown is_shown g.told;
+      reported = reported_all held errors_before errors_after g.shown is_shown g.reported;
     }
 
     module _ (new : Input R) (more : Unread) (later : Output W) (errors_then : Output E) (ended : Ended) where
-      -- a fault is told in place of the next line
+      -- a fault is reported in place of the next line
       faulty : (fault : Fault) (last : List ℕ) (rest : List (List ℕ)) → IfSome (remaining first.reader) (λ bytes. lines bytes ≡ g.texts ++ rest) → IsLineFault rest first new fault
           → EndsAtFault contents after later fault number waiting last ended → ShowsLast held errors_after errors_then is_shown last
           → AnswersLines contents held request (remaining first.reader) first new before later errors_before errors_then ended
@@ -334,7 +334,7 @@ module _ {R W E : Type 0} (remaining : R → Option (List ℕ)) (contents : W �
         answered = g.answered;
         ends =
             inr (inl (fault, is, subst (λ z. EndsAtFault contents before later fault (1 + length g.texts) z last ended) (sym g.said_is) (ends_behind contents before after later fault number (1 + length g.texts) g.written waiting last ended g.printed g.number_is ends)));
-        told = told_last held errors_before errors_after errors_then g.shown last is_shown g.told shows;
+        reported = reported_last held errors_before errors_after errors_then g.shown last is_shown g.reported shows;
       }
 
       -- the next line is not answered
@@ -351,8 +351,8 @@ module _ {R W E : Type 0} (remaining : R → Option (List ℕ)) (contents : W �
         (printed_is : printed ≡ line answer) (errors_then : Output E) (shows : Bool)
         (whole : is_shown ≡ true → shows ≡ true → WritesWhole held errors_after errors_then explained) (less : is_shown ≡ true → shows ≡ false → WritesLess held errors_after errors_then explained)
         (none : is_shown ≡ false → (errors_then ≡ errors_after) × (shows ≡ false)) where
-      told_then : MatchBool shows (WritesWhole held errors_before errors_then (g.shown ++ explained)) (WritesLess held errors_before errors_then (g.shown ++ explained))
-      told_then = told_more held errors_before errors_after errors_then g.shown explained is_shown shows g.told whole less none
+      reported_then : MatchBool shows (WritesWhole held errors_before errors_then (g.shown ++ explained)) (WritesLess held errors_before errors_then (g.shown ++ explained))
+      reported_then = reported_more held errors_before errors_after errors_then g.shown explained is_shown shows g.reported whole less none
 
       answered_then : AreAnswered request 1 (g.texts ++ text ∷ []) (g.said ++ line answer) (g.shown ++ explained)
       answered_then = answered_more request 1 g.texts g.said g.shown text answer explained g.answered (subst (λ n. IsLineAnswer request n text answer explained) g.number_is is)
@@ -365,20 +365,20 @@ module _ {R W E : Type 0} (remaining : R → Option (List ℕ)) (contents : W �
       pub one_answered : (later : Output W) (rest : List ℕ) (empty : Bool) → Releases contents after later (waiting ++ printed) rest → MatchBool empty (explained ≡ []) (explained ≢ [])
           → most_lines new more + 1 ≤ most_lines now unread → IsEndKnown remaining new → new.failures ≡ now.failures → new.reads_left ≤ now.reads_left
           → AreAnsweredSoFar request first new more before later rest errors_before errors_then (number + 1) (is_refused || not empty) shows
-      one_answered later rest empty (front, is_front, wrote) emptiness progress known fine fewer_reads =
+      one_answered later rest empty (prefix, is_prefix, wrote) emptiness progress known fine fewer_reads =
           let old = g.fewer in
           let numbered = g.number_is in
           let reads = g.counted in
           record {
             texts = g.texts ++ text ∷ [];
             said = g.said ++ line answer;
-            written = g.written ++ front;
+            written = g.written ++ prefix;
             shown = g.shown ++ explained;
             taken = takes_more _ _ _ g.texts text g.taken next;
             answered = answered_then;
-            said_is = said_then ∙ (ap (λ z. g.written ++ z) is_front ∙ sym (append_assoc g.written front rest));
-            printed = whole_whole contents before after later g.written front g.printed wrote;
-            told = told_then;
+            said_is = said_then ∙ (ap (λ z. g.written ++ z) is_prefix ∙ sym (append_assoc g.written prefix rest));
+            printed = whole_whole contents before after later g.written prefix g.printed wrote;
+            reported = reported_then;
             refused = refused_more g.shown explained is_refused empty g.refused emptiness;
             number_is = omega (arith, numbered, length-append g.texts (text ∷ []));
             fewer = omega (arith, old, progress);
@@ -399,5 +399,5 @@ module _ {R W E : Type 0} (remaining : R → Option (List ℕ)) (contents : W �
         are_lines = with_rest _ _ (g.texts ++ text ∷ []) (takes_more _ _ _ g.texts text g.taken next);
         answered = answered_then;
         ends = inr (inr (three, subst (WritesLess contents before later) (sym (said_then)) (whole_less contents before after later g.written (waiting ++ printed) g.printed wrote), (refl, quiet)));
-        told = told_all held errors_before errors_then (g.shown ++ explained) shows told_then;
+        reported = reported_all held errors_before errors_then (g.shown ++ explained) shows reported_then;
       }

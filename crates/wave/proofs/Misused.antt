@@ -43,7 +43,7 @@ call_alone rest none unknown = unknown Call (ap (λ r. codes "call" ∷ r) none)
 pub too_many_said : {E : Type 0} (r : Result (String Global) E) (word : List ℕ) (rest : List (List ℕ)) (most : ℕ) (extra : List ℕ) → IsCommand word most → most < length (word ∷ rest) → get_or (word ∷ rest) most [] ≡ extra
     → IfOk r (λ why. (quoted : List ℕ) × IsQuoted extra quoted × (string_bytes why ≡ codes "an argument too many: " ++ line quoted))
     → IfOk r (λ why. IsMisuse (word ∷ rest) (string_bytes why))
-too_many_said (Err e) word rest most extra command many is told = tt
+too_many_said (Err e) word rest most extra command many is reported = tt
 too_many_said (Ok why) word rest most extra command many is (quoted, quotes, said) =
     inr (inr (inl (word, rest, most, quoted, refl, command, many, subst (λ t. IsQuoted t quoted) (sym is) quotes, said)))
 
@@ -51,7 +51,7 @@ too_many_said (Ok why) word rest most extra command many is (quoted, quotes, sai
 pub value_limit_said : {E : Type 0} (r : Result (String Global) E) (rest : List (List ℕ)) (word : List ℕ) → rest ≡ word ∷ [] → MakeNone (codes "value" ∷ rest)
     → IfOk r (λ why. (quoted : List ℕ) × IsQuoted word quoted × (string_bytes why ≡ quoted ++ line (codes " is no number of levels: N is a whole number from 1 to 1000")))
     → IfOk r (λ why. IsMisuse (codes "value" ∷ rest) (string_bytes why))
-value_limit_said (Err e) rest word is unknown told = tt
+value_limit_said (Err e) rest word is unknown reported = tt
 value_limit_said (Ok why) rest word is unknown (quoted, quotes, said) =
     inr (inr (inr (inr (inl (
       codes "value" ∷ [],
@@ -68,19 +68,19 @@ value_limit_said (Ok why) rest word is unknown (quoted, quotes, said) =
 pub read_limit_said : {E : Type 0} (r : Result (String Global) E) (rest : List (List ℕ)) (type word : List ℕ) → rest ≡ type ∷ word ∷ [] → ((n : ℕ) → IsLimitWord word n → ⊥)
     → IfOk r (λ why. (quoted : List ℕ) × IsQuoted word quoted × (string_bytes why ≡ quoted ++ line (codes " is no number of levels: N is a whole number from 1 to 1000")))
     → IfOk r (λ why. IsMisuse (codes "read" ∷ rest) (string_bytes why))
-read_limit_said (Err e) rest type word is none told = tt
+read_limit_said (Err e) rest type word is none reported = tt
 read_limit_said (Ok why) rest type word is none (quoted, quotes, said) =
     inr (inr (inr (inr (inl (codes "read" ∷ type ∷ [], word, quoted, ap (λ r. codes "read" ∷ r) is, inr (type, refl), none, quotes, said)))))
 
 -- no type behind `read`
 pub type_said : {E : Type 0} (r : Result (String Global) E) (rest more : List (List ℕ)) (word : List ℕ) → rest ≡ word ∷ more → IfOk r (λ why. IsBadType word (string_bytes why)) → IfOk r (λ why. IsMisuse (codes "read" ∷ rest) (string_bytes why))
-type_said (Err e) rest more word is told = tt
-type_said (Ok why) rest more word is told = inr (inr (inr (inr (inr (inl (word, more, ap (λ r. codes "read" ∷ r) is, told))))))
+type_said (Err e) rest more word is reported = tt
+type_said (Ok why) rest more word is reported = inr (inr (inr (inr (inr (inl (word, more, ap (λ r. codes "read" ∷ r) is, reported))))))
 
 -- no type of a function behind `call`
 pub func_said : {E : Type 0} (r : Result (String Global) E) (rest : List (List ℕ)) (word : List ℕ) → rest ≡ word ∷ [] → IfOk r (λ why. IsBadFunc word (string_bytes why)) → IfOk r (λ why. IsMisuse (codes "call" ∷ rest) (string_bytes why))
-func_said (Err e) rest word is told = tt
-func_said (Ok why) rest word is told = inr (inr (inr (inr (inr (inr (inl (word, ap (λ r. codes "call" ∷ r) is, told)))))))
+func_said (Err e) rest word is reported = tt
+func_said (Ok why) rest word is reported = inr (inr (inr (inr (inr (inr (inl (word, ap (λ r. codes "call" ∷ r) is, reported)))))))
 
 -- what `call` or `read` takes is none, where no request is made
 pub none_called : (rest : List (List ℕ)) (word : List ℕ) → rest ≡ word ∷ [] → MakeNone (codes "call" ∷ rest) → (f : FunctionType) → NamesFunction word f → ⊥
@@ -94,7 +94,7 @@ none_read_within rest word limit n is within unknown T names = unknown (Read T n
 
 -- what is said of arguments is said of the same ones
 pub said_of : {E : Type 0} (r : Result (String Global) E) (words others : List (List ℕ)) → others ≡ words → IfOk r (λ why. IsMisuse others (string_bytes why)) → IfOk r (λ why. IsMisuse words (string_bytes why))
-said_of r words others is told = subst (λ ws. IfOk r (λ why. IsMisuse ws (string_bytes why))) is told
+said_of r words others is reported = subst (λ ws. IfOk r (λ why. IsMisuse ws (string_bytes why))) is reported
 
 -- the texts of the first argument and of the others
 pub texts_first : (words rest : List (String Global)) (first : String Global) (t word : List ℕ) → words ≡ first ∷ rest → t ≡ string_bytes first → t ≡ word → word ∷ map string_bytes rest ≡ map string_bytes words
@@ -105,17 +105,17 @@ pub none_first : (words others : List (List ℕ)) → others ≡ words → MakeN
 none_first words others is = subst MakeNone (sym is)
 
 -- what is said where help is
-pub helped : {E : Type 0} (r : Result (String Global) E) (words front : List (List ℕ)) (why : List ℕ) → (words ≡ front) ⊎ (words ≡ front ++ codes "--lines" ∷ []) → IsMisuse front why
+pub helped : {E : Type 0} (r : Result (String Global) E) (words prefix : List (List ℕ)) (why : List ℕ) → (words ≡ prefix) ⊎ (words ≡ prefix ++ codes "--lines" ∷ []) → IsMisuse prefix why
     → IfOk r (λ whole. string_bytes whole ≡ why ++ line (codes "wave --help has the arguments")) → IfOk r (λ text. IsExplainedMisuse words (string_bytes text))
-helped (Err e) words front why of wrong is = tt
-helped (Ok whole) words front why of wrong is = (front, why, of, wrong, is)
+helped (Err e) words prefix why of wrong is = tt
+helped (Ok whole) words prefix why of wrong is = (prefix, why, of, wrong, is)
 
 -- arguments that ask for nothing make no request, nor do those before a last `--lines`
 pub none_whole : (words : List (List ℕ)) → AreUnknown words → MakeNone words
 none_whole words unknown request asked = unknown (Whole request) asked
 
-pub none_before : (words front : List (List ℕ)) → words ≡ front ++ codes "--lines" ∷ [] → AreUnknown words → MakeNone front
-none_before words front is unknown request asked = unknown (Lines request) (front, is, asked)
+pub none_before : (words prefix : List (List ℕ)) → words ≡ prefix ++ codes "--lines" ∷ [] → AreUnknown words → MakeNone prefix
+none_before words prefix is unknown request asked = unknown (Lines request) (prefix, is, asked)
 
 -- a type without a value
 pub valueless_said : {E : Type 0} (r : Result (String Global) E) (word text : List ℕ) (T : TypeTree) → text ≡ text_of word → IsTypeOf text T → levels_of T ≤ 100 → ((U : TypeTree) → NamesType word U → ⊥)

@@ -34,8 +34,8 @@ wants_memory T n s v e distinct read memory = memory T (read.meant distinct).1.f
 
 -- a refusal that is handed on says what it said
 pub handed_on : {X : Type 0} (Answer : X → Type 0) (request : Request) (s : List ℕ) (r : Result X Unanswered) (e : Diagnostic) → IsErrAnd r (λ unanswered. unanswered ≡ why.Refused e) → (e.kind ≢ kind.OutOfMemory → IsRefused request s e) → MatchResult r Answer (IsUnanswered request s)
-handed_on Answer request s (Ok x) e same told = absurd same
-handed_on Answer request s (Err u) e same told = subst (IsUnanswered request s) (sym same) told
+handed_on Answer request s (Ok x) e same reported = absurd same
+handed_on Answer request s (Err u) e same reported = subst (IsUnanswered request s) (sym same) reported
 
 -- there was no memory for an answer
 pub unshown : {X : Type 0} (Answer : X → Type 0) (request : Request) (s : List ℕ) (r : Result X Unanswered) (answer : List ℕ) → IsErrAnd r (λ unanswered. unanswered ≡ why.OutOfMemory) → Answers request s answer → MatchResult r Answer (IsUnanswered request s)
@@ -43,8 +43,8 @@ unshown Answer request s (Ok x) answer same answers = absurd same
 unshown Answer request s (Err u) answer same answers = subst (IsUnanswered request s) (sym same) (answer, answers)
 
 -- the refusal states a fault of the text, which has no answer; or it is out of memory
-pub told : (T : TypeTree) (n : ℕ) (s : List ℕ) (e : Diagnostic) → HasDistinctNames T → (HasDistinctNames T → BlamesText IsFull T n s e) → e.kind ≢ kind.OutOfMemory → IsRefused (Read T n) s e
-told T n s e distinct blames other = by (blames distinct) where
+pub reported : (T : TypeTree) (n : ℕ) (s : List ℕ) (e : Diagnostic) → HasDistinctNames T → (HasDistinctNames T → BlamesText IsFull T n s e) → e.kind ≢ kind.OutOfMemory → IsRefused (Read T n) s e
+reported T n s e distinct blames other = by (blames distinct) where
   by : BlamesText IsFull T n s e → IsRefused (Read T n) s e
   by (inl memory) = absurd (other memory)
   by (inr (inl (wrong, none))) = (wrong, λ answer found. none found.0 found.1)
@@ -62,11 +62,11 @@ module _ (T : TypeTree) (n : ℕ) (s : List ℕ) (old : Parsing) (p : Place) (fi
   -- a value with something after it
   pub trails : (v : TypedValue) (e : Diagnostic) → HasDistinctNames T → IsValueTaken (λ (v : TypedValue). v.tree) (λ v T. IsAt T v) T old.limit old.place p v → Finishes (Err e) p → e.kind ≢ kind.OutOfMemory → IsRefused (Read T n) s e
   trails v e distinct taken ends =
-      told T n s e distinct ((whole_text (λ (v : TypedValue). v.tree) (λ v T. IsAt T v) IsFull T n s).trails p v e
+      reported T n s e distinct ((whole_text (λ (v : TypedValue). v.tree) (λ v T. IsAt T v) IsFull T n s).trails p v e
       (subst (λ (z : Parsing). IsValueTaken (λ (v : TypedValue). v.tree) (λ v T. IsAt T v) T z.limit z.place p v) first taken) ends).blames
 
   -- a value that was refused
   pub refused_there : (e : Diagnostic) → HasDistinctNames T → RefusesValue IsFull T old.limit e old.place p → e.kind ≢ kind.OutOfMemory → IsRefused (Read T n) s e
   refused_there e distinct refused =
-      told T n s e distinct ((whole_text (λ (v : TypedValue). v.tree) (λ v T. IsAt T v) IsFull T n s).refused p e
+      reported T n s e distinct ((whole_text (λ (v : TypedValue). v.tree) (λ v T. IsAt T v) IsFull T n s).refused p e
       (subst (λ (z : Parsing). RefusesValue IsFull T z.limit e z.place p) first refused)).1

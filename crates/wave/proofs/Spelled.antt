@@ -5,13 +5,13 @@ use Rattle.wave_wasm.specs.Lists.{AllOf}
 use Rattle.wave_wasm.specs.Names.{AreDistinct}
 use Rattle.wave_wasm.specs.Types as type
 use Rattle.wave_wasm.specs.Types.{TypeTree, MaybeType, Types, Fields, Cases, no_type, a_type, no_types, type_and, no_fields, field, no_cases, case_of, fields_of, field_list, field_names, HasDistinctNames, EachNamesOfMaybe, EachNamesOfTypes, EachNamesOfFields, EachNamesOfCases}
-use Rattle.wave_lex.specs.Labels.{Good}
+use Rattle.wave_lex.specs.Labels.{HasDistinctLabels}
 use Rattle.wave_type.specs.FunctionSpelling.{SpellsParts, IsFunctionOf, IsNoFunction, levels_of_function}
 use Rattle.wave_type.specs.FunctionType.{FunctionType, types_of}
 use Rattle.wave_type.specs.TypeSpelling.{Tokens, Names, Spells, SpellsTypes, SpellsFields, SpellsCases, SpellsPayload, IsTypeOf, IsNoType, levels_of, levels_of_fields}
 use Rattle.wave_type.specs.declared.error.TypeErrorKind.{TypeErrorKind}
 use Rattle.wave_type.specs.declared.error.TypeErrorKind.TheVariants.{OutOfMemory}
-use Rattle.wave_type.proofs.TypeReading.SpelledNames.{function_text_good}
+use Rattle.wave_type.proofs.TypeReading.SpelledNames.{function_text_labelled}
 use Rattle.wave_type.proofs.TypeReading.Complete.{one_spelling, fields_all, read_complete, name_stands, paren}
 use Rattle.wave_type.proofs.TypeTrees.Lists.{field_list-fields_of}
 use Rattle.wave_type.proofs.TypeReading.TextTokens.{one_cut}
@@ -116,13 +116,13 @@ one_params text f g (ts, cut, (m, l, e, params, results)) (us, other, (n, k, is,
     let same : m ≡ n = ap (drop 2) (sym e ∙ (one_cut ts us text cut other ∙ is)) in
     one_parts f.params g.params n l k (subst (λ (z : Tokens). SpellsParts f.params z l) same params) others
 
-all_distinct : (Ts : List TypeTree) → AllOf Good Ts → AllOf HasDistinctNames Ts
-all_distinct [] good = tt
-all_distinct (T ∷ Ts) good = (good.0.1, all_distinct Ts good.1)
+all_distinct : (Ts : List TypeTree) → AllOf HasDistinctLabels Ts → AllOf HasDistinctNames Ts
+all_distinct [] labelled = tt
+all_distinct (T ∷ Ts) labelled = (labelled.0.1, all_distinct Ts labelled.1)
 
 -- no name stands twice in the types of the parameters of a function that a word names
 pub params_distinct : (word : List ℕ) (f : FunctionType) → NamesFunction word f → AllOf HasDistinctNames (types_of f.params)
-params_distinct word f (spells, within, have) = all_distinct (types_of f.params) (function_text_good word f spells).0.2
+params_distinct word f (spells, within, have) = all_distinct (types_of f.params) (function_text_labelled word f spells).0.2
 
 module _ (word : List ℕ) where
   -- the text spells no function

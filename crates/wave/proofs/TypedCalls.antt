@@ -11,7 +11,7 @@ use Rattle.wave_lex.specs.declared.error.ParserErrorKind.TheVariants as kind
 use Rattle.wave_type.specs.FunctionType.{FunctionType, types_of}
 use Rattle.wave_value.specs.FullTypes.{IsFull}
 use Rattle.wave_value.specs.TypedValue.{TypedValue, IsAt}
-use Rattle.wave_grammar.specs.Token.{Token, CutsInto, paren_close}
+use Rattle.wave_grammar.specs.Token.{Token, TokenizesTo, paren_close}
 use Rattle.wave_grammar.specs.Tree.{Tree, Trees, MaybeTree, no_tree, a_tree, tuple, trees}
 use Rattle.wave_grammar.specs.Calls.{IsCall, SpellsParams}
 use Rattle.wave_grammar.specs.Params.{Params}
@@ -53,10 +53,10 @@ items_of tokens params (inl (e, f)) = record {
   are = subst (λ (p : MaybeTree). AreItemsOf p []) (sym f) refl;
   by = λ Ts vs. subst (λ (z : List Token). Params Ts z vs ↔ TreeParams Ts [] vs) (sym e) (params_by_tree Ts 100 (paren_close ∷ []) [] vs refl);
 }
-items_of tokens params (inr (front, items, e, some, all, f)) = record {
+items_of tokens params (inr (prefix, items, e, some, all, f)) = record {
   items = items;
   are = subst (λ (p : MaybeTree). AreItemsOf p items) (sym f) refl;
-  by = λ Ts vs. subst (λ (z : List Token). Params Ts z vs ↔ TreeParams Ts items vs) (sym e) (params_by_tree Ts 100 front items vs all);
+  by = λ Ts vs. subst (λ (z : List Token). Params Ts z vs ↔ TreeParams Ts items vs) (sym e) (params_by_tree Ts 100 prefix items vs all);
 }
 
 one_list : (ts us : List Tree) → trees ts ≡ trees us → ts ≡ us
@@ -149,7 +149,7 @@ same_tokens s name other params others call again =
     let less = call.named.1 again.bytes again.named.0 in
     let more = again.named.1 call.bytes call.named.0 in
     let same : again.bytes ≡ call.bytes = omega (arith, less, more) in
-    one_cut_into (drop call.bytes s) again.tokens call.tokens (subst (λ (k : ℕ). CutsInto (drop k s) again.tokens) same again.cut) call.cut
+    one_cut_into (drop call.bytes s) again.tokens call.tokens (subst (λ (k : ℕ). TokenizesTo (drop k s) again.tokens) same again.cut) call.cut
 
 module _ (f : FunctionType) (s : List ℕ) where
   -- a refusal of the parameters states a fault of the call, which has no values at the types; or it is out of memory
@@ -165,8 +165,8 @@ module _ (f : FunctionType) (s : List ℕ) where
   -- a refusal of the text states a fault of it, which is no call; or it is out of memory
   pub is_no_call_at : (e : Diagnostic) → RefusesCall s e → e.kind ≢ kind.OutOfMemory → IsRefused (CallAt f) s e
   is_no_call_at e fault other =
-      let told = fault other in
-      (inl told.0, λ answer (name, vs, (params, call, are), same). told.1 name params call)
+      let reported = fault other in
+      (inl reported.0, λ answer (name, vs, (params, call, are), same). reported.1 name params call)
 
   -- the name and the canonical parameters are the answer
   pub answered_at : (u : Called) (vs : List TypedValue) (answer : List ℕ) → AllOf HasDistinctNames (types_of f.params) → IsCalledOf s u → AreValuesAt (types_of f.params) u vs → answer ≡ slice s u.name ++ arguments_text (values_of vs) → Answers (CallAt f) s answer

@@ -31,15 +31,15 @@ Answers (request.CallAt f) whole answer =
 Answers (request.Read T n) whole answer = (v : Value) × Means T n whole v × (answer ≡ text v)
 
 -- the refusal states a fault of the text: its kind, detail, cause and place
-abbrev pub TellsFaultOf : Request → List ℕ → Diagnostic → Type 0
-TellsFaultOf (request.Value n) whole e = SyntaxFault n whole e
-TellsFaultOf request.Call whole e = CallFault whole e
-TellsFaultOf (request.CallAt f) whole e = CallFault whole e ⊎ CallFaultAt (types_of f.params) whole e
-TellsFaultOf (request.Read T n) whole e = TextFault T n whole e
+abbrev pub ReportsFaultOf : Request → List ℕ → Diagnostic → Type 0
+ReportsFaultOf (request.Value n) whole e = SyntaxFault n whole e
+ReportsFaultOf request.Call whole e = CallFault whole e
+ReportsFaultOf (request.CallAt f) whole e = CallFault whole e ⊎ CallFaultAt (types_of f.params) whole e
+ReportsFaultOf (request.Read T n) whole e = TextFault T n whole e
 
 -- the request on the text has no answer, and the refusal says why
 abbrev pub IsRefused : Request → List ℕ → Diagnostic → Type 0
-IsRefused request whole e = TellsFaultOf request whole e × ((answer : List ℕ) → Answers request whole answer → ⊥)
+IsRefused request whole e = ReportsFaultOf request whole e × ((answer : List ℕ) → Answers request whole answer → ⊥)
 
 -- the bytes left are the text, where they are known
 abbrev pub IsInput : Option (List ℕ) → List ℕ → Type 0

@@ -57,7 +57,7 @@ IsStatusOf shown status = (status ≡ 0) × (shown ≡ []) ⊎ (status ≡ 1) ×
 
 -- nothing is shown behind the explanations of lines, and there was memory for all that is shown
 abbrev pub IsNothingShown : List ℕ → Result (Unit {0}) AllocError → Type 0
-IsNothingShown last told = (last ≡ []) × (told ≡ Ok tt)
+IsNothingShown last reported = (last ≡ []) × (reported ≡ Ok tt)
 
 -- what is shown of the line of this number that is no text: the number, and at which of its bytes what is none begins, which is after so many
 abbrev pub numbered_place : ℕ → ℕ → List ℕ
@@ -66,10 +66,10 @@ numbered_place number place = codes "input line " ++ (decimal number ++ (codes "
 -- what is shown of a fault at the line of this number: the place in one that is no text, or nothing where out of memory is answered; of
 -- another fault nothing
 abbrev pub IsPlaceShown : ℕ → Fault → List ℕ → Result (Unit {0}) AllocError → Type 0
-IsPlaceShown number (NotUtf8 place) last told =
-    MatchResult told (λ _. last ≡ numbered_place number place) (λ _. last ≡ [])
-IsPlaceShown number InputFailed last told = IsNothingShown last told
-IsPlaceShown number OutOfMemory last told = IsNothingShown last told
+IsPlaceShown number (NotUtf8 place) last reported =
+    MatchResult reported (λ _. last ≡ numbered_place number place) (λ _. last ≡ [])
+IsPlaceShown number InputFailed last reported = IsNothingShown last reported
+IsPlaceShown number OutOfMemory last reported = IsNothingShown last reported
 
 module _ {R : Type 0} where
   -- why these lines aren't answered: the first is no text; the input was not read to its end; or there was no memory, and no read failed
@@ -108,7 +108,7 @@ module _ {R W E : Type 0} (contents : W → Option (List ℕ)) (held : E → Opt
     pub are_lines : IfSome left (λ bytes. lines bytes ≡ texts ++ rest)
     pub answered : AreAnswered request 1 texts said shown
     pub ends : EndsBefore rest (1 + length texts) old new before after said shown last ended
-    pub told : WritesWhole held errors_before errors_after (shown ++ last) ⊎ WritesLess held errors_before errors_after (shown ++ last)
+    pub reported : WritesWhole held errors_before errors_after (shown ++ last) ⊎ WritesLess held errors_before errors_after (shown ++ last)
 
   -- the arguments ask for a request on each line, which was answered so
   abbrev pub RunsByLines : List (List ℕ) → Option (List ℕ) → Input R → Input R → Output W → Output W → Output E → Output E → Ended → Type 0

@@ -20,7 +20,7 @@ use Rattle.wave.specs.Lines.{line}
 use Rattle.wave.specs.Written.{WritesWhole, WritesLess}
 
 -- the text explains the refusal of the whole text: without a type with what may stand there; of a value at a type, and of a call at a
--- function's type, with the path to the part that is wrong and the type that is due there
+-- function's type, with the path to the part that is wrong and the type that is expected there
 abbrev pub Explains : Request → List ℕ → Diagnostic → List ℕ → Type 0
 Explains (request.Value n) whole e text = IsUntypedExplained whole e text
 Explains request.Call whole e text = IsUntypedCallExplained whole e text

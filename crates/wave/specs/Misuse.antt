@@ -80,8 +80,8 @@ HasTooMany words why =
 -- where a limit may stand, behind these, stands none
 abbrev pub HasNoLimit : List (List ℕ) → List ℕ → Type 0
 HasNoLimit words why =
-    (front : List (List ℕ)) × (word : List ℕ) × (quoted : List ℕ)
-    × (words ≡ front ++ word ∷ []) × ((front ≡ codes "value" ∷ []) ⊎ ((type : List ℕ) × (front ≡ codes "read" ∷ type ∷ [])))
+    (prefix : List (List ℕ)) × (word : List ℕ) × (quoted : List ℕ)
+    × (words ≡ prefix ++ word ∷ []) × ((prefix ≡ codes "value" ∷ []) ⊎ ((type : List ℕ) × (prefix ≡ codes "read" ∷ type ∷ [])))
     × ((n : ℕ) → IsLimitWord word n → ⊥) × IsQuoted word quoted
     × (why ≡ quoted ++ line (codes " is no number of levels: N is a whole number from 1 to 1000"))
 
@@ -114,8 +114,8 @@ IsMisuse words why =
 -- what is said of arguments that ask for nothing, of those before a last `--lines`, and where help is
 abbrev pub IsExplainedMisuse : List (List ℕ) → List ℕ → Type 0
 IsExplainedMisuse words text =
-    (front : List (List ℕ)) × (why : List ℕ) × ((words ≡ front) ⊎ (words ≡ front ++ codes "--lines" ∷ []))
-    × IsMisuse front why × (text ≡ why ++ line (codes "wave --help has the arguments"))
+    (prefix : List (List ℕ)) × (why : List ℕ) × ((words ≡ prefix) ⊎ (words ≡ prefix ++ codes "--lines" ∷ []))
+    × IsMisuse prefix why × (text ≡ why ++ line (codes "wave --help has the arguments"))
 
 module _ {E : Type 0} (contents : E → Option (List ℕ)) where
   -- it was written, or a beginning of it where a write failed; or out of memory was answered, and nothing was written

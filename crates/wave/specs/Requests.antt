@@ -18,30 +18,30 @@ abbrev pub IsLimitWord : List ℕ → ℕ → Type 0
 IsLimitWord word n = (all_digits word ≡ Some n) × HasNoLeadingZero word × IsLimit n
 
 -- these arguments stand alone, and n is 100; or after them stands one that is n
-abbrev pub TellLimit : List (List ℕ) → List (List ℕ) → ℕ → Type 0
-TellLimit words front n = (words ≡ front) × (n ≡ 100) ⊎ ((word : List ℕ) × (words ≡ front ++ word ∷ []) × IsLimitWord word n)
+abbrev pub SayLimit : List (List ℕ) → List (List ℕ) → ℕ → Type 0
+SayLimit words prefix n = (words ≡ prefix) × (n ≡ 100) ⊎ ((word : List ℕ) × (words ≡ prefix ++ word ∷ []) × IsLimitWord word n)
 
 -- the arguments make the request
 abbrev pub AreWordsOf : Request → List (List ℕ) → Type 0
-AreWordsOf (Value n) words = TellLimit words (codes "value" ∷ []) n
+AreWordsOf (Value n) words = SayLimit words (codes "value" ∷ []) n
 AreWordsOf Call words = words ≡ codes "call" ∷ []
 AreWordsOf (CallAt f) words = (word : List ℕ) × (words ≡ codes "call" ∷ word ∷ []) × NamesFunction word f
-AreWordsOf (Read T n) words = (word : List ℕ) × TellLimit words (codes "read" ∷ word ∷ []) n × NamesType word T
+AreWordsOf (Read T n) words = (word : List ℕ) × SayLimit words (codes "read" ∷ word ∷ []) n × NamesType word T
 
 -- the arguments make the request that is asked for; to be answered on each line they do so before `--lines`
 abbrev pub AskFor : Asked → List (List ℕ) → Type 0
 AskFor (Whole request) words = AreWordsOf request words
-AskFor (Lines request) words = (front : List (List ℕ)) × (words ≡ front ++ codes "--lines" ∷ []) × AreWordsOf request front
+AskFor (Lines request) words = (prefix : List (List ℕ)) × (words ≡ prefix ++ codes "--lines" ∷ []) × AreWordsOf request prefix
 
 -- the arguments have a type, or the type of a function, by a name or its text
 abbrev pub HaveType : List (List ℕ) → Type 0
 HaveType words =
-    ((word : List ℕ) × (n : ℕ) × TellLimit words (codes "read" ∷ word ∷ []) n)
+    ((word : List ℕ) × (n : ℕ) × SayLimit words (codes "read" ∷ word ∷ []) n)
     ⊎ ((word : List ℕ) × (words ≡ codes "call" ∷ word ∷ []))
 
 -- they have one, perhaps before `--lines`
 abbrev pub AskForType : List (List ℕ) → Type 0
-AskForType words = HaveType words ⊎ ((front : List (List ℕ)) × (words ≡ front ++ codes "--lines" ∷ []) × HaveType front)
+AskForType words = HaveType words ⊎ ((prefix : List (List ℕ)) × (words ≡ prefix ++ codes "--lines" ∷ []) × HaveType prefix)
 
 -- the arguments ask for nothing
 abbrev pub AreUnknown : List (List ℕ) → Type 0

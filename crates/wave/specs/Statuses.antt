@@ -1,4 +1,4 @@
--- Which line is due at which status.
+-- Which line is written at which status.
 use Rattle.std.specs.Prelude.{ℕ, List, ◌≡◌, ◌⊎◌}
 use Rattle.std.specs.declared.option.Option.{Option}
 use Rattle.wave_lex.specs.Errors.{Diagnostic, error_text}
@@ -27,22 +27,22 @@ abbrev pub IsUsage : List (List ℕ) → List ℕ → Type 0
 IsUsage words said = AreUnknown words × IsNoNotice words × (said ≡ usage)
 
 module _ {R : Type 0} where
-  -- the line that the request is due on what the reader had left: its answer or its refusal where the input was read to its end, or else a fault's words
-  abbrev pub IsDueTo : Request → Option (List ℕ) → Input R → Input R → ℕ → List ℕ → Type 0
-  IsDueTo request left old new status said =
+  -- the line for the request, by what the reader had left: its answer or its refusal where the input was read to its end, or else a fault's words
+  abbrev pub IsLineOfRequest : Request → Option (List ℕ) → Input R → Input R → ℕ → List ℕ → Type 0
+  IsLineOfRequest request left old new status said =
       (status ≡ 0) × IsAnswer request left said × IsReadToEnd old new
       ⊎ (status ≡ 1) × IsRefusal request left said × IsReadToEnd old new
       ⊎ (status ≡ 3) × ((fault : Fault) × IsFaultOf left old new fault × (said ≡ line (words_of_fault fault)))
 
   -- there was no memory for the type that the arguments ask for, nothing was read, and the line says so
-  abbrev pub IsUntold : List (List ℕ) → Input R → Input R → List ℕ → Type 0
-  IsUntold words old new said = AskForType words × (new ≡ old) × (said ≡ line (words_of_fault OutOfMemory))
+  abbrev pub IsWithoutMemory : List (List ℕ) → Input R → Input R → List ℕ → Type 0
+  IsWithoutMemory words old new said = AskForType words × (new ≡ old) × (said ≡ line (words_of_fault OutOfMemory))
 
-  -- the line that is due, and the status that goes with it: what the request is due that the arguments make; the help or the version,
+  -- the line, and the status that goes with it: those for the request that the arguments make; the help or the version,
   -- where they ask for it, and nothing was read; the usage; or that there was no memory to find which
-  abbrev pub IsDue : List (List ℕ) → Option (List ℕ) → Input R → Input R → ℕ → List ℕ → Type 0
-  IsDue words left old new status said =
+  abbrev pub IsLineOfRun : List (List ℕ) → Option (List ℕ) → Input R → Input R → ℕ → List ℕ → Type 0
+  IsLineOfRun words left old new status said =
       (status ≡ 0) × IsNotice words said × (new ≡ old)
       ⊎ (status ≡ 2) × IsUsage words said
-      ⊎ (status ≡ 3) × IsUntold words old new said
-      ⊎ ((request : Request) × AreWordsOf request words × IsDueTo request left old new status said)
+      ⊎ (status ≡ 3) × IsWithoutMemory words old new said
+      ⊎ ((request : Request) × AreWordsOf request words × IsLineOfRequest request left old new status said)

@@ -14,7 +14,7 @@ module _ {W : Type 0} (contents : W → Option (List ℕ)) where
   abbrev pub WritesLess : Output W → Output W → List ℕ → Type 0
   WritesLess old new text =
       CountsOne old.failures new.failures
-      × (front : List ℕ) × (rest : List ℕ) × (text ≡ front ++ rest) × (rest ≢ []) × Appends (contents old.writer) (contents new.writer) front
+      × (prefix : List ℕ) × (rest : List ℕ) × (text ≡ prefix ++ rest) × (rest ≢ []) × Appends (contents old.writer) (contents new.writer) prefix
 
   -- the line was written whole, and the result is its status; or a write failed before all of it was written, and the result is 3
   abbrev pub Prints : Output W → Output W → List ℕ → ℕ → ℕ → Type 0

@@ -59,7 +59,7 @@ pub fn answer_lines<R: Read, W: Write, E: Write>(
     let mut is_refused = false;
     let mut is_shown = true;
     'lines: loop {
-        if !write_due(output, &mut held, unread.line_end().is_none()) {
+        if !write_if_needed(output, &mut held, unread.line_end().is_none()) {
             return Ended::at(3);
         }
         let answer = match next_answer(alloc, request, number, input, &mut unread) {
@@ -69,7 +69,7 @@ pub fn answer_lines<R: Read, W: Write, E: Write>(
         };
         number += 1;
         let shown = answer.shown.as_str();
-        if !write_due(output, &mut held, !shown.is_empty()) {
+        if !write_if_needed(output, &mut held, !shown.is_empty()) {
             return Ended::at(3);
         }
         is_refused |= !shown.is_empty();
@@ -80,13 +80,13 @@ pub fn answer_lines<R: Read, W: Write, E: Write>(
     }
 }
 
-/// Writes the answers that are held, where that is due. Whether no write failed.
-fn write_due<W: Write>(output: &mut Output<W>, held: &mut String, is_due: bool) -> bool
+/// Writes the answers that are held, where that is needed; false where a write failed.
+fn write_if_needed<W: Write>(output: &mut Output<W>, held: &mut String, is_needed: bool) -> bool
     ensures whole { result ≡ true → Releases W.contents output.old output.new (string_bytes held.old) (string_bytes held.new) }
     ensures cut { result ≡ false → WritesLess W.contents output.old output.new (string_bytes held.old) }
-    ensures due { result ≡ true → is_due ≡ true → string_bytes held.new ≡ [] }
+    ensures emptied { result ≡ true → is_needed ≡ true → string_bytes held.new ≡ [] }
 {
-    if !is_due {
+    if !is_needed {
         return true;
     }
     if !write_whole(output, held.as_bytes()) {
@@ -103,10 +103,10 @@ fn hold<W: Write>(output: &mut Output<W>, held: &mut String, printed: &str) -> b
     ensures cut { result ≡ false → WritesLess W.contents output.old output.new (string_bytes held.old ++ printed.now) }
 {
     if held.push_str(printed).is_ok() {
-        let is_due = held.len() >= MOST_HELD;
-        return write_due(output, held, is_due);
+        let is_needed = held.len() >= MOST_HELD;
+        return write_if_needed(output, held, is_needed);
     }
-    write_due(output, held, true) && write_whole(output, printed.as_bytes())
+    write_if_needed(output, held, true) && write_whole(output, printed.as_bytes())
 }
 
 /// The status where all lines were answered.
@@ -263,7 +263,7 @@ fn refused_line(
 ) -> Result<LineAnswer, AllocError>
     ensures shown { IfOk result (λ answer. IsLineExplained request.now number text.now refusal.now (string_bytes answer.shown)) }
     ensures printed { IfOk result (λ answer. string_bytes answer.printed ≡ line []) }
-    ensures told { OnOk result (refusal.now.kind ≢ kind.OutOfMemory) }
+    ensures reported { OnOk result (refusal.now.kind ≢ kind.OutOfMemory) }
 {
     if refusal.kind() == ParserErrorKind::OutOfMemory {
         return Err(AllocError);

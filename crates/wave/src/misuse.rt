@@ -24,9 +24,9 @@ pub fn explain_misuse(alloc: Global, words: &[String]) -> Result<String, AllocEr
     requires { AreUnknown (map string_bytes words.now) }
     ensures { IfOk result (λ text. IsExplainedMisuse (map string_bytes words.now) (string_bytes text)) }
 {
-    if let Some((last, front)) = words.split_last() {
+    if let Some((last, prefix)) = words.split_last() {
         if last.as_str() == "--lines" {
-            return with_help(misuse(alloc, front)?);
+            return with_help(misuse(alloc, prefix)?);
         }
     }
     with_help(misuse(alloc, words)?)
@@ -241,7 +241,7 @@ fn bad_func(alloc: Global, word: &str) -> Result<String, AllocError>
 /// The refusal of the text, shown in it; out of memory, for that or as the refusal itself.
 fn refused(alloc: Global, error: &TypeError, text: &str) -> Result<String, AllocError>
     ensures shown { IfOk result (λ shown. IsExplained text.now (type_error_text error.now) error.now.span (string_bytes shown)) }
-    ensures told { OnOk result (error.now.kind ≢ kind.OutOfMemory) }
+    ensures reported { OnOk result (error.now.kind ≢ kind.OutOfMemory) }
 {
     if error.kind() == TypeErrorKind::OutOfMemory {
         return Err(AllocError);

@@ -10,10 +10,10 @@ ghost use Rattle.wave.specs.Answers.{words_of_fault, usage};
 ghost use Rattle.wave.specs.Lines.{line};
 ghost use Rattle.wave.specs.ByLines.{RunsByLines};
 ghost use Rattle.wave.specs.Explained.{IsShown, ShowsWhy, ShowsRefusal, ShowsPlace, IsFailure, place_shown};
-ghost use Rattle.wave.specs.Private.Answers.{IsReadFault, IsOutcome, IsNoOutcome, TellsRefusal, ShowsFault};
+ghost use Rattle.wave.specs.Private.Answers.{IsReadFault, IsOutcome, IsNoOutcome, ReportsRefusal, ShowsFault};
 ghost use Rattle.wave.specs.Misuse.{ShowsMisuse};
 ghost use Rattle.wave.specs.Private.Requests.{IsFit};
-ghost use Rattle.wave.specs.Statuses.{IsDue, IsDueTo};
+ghost use Rattle.wave.specs.Statuses.{IsLineOfRun, IsLineOfRequest};
 
 use crate::answer::{Unanswered, answer};
 use crate::by_lines::answer_lines;
@@ -71,10 +71,10 @@ pub fn run<R: Read, W: Write, E: Write>(
     output: &mut Output<W>,
     errors: &mut Output<E>,
 ) -> Ended
-    // One line was due, and the status with it; it was written, or a write failed. Or a request on each
+    // One line goes with the arguments, and a status with it; it was written, or a write failed. Or a request on each
     // line was answered.
     ensures printed { ((status : ℕ) × (said : List ℕ)
-        × IsDue (map string_bytes words.now) (R.remaining input.old.reader)
+        × IsLineOfRun (map string_bytes words.now) (R.remaining input.old.reader)
         input.old input.new status said
         × Prints W.contents output.old output.new said status result.status)
         ⊎ RunsByLines W.contents E.contents (map string_bytes words.now) (R.remaining input.old.reader)
@@ -121,7 +121,7 @@ fn misused<W: Write, E: Write>(
     errors: &mut Output<E>,
 ) -> Ended
     requires { AreUnknown (map string_bytes words.now) }
-    ensures told { Prints W.contents output.old output.new usage 2 result.status }
+    ensures reported { Prints W.contents output.old output.new usage 2 result.status }
     ensures shown { result.status ≡ 2 →
         ShowsMisuse E.contents (map string_bytes words.now) errors.old errors.new result.shown }
     ensures quiet { result.status ≢ 2 → (errors.new ≡ errors.old) × (result.shown ≡ Ok tt) }
@@ -160,7 +160,7 @@ fn answer_whole<R: Read, W: Write, E: Write>(
 ) -> Ended
     requires { IsFit request.now }
     ensures printed { (status : ℕ) × (said : List ℕ)
-        × IsDueTo request.now (R.remaining input.old.reader) input.old input.new status said
+        × IsLineOfRequest request.now (R.remaining input.old.reader) input.old input.new status said
         × Prints W.contents output.old output.new said status result.status }
     ensures shown { result.status ≡ 1 → ShowsWhy request.now (R.remaining input.old.reader)
         W.contents output.old output.new E.contents errors.old errors.new result.shown }
@@ -187,12 +187,12 @@ fn refuse<W: Write, E: Write>(
     refusal: &ParserError,
     text: &str,
 ) -> Ended
-    ensures told { TellsRefusal W.contents output.old output.new refusal.now result.status }
+    ensures reported { ReportsRefusal W.contents output.old output.new refusal.now result.status }
     ensures shown { result.status ≡ 1 →
         ShowsRefusal E.contents request.now errors.old errors.new text.now refusal.now result.shown }
     ensures quiet { result.status ≢ 1 → (errors.new ≡ errors.old) × (result.shown ≡ Ok tt) }
 {
-    let status = tell(alloc, output, refusal);
+    let status = report_refusal(alloc, output, refusal);
     if status != 1 {
         return Ended::at(status);
     }
@@ -218,8 +218,8 @@ fn show<E: Write>(
 }
 
 /// Says why there is no answer: the refusal's text at status 1, out of memory at status 3.
-fn tell<W: Write>(alloc: Global, output: &mut Output<W>, refusal: &ParserError) -> u8
-    ensures { TellsRefusal W.contents output.old output.new refusal.now result }
+fn report_refusal<W: Write>(alloc: Global, output: &mut Output<W>, refusal: &ParserError) -> u8
+    ensures { ReportsRefusal W.contents output.old output.new refusal.now result }
 {
     match refusal_line(alloc, refusal) {
         Ok(line) => print(output, line.as_str(), 1),
@@ -230,7 +230,7 @@ fn tell<W: Write>(alloc: Global, output: &mut Output<W>, refusal: &ParserError) 
 /// The text of the refusal and a line feed; else out of memory, for that text or as the refusal itself.
 fn refusal_line(alloc: Global, refusal: &ParserError) -> Result<String, AllocError>
     ensures line { IfOk result (λ whole. string_bytes whole ≡ line (error_text refusal.now)) }
-    ensures told { OnOk result (refusal.now.kind ≢ kind.OutOfMemory) }
+    ensures reported { OnOk result (refusal.now.kind ≢ kind.OutOfMemory) }
 {
     if refusal.kind() == ParserErrorKind::OutOfMemory {
         return Err(AllocError);
@@ -246,7 +246,7 @@ fn fail<W: Write, E: Write>(
     errors: &mut Output<E>,
     fault: Fault,
 ) -> Ended
-    ensures told { Prints W.contents output.old output.new (line (words_of_fault fault)) 3 result.status }
+    ensures reported { Prints W.contents output.old output.new (line (words_of_fault fault)) 3 result.status }
     ensures shown { ShowsFault W.contents output.old output.new E.contents errors.old errors.new fault result.shown }
 {
     if !write_whole(output, fault_line(fault).as_bytes()) {

@@ -64,7 +64,7 @@ fn one_word(word: &str) -> Option<Request>
 
 /// The request that two arguments make. The only error is out of memory.
 fn two_words(alloc: Global, first: &str, second: &str) -> Result<Option<Request>, AllocError>
-    ensures made { IfOk result (λ found. MatchOption found
+    ensures built { IfOk result (λ found. MatchOption found
         (MakeNone (first.now ∷ second.now ∷ []))
         (λ request. AreWordsOf request (first.now ∷ second.now ∷ []))) }
     ensures memory { IfErr result (λ e. HaveType (first.now ∷ second.now ∷ [])) }
@@ -93,7 +93,7 @@ fn three_words(
     second: &str,
     third: &str,
 ) -> Result<Option<Request>, AllocError>
-    ensures made { IfOk result (λ found. MatchOption found
+    ensures built { IfOk result (λ found. MatchOption found
         (MakeNone (first.now ∷ second.now ∷ third.now ∷ []))
         (λ request. AreWordsOf request (first.now ∷ second.now ∷ third.now ∷ []))) }
     ensures memory { IfErr result (λ e. HaveType (first.now ∷ second.now ∷ third.now ∷ [])) }
@@ -112,7 +112,7 @@ fn three_words(
 
 /// The request that the arguments make. The only error is out of memory, for the type that they name.
 fn request_of(alloc: Global, words: &[String]) -> Result<Option<Request>, AllocError>
-    ensures made { IfOk result (λ found. MatchOption found
+    ensures built { IfOk result (λ found. MatchOption found
         (MakeNone (map string_bytes words.now))
         (λ request. AreWordsOf request (map string_bytes words.now))) }
     ensures memory { IfErr result (λ e. HaveType (map string_bytes words.now)) }
@@ -130,23 +130,23 @@ fn request_of(alloc: Global, words: &[String]) -> Result<Option<Request>, AllocE
 /// The request of each line that the arguments make, before a last `--lines`. The only error is out of
 /// memory, for the type that they name.
 fn lines_request(alloc: Global, words: &[String]) -> Result<Option<Request>, AllocError>
-    ensures made { IfOk result (λ found. MatchOption found
+    ensures built { IfOk result (λ found. MatchOption found
         (AskNoneByLines (map string_bytes words.now))
         (λ request. AskByLines request (map string_bytes words.now))) }
     ensures memory { IfErr result (λ e. AskForType (map string_bytes words.now)) }
 {
-    let Some((last, front)) = words.split_last() else {
+    let Some((last, prefix)) = words.split_last() else {
         return Ok(None);
     };
     if last.as_str() != "--lines" {
         return Ok(None);
     }
-    request_of(alloc, front)
+    request_of(alloc, prefix)
 }
 
 /// What the arguments ask for. The only error is out of memory, for the type that they name.
 pub fn asked_by(alloc: Global, words: &[String]) -> Result<Option<Asked>, AllocError>
-    ensures made { IfOk result (λ found. MatchOption found
+    ensures built { IfOk result (λ found. MatchOption found
         (AreUnknown (map string_bytes words.now))
         (λ asked. AskFor asked (map string_bytes words.now))) }
     ensures memory { IfErr result (λ e. AskForType (map string_bytes words.now)) }

@@ -101,9 +101,9 @@ known_kept all [] h = refl
 known_kept all (n ∷ ns) h = rw (passes all n h.0) (ap (λ ms. n ∷ ms) (known_kept all ns h.1))
 
 -- what is kept at the end is the flags that are asked for
-pub flags_made : (all : List (List ℕ)) (xs : List (Bor (List ℕ))) (kept : List (List ℕ)) (i : ℕ) → length xs ≤ i
+pub flags_built : (all : List (List ℕ)) (xs : List (Bor (List ℕ))) (kept : List (List ℕ)) (i : ℕ) → length xs ≤ i
     → (kept ≡ texts (take i xs)) × TakesNames all (texts (take i xs)) → MakesFlags flags AreFlagsOf (type.flags all) xs kept
-flags_made all xs kept i past h = λ distinct unlike picked.
+flags_built all xs kept i past h = λ distinct unlike picked.
     let whole : take i xs ≡ xs = take_all i xs past in
     let known : AreAllOf all (texts xs) = subst (λ ys. AreAllOf all (texts ys)) whole h.1.0 in
     let some : ArePicked all (texts xs) = subst (ArePicked all) (known_kept all (texts xs) known) picked in

@@ -197,7 +197,7 @@ impl WasmValue for OrderedFlags {
         ty: &NameSet,
         names: &[&str],
     ) -> Result<OrderedFlags, WasmValueError>
-        ensures made { IfOk result (MakesFlags flags AreFlagsOf (type.flags ty.now) names.now) }
+        ensures built { IfOk result (MakesFlags flags AreFlagsOf (type.flags ty.now) names.now) }
         ensures full { IfErr result (FullFlags AreFlagsOf IsFull (type.flags ty.now) names.now) }
         ensures kept { IfOk result (λ value. value ≡ texts names.now) }
         ensures taken { IfOk result (TakesNames ty.now) }

@@ -1,2 +1,2 @@
 mod Fields
-mod Made
+mod Built

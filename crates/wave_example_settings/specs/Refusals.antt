@@ -26,5 +26,5 @@ RefusesList T got e =
 
 -- nothing of the kind is made
 abbrev pub MakesNone : {A : Type 0} → WasmTypeKind → Result A WasmValueError → Type 0
-MakesNone kind (Ok made) = ⊥
+MakesNone kind (Ok built) = ⊥
 MakesNone kind (Err e) = RefusesKind kind e

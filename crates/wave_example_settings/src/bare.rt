@@ -121,7 +121,7 @@ impl WasmValue for Bare {
     }
 
     fn make_list(alloc: Global, ty: &Type, vals: Vec<Bare>) -> Result<Bare, WasmValueError>
-        ensures made { IfOk result (MakesList tree_of (λ v T. HasType T (tree_of v)) ty.now vals.items) }
+        ensures built { IfOk result (MakesList tree_of (λ v T. HasType T (tree_of v)) ty.now vals.items) }
         ensures full { IfErr result (FullList (λ v T. HasType T (tree_of v)) (λ T. ⊥) ty.now vals.items) }
         ensures refused { IfErr result (RefusesList ty.now (length vals.items)) }
         ensures counted { IfOk result (λ list. (want : ℕ) → list_length ty.now ≡ Some want → length vals.items ≡ want) }

@@ -4,7 +4,7 @@ ghost use Rattle.wave_wasm.specs.Values.{kind_of};
 ghost use Rattle.wave_wasm.specs.HasType.{HasType};
 ghost use Rattle.wave_wasm.specs.Text.{text};
 ghost use Rattle.wave_lex.specs.Errors.{LiesInText};
-ghost use Rattle.wave_lex.specs.Labels.{Good};
+ghost use Rattle.wave_lex.specs.Labels.{HasDistinctLabels};
 ghost use Rattle.wave_wasm.specs.Types.{IsRepresentable};
 ghost use Rattle.wave_grammar.specs.RoundTripLaws.{ReadBack};
 
@@ -87,7 +87,7 @@ pub fn with_width(alloc: Global, settings: &Value, width: u32) -> Result<Value, 
 pub fn written(alloc: Global, settings: &Value) -> Result<String, WriterError>
     ensures text { IfOk result (λ s. string_bytes s ≡ text settings.now.tree) }
     ensures back { let T = settings.now.own in
-        Good T → IsRepresentable T → HasType T settings.now.tree → ReadBack T settings.now.tree }
+        HasDistinctLabels T → IsRepresentable T → HasType T settings.now.tree → ReadBack T settings.now.tree }
 {
     to_string(alloc, settings)
 }

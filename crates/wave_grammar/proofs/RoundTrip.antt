@@ -13,5 +13,5 @@ pub mod ReadsBack
 pub mod Tidy
 pub mod Utf8
 pub mod Typed
-pub mod Cuts
+pub mod Tokenizes
 pub mod Merged

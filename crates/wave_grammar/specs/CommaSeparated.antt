@@ -14,7 +14,7 @@ Closes close tokens rest = (tokens ≡ close ∷ rest) ⊎ (tokens ≡ comma ∷
 abbrev pub FurtherItems : {A : Type 0} → Token → Spelling A → List Token → List A → List Token → Type 0
 FurtherItems close Item tokens [] rest = Closes close tokens rest
 FurtherItems close Item tokens (a ∷ more) rest =
-    (front : List Token) × (behind : List Token) × (tokens ≡ comma ∷ front) × Item front a behind × FurtherItems close Item behind more rest
+    (prefix : List Token) × (behind : List Token) × (tokens ≡ comma ∷ prefix) × Item prefix a behind × FurtherItems close Item behind more rest
 
 -- the items and the close
 abbrev pub Items : {A : Type 0} → Token → Spelling A → List Token → List A → List Token → Type 0

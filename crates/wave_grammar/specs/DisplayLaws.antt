@@ -2,7 +2,7 @@
 use Rattle.std.specs.Prelude.{ℕ, ◌≡◌, ◌↔◌, List}
 use Rattle.wave_wasm.specs.Types.{TypeTree}
 use Rattle.wave_wasm.specs.Values.{Value}
-use Rattle.wave_grammar.specs.Token.{Token, CutsInto}
+use Rattle.wave_grammar.specs.Token.{Token, TokenizesTo}
 use Rattle.wave_grammar.specs.Tree.{Tree, MaybeTree, SpellsTree, levels, shown}
 use Rattle.wave_grammar.specs.Calls.{IsCall, shown_call}
 use Rattle.wave_grammar.specs.Params.{Params}
@@ -10,7 +10,7 @@ use Rattle.wave_grammar.specs.Denotes.{Means}
 
 -- the text has tokens that spell the tree
 abbrev pub IsTextOf : List ℕ → Tree → Type 0
-IsTextOf s t = (tokens : List Token) × CutsInto s tokens × SpellsTree tokens t
+IsTextOf s t = (tokens : List Token) × TokenizesTo s tokens × SpellsTree tokens t
 
 -- the display of the tree has tokens that spell a tree of as many levels and of the same display
 pub record ShowsAgain (t : Tree) : Type 0 where

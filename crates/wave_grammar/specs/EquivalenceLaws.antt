@@ -2,7 +2,7 @@
 use Rattle.std.specs.Prelude.{ℕ, ◌≡◌, ◌↔◌, List, [], ◌∷◌}
 use Rattle.wave_wasm.specs.Types.{TypeTree}
 use Rattle.wave_wasm.specs.Values.{Value}
-use Rattle.wave_grammar.specs.Token.{Token, CutsInto, comma, brace_close, paren_close, bracket_close}
+use Rattle.wave_grammar.specs.Token.{Token, TokenizesTo, comma, brace_close, paren_close, bracket_close}
 use Rattle.wave_grammar.specs.Tree.{Tree, Takes, SpellsTree}
 use Rattle.wave_grammar.specs.Elaborates.{TreeReads}
 use Rattle.wave_grammar.specs.Denotes.{Means, SpellsText}
@@ -14,7 +14,7 @@ MeansByTree = (T : TypeTree) (n : ℕ) (s : List ℕ) (v : Value) → Means T n 
 
 -- texts of the same tokens mean the same
 abbrev pub SameTokensMeanTheSame : Type 0
-SameTokensMeanTheSame = (s d : List ℕ) (tokens : List Token) → CutsInto s tokens → CutsInto d tokens → MeanTheSame s d
+SameTokensMeanTheSame = (s d : List ℕ) (tokens : List Token) → TokenizesTo s tokens → TokenizesTo d tokens → MeanTheSame s d
 
 -- texts of one tree mean the same
 abbrev pub SameTreeMeansTheSame : Type 0
@@ -39,5 +39,5 @@ LastCommasMayGo = (n : ℕ) (tokens : List Token) (t : Tree) → Takes n tokens 
 -- texts that differ only in these commas, and spell trees, spell one tree and mean the same
 abbrev pub LastCommasMeanNothing : Type 0
 LastCommasMeanNothing =
-    (s d : List ℕ) (tokens others : List Token) (t u : Tree) → CutsInto s tokens → CutsInto d others → SpellsTree tokens t → SpellsTree others u →
+    (s d : List ℕ) (tokens others : List Token) (t u : Tree) → TokenizesTo s tokens → TokenizesTo d others → SpellsTree tokens t → SpellsTree others u →
     without_last_commas tokens ≡ without_last_commas others → (t ≡ u) × MeanTheSame s d

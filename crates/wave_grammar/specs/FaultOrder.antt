@@ -9,13 +9,13 @@ use Rattle.wave_wasm.specs.Types.{no_type, a_type, no_types, type_and, field, no
 use Rattle.wave_wasm.specs.TypeText.{kind_word}
 use Rattle.wave_wasm.specs.ValueErrors.{missing_field, unknown_case, wrong_number, wrong_length, unsupported_type}
 use Rattle.wave_lex.specs.declared.error.ParserErrorKind.TheVariants.{InvalidType, DuplicateField}
-use Rattle.wave_lex.specs.Errors.{Refusal, field_label_due, repeated_name}
+use Rattle.wave_lex.specs.Errors.{Refusal, field_label_expected, repeated_name}
 use Rattle.wave_grammar.specs.LeafTokens.{name_of}
 use Rattle.wave_grammar.specs.TypedGrammar.{IsFlat, IsOption}
 use Rattle.wave_grammar.specs.SpannedTree.{SpannedTree, MaybePlaced, no_placed, PlacedEntry, span_of, shape_of}
 use Rattle.wave_grammar.specs.TypeErrors.{Blame, RefusesWith, IsRefusalOf, RefusesFor, OfForm, LeafFault, MapKeyFault, names_in, IsFor}
 use Rattle.wave_grammar.specs.TypeErrors.{one_in, list_in, tuple_in, record_in, map_in, flags_in, label_in}
-use Rattle.wave_grammar.specs.TypeErrors.{UnknownField, NoneDue, OneDue, OfOption, OfResult}
+use Rattle.wave_grammar.specs.TypeErrors.{UnknownField, NoneExpected, OneExpected, OfOption, OfResult}
 
 -- the order in which the parts of a value are looked at: as the tokens are read, or as the type is gone through
 pub data Order : Type 0 where
@@ -49,7 +49,7 @@ WrongCount want got p k q = (got ≢ want) × RefusesFor (wrong_number want got)
 -- a key that is no label, or the label of an earlier entry: at the key
 abbrev pub FaultOfKey : List (List ℕ) → PlacedEntry → Blame
 FaultOfKey earlier e k q =
-    (names_in e.key ≡ []) × RefusesWith InvalidType (Some field_label_due) e.place k q
+    (names_in e.key ≡ []) × RefusesWith InvalidType (Some field_label_expected) e.place k q
     ⊎ SomeOf (λ name. IsOneOf earlier name × RefusesWith DuplicateField (Some (repeated_name name)) e.place k q) (names_in e.key)
 
 -- the first key that is so
@@ -129,10 +129,10 @@ abbrev mutual
   FaultOfFields w (field name T more) es p k q =
       OrElse (LeftOut name T es p) (OrElse (FirstOf (λ e k q. IsFor name e × FirstFault w w T e.value k q) es) (FaultOfFields w more es p)) k q
 
-  -- a payload that is there and not due, or due and not there, or its fault
+  -- a payload that is there and not expected, or expected and not there, or its fault
   pub FirstOfPayload : Order → List ℕ → MaybeType → MaybePlaced → Range ℕ → Blame
-  FirstOfPayload w name no_type payload p k q = NoneDue name payload p k q
-  FirstOfPayload w name (a_type T) payload p k q = OneDue name payload p (FirstFault w w T) k q
+  FirstOfPayload w name no_type payload p k q = NoneExpected name payload p k q
+  FirstOfPayload w name (a_type T) payload p k q = OneExpected name payload p (FirstFault w w T) k q
 
   -- a tree that would stand for `ok` of itself
   pub FirstOfFlat : Order → Order → MaybeType → SpannedTree → Blame

@@ -9,8 +9,8 @@ use Rattle.wave_grammar.specs.Tree.{Tree, tuple, no_trees, flags, ATree, Label}
 -- braces of flags, which may be repeated
 abbrev pub AnyFlags : Spelling Tree
 AnyFlags tokens t rest =
-    (front : List Token) × (texts : List (List ℕ)) × (0 < length texts)
-    × (tokens ≡ brace_open ∷ front) × Items brace_close Label front texts rest × (t ≡ flags texts)
+    (prefix : List Token) × (texts : List (List ℕ)) × (0 < length texts)
+    × (tokens ≡ brace_open ∷ prefix) × Items brace_close Label prefix texts rest × (t ≡ flags texts)
 
 -- a tree over the trees within it, or `()`, or any flags
 abbrev pub ALooseTree : Spelling Tree → Spelling Tree

@@ -3,7 +3,7 @@ use Rattle.std.specs.Prelude.{ℕ, ◌≡◌, ◌≢◌, ◌⊎◌, ◌++◌, Li
 use Rattle.std.specs.Borrow.{Bor}
 use Rattle.wave_wasm.specs.Lists.{AllOf}
 use Rattle.wave_wasm.specs.Names.{IsOneOf, AreDistinct}
-use Rattle.wave_lex.specs.Errors.{Diagnostic, field_label_due, repeated_name, Says, refusal_of}
+use Rattle.wave_lex.specs.Errors.{Diagnostic, field_label_expected, repeated_name, Says, refusal_of}
 use Rattle.wave_lex.specs.declared.error.ParserErrorKind.TheVariants.{InvalidType, DuplicateField, OutOfMemory, WasmValueError}
 use Rattle.wave_grammar.specs.LeafTokens.{name_of}
 use Rattle.wave_grammar.specs.TypedGrammar.{names_of, IsOption, look_up}
@@ -39,7 +39,7 @@ pub record IsFieldsOf (source : List ℕ) (n : NodeTree) (fields : List (List �
 -- a refusal of a key after these names: no label, or a label of one of them
 abbrev pub RefusesKey : List ℕ → List (List ℕ) → NodeTree → Diagnostic → Type 0
 RefusesKey source names key e =
-    (type_of key ≢ kind.Label) × Says e InvalidType (place_of key) (Some field_label_due)
+    (type_of key ≢ kind.Label) × Says e InvalidType (place_of key) (Some field_label_expected)
     ⊎ (type_of key ≡ kind.Label) × IsOneOf names (name_of (node_text source key))
     × Says e DuplicateField (place_of key) (Some (repeated_name (name_of (node_text source key))))
 
@@ -69,7 +69,7 @@ shown_field f = (f.0.now, f.1.now)
 -- the name of a key that is a label; or its refusal
 abbrev pub GivesName : List ℕ → NodeTree → Result (Bor (List ℕ)) Diagnostic → Type 0
 GivesName source key (Ok name) = (type_of key ≡ kind.Label) × (name.now ≡ name_of (node_text source key))
-GivesName source key (Err e) = (type_of key ≢ kind.Label) × Says e InvalidType (place_of key) (Some field_label_due)
+GivesName source key (Err e) = (type_of key ≢ kind.Label) × Says e InvalidType (place_of key) (Some field_label_expected)
 
 -- the names and the values of keys and values that stand in turn
 abbrev pub fields_at : List ℕ → List NodeTree → List (List ℕ × NodeTree)

@@ -16,13 +16,13 @@ abbrev pub FurtherParams : List TypeTree → List Token → List Value → Type 
 FurtherParams [] tokens vs = Closes paren_close tokens [] × (vs ≡ [])
 FurtherParams (T ∷ more) tokens vs =
     Closes paren_close tokens [] × Omitted (T ∷ more) vs
-    ⊎ ((n : ℕ) × (front : List Token) × (behind : List Token) × (v : Value) × (others : List Value)
-    × (tokens ≡ comma ∷ front) × Reads T n front v behind × FurtherParams more behind others × (vs ≡ v ∷ others))
+    ⊎ ((n : ℕ) × (prefix : List Token) × (behind : List Token) × (v : Value) × (others : List Value)
+    × (tokens ≡ comma ∷ prefix) × Reads T n prefix v behind × FurtherParams more behind others × (vs ≡ v ∷ others))
 
 -- the parameters in their parentheses
 abbrev pub Params : List TypeTree → List Token → List Value → Type 0
 Params [] tokens vs = (tokens ≡ paren_open ∷ paren_close ∷ []) × (vs ≡ [])
 Params (T ∷ more) tokens vs =
     (tokens ≡ paren_open ∷ paren_close ∷ []) × Omitted (T ∷ more) vs
-    ⊎ ((n : ℕ) × (front : List Token) × (behind : List Token) × (v : Value) × (others : List Value)
-    × (tokens ≡ paren_open ∷ front) × Reads T n front v behind × FurtherParams more behind others × (vs ≡ v ∷ others))
+    ⊎ ((n : ℕ) × (prefix : List Token) × (behind : List Token) × (v : Value) × (others : List Value)
+    × (tokens ≡ paren_open ∷ prefix) × Reads T n prefix v behind × FurtherParams more behind others × (vs ≡ v ∷ others))

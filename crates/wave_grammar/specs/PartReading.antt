@@ -22,7 +22,7 @@ use Rattle.wave_grammar.specs.Elaborates.{TreeReadsPayload}
 use Rattle.wave_grammar.specs.Token.{Token}
 use Rattle.wave_grammar.specs.TypeErrors.{MapKeyFault, RefusesFor}
 use Rattle.wave_grammar.specs.FaultOrder.{Order, FirstOfPayload}
-use Rattle.wave_grammar.specs.TypedReading.{IsKeyRead, IsLeafMade}
+use Rattle.wave_grammar.specs.TypedReading.{IsKeyRead, IsLeafBuilt}
 
 -- a refusal with this cause at the node, or for lack of memory
 abbrev pub IsCaused : Cause → NodeTree → Diagnostic → Type 0
@@ -52,7 +52,7 @@ module _ {V : Type 0} (tree : V → Value) (of : V → TypeTree → Type 0) (Ful
   -- what a constructor answered for the node's number, which is one of this type; or the refusal of a node of none
   abbrev pub IsWholeRead : Whole → List ℕ → NodeTree → Result V Diagnostic → Type 0
   IsWholeRead which source n r =
-      ((z : ℤ) × GivesNumber which (λ (x : ℤ). x) source n (Ok z) × IsLeafMade tree of Full (value.whole which z) n r)
+      ((z : ℤ) × GivesNumber which (λ (x : ℤ). x) source n (Ok z) × IsLeafBuilt tree of Full (value.whole which z) n r)
       ⊎ ((e : Diagnostic) × GivesNumber which (λ (x : ℤ). x) source n (Err e) × IsErrAnd r (λ f. f ≡ e))
 
   -- so at the whole type of the kind; at another kind a refusal because its values can't be read

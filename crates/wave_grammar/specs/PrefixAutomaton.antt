@@ -1,11 +1,11 @@
 -- Which tokens begin a tree, and which token does not go on with them.
 --
--- A prefix of the tokens of a tree is described by what is due after it, and by the open forms: the
+-- A prefix of the tokens of a tree is described by what is expected after it, and by the open forms: the
 -- tuples, lists, payloads and entries whose open mark (for an entry its colon) was read and whose
--- value is due or was just read, the innermost first. Each token either is read, which leaves
--- something else due, or is refused in one of four ways. `Shifts` follows this from token to token.
+-- value is expected or was just read, the innermost first. Each token either is read, which leaves
+-- something else expected, or is refused in one of four ways. `Shifts` follows this from token to token.
 -- A value within k open forms is on level k + 1. Where at most n levels are allowed and n forms
--- are open, each token at which a value is due is too deep, whichever it is, unless it closes the
+-- are open, each token at which a value is expected is too deep, whichever it is, unless it closes the
 -- form.
 use Rattle.std.specs.Prelude.{ℕ, ◌≡◌, Bool, true, false, if◌then◌else◌, nat_lt, List, [], ◌∷◌, ◌++◌, length}
 use Rattle.wave_wasm.specs.Names.{is_one_of}
@@ -14,11 +14,11 @@ use Rattle.wave_grammar.specs.Token.{colon, comma, number, label, char, string, 
 use Rattle.wave_grammar.specs.LeafTokens.{name_of}
 use Rattle.wave_grammar.specs.Tree.{Word, word_of, leaf_word, none_word, some_word, ok_word, err_word, case_word}
 
--- an open form: a value is due in it, or stands there and its comma or its close is due
+-- an open form: a value is expected in it, or stands there and its comma or its close is expected
 pub data StackSymbol : Type 0 where
   tuple list payload entries : StackSymbol
 
--- what is due; lists of names are those of the flags that were read
+-- what is expected; lists of names are those of the flags that were read
 pub data Expectation : Type 0 where
   -- a value
   value : Expectation
@@ -28,7 +28,7 @@ pub data Expectation : Type 0 where
   next_item : Expectation
   -- after a value what the innermost open form takes
   behind_value : Expectation
-  -- after a label, `ok` or `err` a payload, or what is due after a value
+  -- after a label, `ok` or `err` a payload, or what is expected after a value
   behind_label : Expectation
   -- after `some` a payload
   paren : Expectation
@@ -47,7 +47,7 @@ pub data Expectation : Type 0 where
   -- after a flag a comma or the close
   behind_flag : List (List ℕ) → Expectation
 
--- what a token does: it is read, and then this is due within these forms; or it is refused
+-- what a token does: it is read, and then this is expected within these forms; or it is refused
 pub data Step : Type 0 where
   reads : Expectation → List StackSymbol → Step
   -- no tree goes on with it
@@ -56,25 +56,25 @@ pub data Step : Type 0 where
   empty_tuple : Step
   -- it names a flag that these braces have already
   repeated_flag : Step
-  -- it stands where a value is due on a level past the last
+  -- it stands where a value is expected on a level past the last
   too_deep : Step
 
--- what is due after a label that stands where a value is due
-abbrev pub due_behind : Word → Expectation
-due_behind leaf_word = behind_value
-due_behind none_word = behind_value
-due_behind some_word = paren
-due_behind ok_word = behind_label
-due_behind err_word = behind_label
-due_behind case_word = behind_label
+-- what is expected after a label that stands where a value is expected
+abbrev pub expected_behind : Word → Expectation
+expected_behind leaf_word = behind_value
+expected_behind none_word = behind_value
+expected_behind some_word = paren
+expected_behind ok_word = behind_label
+expected_behind err_word = behind_label
+expected_behind case_word = behind_label
 
--- a token where a value is due
+-- a token where a value is expected
 abbrev pub value_step : List StackSymbol → Token → Step
 value_step open_forms (number text) = reads behind_value open_forms
 value_step open_forms (char text) = reads behind_value open_forms
 value_step open_forms (string text) = reads behind_value open_forms
 value_step open_forms (multiline text) = reads behind_value open_forms
-value_step open_forms (label text) = reads (due_behind (word_of text)) open_forms
+value_step open_forms (label text) = reads (expected_behind (word_of text)) open_forms
 value_step open_forms paren_open = reads first_item (tuple ∷ open_forms)
 value_step open_forms bracket_open = reads first_item (list ∷ open_forms)
 value_step open_forms brace_open = reads in_braces open_forms
@@ -111,7 +111,7 @@ abbrev pub closed_empty : List StackSymbol → Step
 closed_empty (tuple ∷ outer) = empty_tuple
 closed_empty open_forms = closed open_forms
 
--- a token where a key or the close of its braces is due
+-- a token where a key or the close of its braces is expected
 abbrev pub key_step : List StackSymbol → Token → Step
 key_step open_forms (label text) = reads behind_key open_forms
 key_step open_forms (number text) = reads behind_key open_forms
@@ -127,7 +127,7 @@ brace_step open_forms (label text) = reads (behind_word text) open_forms
 brace_step open_forms colon = reads no_fields open_forms
 brace_step open_forms t = key_step open_forms t
 
--- a token where a further flag or the close is due
+-- a token where a further flag or the close is expected
 abbrev pub flag_step : List (List ℕ) → List StackSymbol → Token → Step
 flag_step names open_forms (label text) =
     if is_one_of names (name_of text) then repeated_flag else reads (behind_flag (names ++ name_of text ∷ [])) open_forms
@@ -160,7 +160,7 @@ abbrev pub word_behind_step : List ℕ → List StackSymbol → Token → Step
 word_behind_step text open_forms colon = reads value (entries ∷ open_forms)
 word_behind_step text open_forms t = behind_flag_step (name_of text ∷ []) open_forms t
 
--- what the token t does where this is due, where there are at most n levels
+-- what the token t does where this is expected, where there are at most n levels
 abbrev pub step : ℕ → Expectation → List StackSymbol → Token → Step
 step n value open_forms t = level_step n open_forms t
 step n first_item open_forms t = if closes open_forms t then closed_empty open_forms else level_step n open_forms t
@@ -176,14 +176,14 @@ step n behind_key open_forms t = if is_colon t then reads value (entries ∷ ope
 step n (flag names) open_forms t = flag_step names open_forms t
 step n (behind_flag names) open_forms t = behind_flag_step names open_forms t
 
--- from where d is due within the forms s, the tokens lead to where e is due within r
+-- from where d is expected within the forms s, the tokens lead to where e is expected within r
 abbrev pub Shifts : ℕ → Expectation → List StackSymbol → List Token → Expectation → List StackSymbol → Type 0
 Shifts n d s [] e r = (d ≡ e) × (s ≡ r)
 Shifts n d s (t ∷ ts) e r = (d' : Expectation) × (s' : List StackSymbol) × (step n d s t ≡ reads d' s') × Shifts n d' s' ts e r
 
--- a value is due, alone or beside a close
-abbrev pub IsValueDue : Expectation → Type 0
-IsValueDue value = Unit {0}
-IsValueDue first_item = Unit {0}
-IsValueDue next_item = Unit {0}
-IsValueDue _ = ⊥
+-- a value is expected, alone or beside a close
+abbrev pub IsValueExpected : Expectation → Type 0
+IsValueExpected value = Unit {0}
+IsValueExpected first_item = Unit {0}
+IsValueExpected next_item = Unit {0}
+IsValueExpected _ = ⊥

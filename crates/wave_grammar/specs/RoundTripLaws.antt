@@ -6,7 +6,7 @@ use Rattle.wave_wasm.specs.Values.{Value}
 use Rattle.wave_wasm.specs.HasType.{HasType}
 use Rattle.wave_wasm.specs.Merge.{merged}
 use Rattle.wave_wasm.specs.Text.{text}
-use Rattle.wave_grammar.specs.Token.{Token, CutsInto}
+use Rattle.wave_grammar.specs.Token.{Token, TokenizesTo}
 use Rattle.wave_grammar.specs.Tree.{Tree, Takes, levels}
 use Rattle.wave_grammar.specs.TypedGrammar.{Reads}
 
@@ -14,7 +14,7 @@ use Rattle.wave_grammar.specs.TypedGrammar.{Reads}
 pub record ReadBack (T : TypeTree) (v : Value) : Type 0 where
   pub tokens : List Token
   pub tree : Tree
-  pub cut : CutsInto (text v) tokens
+  pub cut : TokenizesTo (text v) tokens
   pub spelled : Takes (levels tree) tokens tree []
   pub read : Reads T (levels tree) tokens (merged v) []
 
@@ -28,7 +28,7 @@ EqualTexts T = (a b : Value) → HasType T a → HasType T b → (text a ≡ tex
 
 -- the tokens are those of a text
 abbrev pub AreOfText : List Token → Type 0
-AreOfText tokens = (s : List ℕ) × IsUtf8 s × CutsInto s tokens
+AreOfText tokens = (s : List ℕ) × IsUtf8 s × TokenizesTo s tokens
 
 -- what is read at the type is merged
 abbrev pub ReadsMerged : TypeTree → Type 0

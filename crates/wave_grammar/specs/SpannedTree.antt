@@ -2,7 +2,7 @@
 use Rattle.std.specs.Prelude.{ℕ, ◌≡◌, ◌≤◌, ◌+◌, ◌-◌, List, [], ◌∷◌, map, drop, slice_range}
 use Rattle.std.specs.declared.ops.Range.{Range}
 use Rattle.wave_wasm.specs.Lists.{AllOf}
-use Rattle.wave_lex.specs.Tokenization.{Stands, IsGap, Front}
+use Rattle.wave_lex.specs.Tokenization.{Stands, IsWhitespace, Prefix}
 use Rattle.wave_grammar.specs.Token.{Token, lexeme_of}
 use Rattle.wave_grammar.specs.Token as token
 use Rattle.wave_grammar.specs.Tree as tree
@@ -113,7 +113,7 @@ slice source p = slice_range source p.start p.end
 
 -- the place lies in the source, and runs from the first of these tokens to the last
 abbrev pub HoldsTokens : List ℕ → Range ℕ → List Token → Type 0
-HoldsTokens source p tokens = Stands source p.start p.end × IsGap (slice source p) 0 × Front (slice source p) (map lexeme_of tokens) []
+HoldsTokens source p tokens = Stands source p.start p.end × IsWhitespace (slice source p) 0 × Prefix (slice source p) (map lexeme_of tokens) []
 
 -- the place lies in the source, and runs from the first token to the last of a spelling of the tree
 abbrev pub SpellsAt : List ℕ → Range ℕ → Tree → Type 0
@@ -125,11 +125,11 @@ LiesIn p from to = (from ≤ p.start) × (p.end ≤ to)
 
 -- the first k bytes of s are tokens of s and the whitespace before them
 abbrev pub EndsToken : List ℕ → ℕ → Type 0
-EndsToken s k = (tokens : List Token) × Front s (map lexeme_of tokens) (drop k s)
+EndsToken s k = (tokens : List Token) × Prefix s (map lexeme_of tokens) (drop k s)
 
 -- so they are, and after them the whitespace before the next token
 abbrev pub BeginsToken : List ℕ → ℕ → Type 0
-BeginsToken s k = (j : ℕ) × (g : ℕ) × EndsToken s j × IsGap (drop j s) g × (k ≡ j + g)
+BeginsToken s k = (j : ℕ) × (g : ℕ) × EndsToken s j × IsWhitespace (drop j s) g × (k ≡ j + g)
 
 -- the part begins where a token of the whole's slice does, and ends where one does
 abbrev pub StandsAtTokens : List ℕ → Range ℕ → Range ℕ → Type 0

@@ -29,8 +29,8 @@ BorrowedWhere P (Borrowed s) = P
 BorrowedWhere P (Owned s) = P → ⊥
 
 -- a refusal for lack of memory, at the place
-abbrev pub WantsMemory : Range ℕ → Diagnostic → Type 0
-WantsMemory place e = Says e OutOfMemory place None
+abbrev pub IsOutOfMemoryAt : Range ℕ → Diagnostic → Type 0
+IsOutOfMemoryAt place e = Says e OutOfMemory place None
 
 -- one run is left, or nothing: no `\`, and no line after it
 abbrev pub IsOneRun : LinesLeft → Type 0
@@ -46,6 +46,6 @@ IsUncopied l = IsOneRun l ⊎ IsRefusedFirst l
 
 -- the text so far and the parts that are left, borrowed where P holds; or a refusal among the parts; or out of memory, where P doesn't hold
 abbrev pub PutTogether : {A : Type 0} → Type 0 → List ℕ → LinesLeft → Range ℕ → Result (CowStr A) Diagnostic → Type 0
-PutTogether P front l place (Ok c) =
-    ((parts : List StringPart) × LinesRunTo l parts None × (cow_str_bytes c ≡ front ++ part_texts parts)) × BorrowedWhere P c
-PutTogether P front l place (Err e) = ((parts : List StringPart) × LinesRunTo l parts (Some e)) ⊎ WantsMemory place e × (P → ⊥)
+PutTogether P prefix l place (Ok c) =
+    ((parts : List StringPart) × LinesRunTo l parts None × (cow_str_bytes c ≡ prefix ++ part_texts parts)) × BorrowedWhere P c
+PutTogether P prefix l place (Err e) = ((parts : List StringPart) × LinesRunTo l parts (Some e)) ⊎ IsOutOfMemoryAt place e × (P → ⊥)

@@ -1,6 +1,6 @@
 -- A token is its class and its text. The text of a punctuation mark is known by its class.
 use Rattle.std.specs.Prelude.{ℕ, List, map, codes}
-use Rattle.wave_lex.specs.Tokenization.{Lexeme, Cuts}
+use Rattle.wave_lex.specs.Tokenization.{Lexeme, Tokenizes}
 use Rattle.wave_lex.specs.declared.lex.Token.TheVariants as class
 
 -- a token
@@ -29,5 +29,5 @@ abbrev pub text_of : Token → List ℕ
 text_of token = (lexeme_of token).1
 
 -- the text s is tokenized into these
-abbrev pub CutsInto : List ℕ → List Token → Type 0
-CutsInto s tokens = Cuts s (map lexeme_of tokens)
+abbrev pub TokenizesTo : List ℕ → List Token → Type 0
+TokenizesTo s tokens = Tokenizes s (map lexeme_of tokens)

@@ -58,11 +58,11 @@ abbrev pub tree_entries : List (Token × Tree) → TreeEntries
 tree_entries [] = no_entries
 tree_entries (e ∷ es) = entry e.0 e.1 (tree_entries es)
 
--- what a label is that stands where a value is due
+-- what a label is that stands where a value is expected
 pub data Word : Type 0 where
   leaf_word none_word some_word ok_word err_word case_word : Word
 
--- what the label of this text is, where a value is due
+-- what the label of this text is, where a value is expected
 abbrev pub word_of : List ℕ → Word
 word_of text =
     if is_one_of (codes "true" ∷ codes "false" ∷ codes "inf" ∷ codes "nan" ∷ []) text then leaf_word
@@ -83,7 +83,7 @@ IsKey _ = ⊥
 
 -- a key, a colon and a value
 abbrev pub KeyAnd : Spelling Tree → Spelling (Token × Tree)
-KeyAnd Inner tokens e rest = (front : List Token) × (tokens ≡ e.0 ∷ colon ∷ front) × IsKey e.0 × Inner front e.1 rest
+KeyAnd Inner tokens e rest = (prefix : List Token) × (tokens ≡ e.0 ∷ colon ∷ prefix) × IsKey e.0 × Inner prefix e.1 rest
 
 -- one label, with its `%`
 abbrev pub Label : Spelling (List ℕ)
@@ -132,9 +132,9 @@ BehindWord case_word text Inner tokens t rest = (payload : MaybeTree) × MaybeIn
 
 -- a tree, over the trees within it
 abbrev pub ATree : Spelling Tree → Spelling Tree
-ATree Inner (paren_open ∷ front) t rest = (items : List Tree) × (0 < length items) × Items paren_close Inner front items rest × (t ≡ tuple (trees items))
-ATree Inner (bracket_open ∷ front) t rest = (items : List Tree) × Items bracket_close Inner front items rest × (t ≡ list (trees items))
-ATree Inner (brace_open ∷ front) t rest = InBraces Inner front t rest
+ATree Inner (paren_open ∷ prefix) t rest = (items : List Tree) × (0 < length items) × Items paren_close Inner prefix items rest × (t ≡ tuple (trees items))
+ATree Inner (bracket_open ∷ prefix) t rest = (items : List Tree) × Items bracket_close Inner prefix items rest × (t ≡ list (trees items))
+ATree Inner (brace_open ∷ prefix) t rest = InBraces Inner prefix t rest
 ATree Inner (token.label text ∷ behind) t rest = BehindWord (word_of text) text Inner behind t rest
 ATree Inner (number text ∷ behind) t rest = (behind ≡ rest) × (t ≡ one (number text))
 ATree Inner (char text ∷ behind) t rest = (behind ≡ rest) × (t ≡ one (char text))

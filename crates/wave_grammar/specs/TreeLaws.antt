@@ -31,5 +31,5 @@ TreeIsRead T = (n : ℕ) (tokens rest : List Token) (t : Tree) (v : Value) → T
 -- the parameters that the tokens of some items in parentheses are, are the values that the types in their places give the items' trees
 abbrev pub ParamsAreByTree : Type 0
 ParamsAreByTree =
-    (Ts : List TypeTree) (n : ℕ) (front : List Token) (ts : List Tree) (vs : List Value) → Items paren_close (Takes n) front ts [] →
-    Params Ts (paren_open ∷ front) vs ↔ TreeParams Ts ts vs
+    (Ts : List TypeTree) (n : ℕ) (prefix : List Token) (ts : List Tree) (vs : List Value) → Items paren_close (Takes n) prefix ts [] →
+    Params Ts (paren_open ∷ prefix) vs ↔ TreeParams Ts ts vs

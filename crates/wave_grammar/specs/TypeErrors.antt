@@ -12,7 +12,7 @@ use Rattle.wave_wasm.specs.TypeText.{kind_word, type_text}
 use Rattle.wave_wasm.specs.ValueErrors.{Cause, missing_field, missing_payload, unexpected_payload, unknown_case, wrong_number, wrong_length, unsupported_type}
 use Rattle.wave_lex.specs.declared.error.ParserErrorKind.{ParserErrorKind}
 use Rattle.wave_lex.specs.declared.error.ParserErrorKind.TheVariants.{InvalidType, InvalidValue, InvalidEscape, DuplicateField}
-use Rattle.wave_lex.specs.Errors.{Refusal, with_detail, caused, fault_detail, field_label_due, repeated_name}
+use Rattle.wave_lex.specs.Errors.{Refusal, with_detail, caused, fault_detail, field_label_expected, repeated_name}
 use Rattle.wave_lex.specs.Tokenization.{span}
 use Rattle.wave_lex.specs.Strings.{IsInQuotes, IsBadEscapeAt}
 use Rattle.wave_lex.specs.Multiline.{LineFault, MultilineFault, IsInThreeQuotes, fault_kind, fault_span}
@@ -83,14 +83,14 @@ LoneKeyFault K p t k q =
     (names_in t ≢ []) × SpellsNoLeaf K t × IsRefusalOf InvalidType p k q
     ⊎ (names_in t ≡ []) × LeafFault K p t k q
 
--- the detail of a label that spells no key, where keys of this type are due
-abbrev pub key_due : TypeTree → List ℕ
-key_due T = codes "expected a " ++ (type_text T ++ codes " key, found a label")
+-- the detail of a label that spells no key, where keys of this type are expected
+abbrev pub key_expected : TypeTree → List ℕ
+key_expected T = codes "expected a " ++ (type_text T ++ codes " key, found a label")
 
--- so with a key of a map, where the refusal of a label tells which key is due
+-- so with a key of a map, where the refusal of a label says which key is expected
 abbrev pub MapKeyFault : Simple → Range ℕ → Token → Blame
 MapKeyFault K p t k q =
-    (names_in t ≢ []) × SpellsNoLeaf K t × RefusesWith InvalidType (Some (key_due (type.simple K))) p k q
+    (names_in t ≢ []) × SpellsNoLeaf K t × RefusesWith InvalidType (Some (key_expected (type.simple K))) p k q
     ⊎ (names_in t ≡ []) × LeafFault K p t k q
 
 -- ---- forms
@@ -136,15 +136,15 @@ label_in _ = None
 
 -- ---- records
 
--- a key that is no label: `InvalidType` at the key, which tells that a label is due
+-- a key that is no label: `InvalidType` at the key, whose detail says that a label is expected
 abbrev pub KeyFault : List PlacedEntry → Blame
-KeyFault es k q = SomeOf (λ e. (names_in e.key ≡ []) × RefusesWith InvalidType (Some field_label_due) e.place k q) es
+KeyFault es k q = SomeOf (λ e. (names_in e.key ≡ []) × RefusesWith InvalidType (Some field_label_expected) e.place k q) es
 
 -- a label that is no field: `InvalidValue` at the record
 abbrev pub UnknownField : List (List ℕ) → List PlacedEntry → Range ℕ → Blame
 UnknownField names es p k q = SomeOf (λ e. SomeOf (IsNoneOf names) (names_in e.key)) es × IsRefusalOf InvalidValue p k q
 
--- a name that stands earlier, perhaps before a key that is no label: `DuplicateField` at the later key, which tells the name
+-- a name that stands earlier, perhaps before a key that is no label: `DuplicateField` at the later key, whose detail is the name
 abbrev pub RepeatedField : List (List ℕ) → List PlacedEntry → Blame
 RepeatedField earlier [] k q = ⊥
 RepeatedField earlier (e ∷ more) k q =
@@ -164,15 +164,15 @@ MissingField (field name T more) es p k q =
 
 -- ---- payloads and flat forms
 
--- a payload where none is due: the cause `UnexpectedPayload` at the node
-abbrev pub NoneDue : List ℕ → MaybePlaced → Range ℕ → Blame
-NoneDue name no_placed p k q = ⊥
-NoneDue name (a_placed t) p k q = RefusesFor (unexpected_payload name) p k q
+-- a payload where none is expected: the cause `UnexpectedPayload` at the node
+abbrev pub NoneExpected : List ℕ → MaybePlaced → Range ℕ → Blame
+NoneExpected name no_placed p k q = ⊥
+NoneExpected name (a_placed t) p k q = RefusesFor (unexpected_payload name) p k q
 
--- no payload where one is due: the cause `MissingPayload` at the node; or a fault of the payload
-abbrev pub OneDue : List ℕ → MaybePlaced → Range ℕ → (SpannedTree → Blame) → Blame
-OneDue name no_placed p Within k q = RefusesFor (missing_payload name) p k q
-OneDue name (a_placed t) p Within k q = Within t k q
+-- no payload where one is expected: the cause `MissingPayload` at the node; or a fault of the payload
+abbrev pub OneExpected : List ℕ → MaybePlaced → Range ℕ → (SpannedTree → Blame) → Blame
+OneExpected name no_placed p Within k q = RefusesFor (missing_payload name) p k q
+OneExpected name (a_placed t) p Within k q = Within t k q
 
 -- at an option: a fault of the payload of `some`, none of `none`, or that of another form
 abbrev pub OfOption : SpannedShape → (SpannedTree → Blame) → Blame → Blame
@@ -227,10 +227,10 @@ abbrev mutual
       OfForm (map_in (shape_of t)) (span_of t)
       (λ es k q. SomeOf (λ e. MapKeyFault K e.place e.key k q ⊎ Fault V e.value k q) es) k q
 
-  -- a payload that is there and not due, or due and not there, or a fault of it
+  -- a payload that is there and not expected, or expected and not there, or a fault of it
   pub FaultOfPayload : List ℕ → MaybeType → MaybePlaced → Range ℕ → Blame
-  FaultOfPayload name no_type payload p k q = NoneDue name payload p k q
-  FaultOfPayload name (a_type T) payload p k q = OneDue name payload p (Fault T) k q
+  FaultOfPayload name no_type payload p k q = NoneExpected name payload p k q
+  FaultOfPayload name (a_type T) payload p k q = OneExpected name payload p (Fault T) k q
 
   -- a tree that would stand for `ok` of itself
   pub FaultOfFlat : MaybeType → SpannedTree → Blame

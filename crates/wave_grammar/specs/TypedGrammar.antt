@@ -18,16 +18,16 @@ Behind word Inner tokens a rest = (behind : List Token) × (tokens ≡ label wor
 
 -- what stands in parentheses
 abbrev pub InParens : {A : Type 0} → Spelling A → Spelling A
-InParens Inner tokens a rest = (front : List Token) × (tokens ≡ paren_open ∷ front) × Inner front a (paren_close ∷ rest)
+InParens Inner tokens a rest = (prefix : List Token) × (tokens ≡ paren_open ∷ prefix) × Inner prefix a (paren_close ∷ rest)
 
 -- a name and a colon, then what the name is for
 abbrev pub Named : {A : Type 0} → (List ℕ → Spelling A) → Spelling (List ℕ × A)
 Named Inner tokens e rest =
-    (text : List ℕ) × (front : List Token) × (tokens ≡ label text ∷ colon ∷ front) × (name_of text ≡ e.0) × Inner e.0 front e.1 rest
+    (text : List ℕ) × (prefix : List Token) × (tokens ≡ label text ∷ colon ∷ prefix) × (name_of text ≡ e.0) × Inner e.0 prefix e.1 rest
 
 -- a key and a colon, then its value
 abbrev pub Keyed : {A : Type 0} → Simple → Spelling A → Spelling (Leaf × A)
-Keyed key Inner tokens e rest = (token : Token) × (front : List Token) × (tokens ≡ token ∷ colon ∷ front) × Spells key token e.0 × Inner front e.1 rest
+Keyed key Inner tokens e rest = (token : Token) × (prefix : List Token) × (tokens ≡ token ∷ colon ∷ prefix) × Spells key token e.0 × Inner prefix e.1 rest
 
 -- a label, and the name it stands for
 abbrev pub Name : Spelling (List ℕ)
@@ -95,7 +95,7 @@ AFixedList count Inner tokens v rest =
 -- `(` and the values of a tuple, which come with their close
 abbrev pub ATuple : Spelling (List Value) → Spelling Value
 ATuple Inner tokens v rest =
-    (items : List Value) × (front : List Token) × (tokens ≡ paren_open ∷ front) × Inner front items rest × (v ≡ value.tuple (values items))
+    (items : List Value) × (prefix : List Token) × (tokens ≡ paren_open ∷ prefix) × Inner prefix items rest × (v ≡ value.tuple (values items))
 
 -- `{` entries `}` with distinct names, or `{:}`; they fill the fields
 abbrev pub ARecord : Fields → (List ℕ → Spelling Value) → Spelling Value
@@ -158,7 +158,7 @@ First Inner Further tokens items rest =
 
 -- a comma, a further value of a tuple, and those after it
 abbrev pub Then : Spelling Value → Spelling (List Value) → Spelling (List Value)
-Then Inner Further tokens items rest = (front : List Token) × (tokens ≡ comma ∷ front) × First Inner Further front items rest
+Then Inner Further tokens items rest = (prefix : List Token) × (tokens ≡ comma ∷ prefix) × First Inner Further prefix items rest
 
 -- the end of a tuple
 abbrev pub End : Spelling (List Value)

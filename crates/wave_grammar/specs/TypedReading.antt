@@ -71,15 +71,15 @@ IsKeyError Full K p key e =
     (e.kind ≡ OutOfMemory) ⊎ LoneKeyFault K p key (refusal_of e) e.span × SpellsNoLeaf K key ⊎ (e.kind ≡ WasmValueError) × (Full (type.simple K) → ⊥)
 
 -- the value that was made; or the refusal of its constructor, at the node
-abbrev pub IsMade : {V : Type 0} → NodeTree → Result V causes.WasmValueError → Result V Diagnostic → Type 0
-IsMade n (Ok v) (Ok w) = w ≡ v
-IsMade n (Err cause) (Err e) = (refusal_of e ≡ refused_by (cause_of cause)) × (e.span ≡ place_of n)
-IsMade n _ _ = ⊥
+abbrev pub IsBuilt : {V : Type 0} → NodeTree → Result V causes.WasmValueError → Result V Diagnostic → Type 0
+IsBuilt n (Ok v) (Ok w) = w ≡ v
+IsBuilt n (Err cause) (Err e) = (refusal_of e ≡ refused_by (cause_of cause)) × (e.span ≡ place_of n)
+IsBuilt n _ _ = ⊥
 
 module _ {V : Type 0} (tree : V → Value) (of : V → TypeTree → Type 0) (Full : TypeTree → Type 0) where
   -- what a constructor answered for the leaf: the value, or a refusal at the node
-  abbrev pub IsLeafMade : Leaf → NodeTree → Result V Diagnostic → Type 0
-  IsLeafMade one n r = (made : Result V causes.WasmValueError) × IfOk made (MakesLeaf tree of one) × IfErr made (FullLeaf Full one) × IsMade n made r
+  abbrev pub IsLeafBuilt : Leaf → NodeTree → Result V Diagnostic → Type 0
+  IsLeafBuilt one n r = (built : Result V causes.WasmValueError) × IfOk built (MakesLeaf tree of one) × IfErr built (FullLeaf Full one) × IsBuilt n built r
 
   -- the value of the node's key at the simple type, or a refusal of it
   abbrev pub AnswersKey : TypeTree → List ℕ → NodeTree → Result V Diagnostic → Type 0

@@ -7,7 +7,7 @@ use wave_lex::lex::Span;
 /// What is to be made of a value, from the parts of its node, one after the other.
 pub trait Builder: Sized + Copy {
     /// What is made of a value.
-    type Made: Drop;
+    type Built: Drop;
 
     /// What is made of the parts of a value so far.
     type Parts: Drop;
@@ -21,7 +21,7 @@ pub trait Builder: Sized + Copy {
     ghost use Rattle.wave_grammar.specs.declared.form.NodeType.TheVariants as node_type;
 
     /// This was made of the node, which was parsed from the source.
-    ghost is_made: { Self → List ℕ → NodeTree → Self.Made → Type 0 };
+    ghost is_built: { Self → List ℕ → NodeTree → Self.Built → Type 0 };
 
     /// These parts were made of the first children of a node of the type.
     ghost are_parts: { Self → List ℕ → NodeType → List NodeTree → Self.Parts → Type 0 };
@@ -34,10 +34,10 @@ pub trait Builder: Sized + Copy {
 
     /// What is made of a node of one token, of this text. It asks for a text that stands there in some
     /// source.
-    fn leaf(self, alloc: Global, ty: NodeType, span: Span, text: &str) -> Self::Made
+    fn leaf(self, alloc: Global, ty: NodeType, span: Span, text: &str) -> Self::Built
         requires one { IsOneToken ty }
         requires text { (source : List ℕ) × (text.now ≡ slice source span) }
-        ensures { (source : List ℕ) → IsOneToken ty → text.now ≡ slice source span → is_made self source (node ty span no_nodes) result };
+        ensures { (source : List ℕ) → IsOneToken ty → text.now ≡ slice source span → is_built self source (node ty span no_nodes) result };
 
     /// No parts, of a node of the type, which is one that has parts.
     fn parts(self, alloc: Global, ty: NodeType) -> Self::Parts
@@ -67,11 +67,11 @@ pub trait Builder: Sized + Copy {
         self,
         alloc: Global,
         parts: &mut Self::Parts,
-        made: Self::Made,
+        built: Self::Built,
     ) -> Result<(), AllocError>
         ensures kept { IfOk result (λ _. (source : List ℕ) (whole : NodeType) (children : List NodeTree) (n : NodeTree)
             → TakesPart whole children → are_parts self source whole children parts.old
-            → is_made (next self parts.old) source n made → are_parts self source whole (children ++ n ∷ []) parts.new) }
+            → is_built (next self parts.old) source n built → are_parts self source whole (children ++ n ∷ []) parts.new) }
         ensures memory { IfErr result (λ _. (source : List ℕ) (whole : NodeType) (children : List NodeTree)
             → are_parts self source whole children parts.old → takes_memory self) };
 
@@ -95,10 +95,10 @@ pub trait Builder: Sized + Copy {
 
     /// What is made of a node of the type with these parts. It asks for parts that were made of such a
     /// node's children.
-    fn whole(self, alloc: Global, ty: NodeType, span: Span, parts: Self::Parts) -> Self::Made
+    fn whole(self, alloc: Global, ty: NodeType, span: Span, parts: Self::Parts) -> Self::Built
         requires { ArePartsOfSome (are_parts self) ty parts }
         ensures { (source : List ℕ) (children : List NodeTree) → are_parts self source ty children parts
-            → is_made self source (node ty span (node_trees children)) result };
+            → is_built self source (node ty span (node_trees children)) result };
 
     /// What is made of a node of these flags, which stand at these places.
     fn flags(
@@ -106,9 +106,9 @@ pub trait Builder: Sized + Copy {
         alloc: Global,
         span: Span,
         flags: BTreeMap<&str, Span>,
-    ) -> Result<Self::Made, AllocError>
-        ensures { IfOk result (λ made. (source : List ℕ) → AreFlagsOf source flags.entry
-            → is_made self source (node node_type.Flags span (flag_nodes flags.entry)) made) };
+    ) -> Result<Self::Built, AllocError>
+        ensures { IfOk result (λ built. (source : List ℕ) → AreFlagsOf source flags.entry
+            → is_built self source (node node_type.Flags span (flag_nodes flags.entry)) built) };
 
     /// Where memory is taken for the parts of the next part, it is taken for parts.
     ghost next_takes: { (builder : Self) (source : List ℕ) (ty : NodeType) (children : List NodeTree) (parts : Self.Parts)

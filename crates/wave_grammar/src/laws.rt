@@ -38,12 +38,12 @@ pub fn params_are_by_tree()
     ensures { ParamsAreByTree }
 {}
 
-/// The tokens of a tree lead, within its levels, from where a value is due to its end.
+/// The tokens of a tree lead, within its levels, from where a value is expected to its end.
 pub fn trees_are_accepted()
     ensures { TreesAreAccepted }
 {}
 
-/// Tokens that lead from where a value is due to its end are those of a tree, within the same levels.
+/// Tokens that lead from where a value is expected to its end are those of a tree, within the same levels.
 pub fn accepted_tokens_have_a_tree()
     ensures { AcceptedTokensHaveATree }
 {}
@@ -69,7 +69,7 @@ pub fn unexpected_tokens_begin_none()
 {}
 
 /// A token refused for an empty tuple closes one, one refused as repeated names a flag again, and one
-/// refused for its depth stands where a value is due and no level is left.
+/// refused for its depth stands where a value is expected and no level is left.
 pub fn refusal_kinds_sound()
     ensures empty { EmptyTuplesAreEmpty }
     ensures repeated { RepeatedFlagsAreRepeated }

@@ -3,7 +3,7 @@ ghost use Rattle.std.specs.Prelude.{◌≡◌, ◌++◌, [], OnOk};
 ghost use Rattle.std.specs.String.{string_bytes};
 ghost use Rattle.wave_lex.specs.Parts.{part_text, left_of};
 ghost use Rattle.wave_grammar.specs.StringAssembly.{CharIn};
-ghost use Rattle.wave_grammar.specs.StringAssembly.{WantsMemory, IsUncopied, PutTogether};
+ghost use Rattle.wave_grammar.specs.StringAssembly.{IsOutOfMemoryAt, IsUncopied, PutTogether};
 ghost use Rattle.wave_grammar.specs.Private.StringAssembly.{IsEnded, IsAppended};
 
 use std::alloc::{AllocError, Global};
@@ -81,18 +81,18 @@ fn behind_run<'a>(
 /// first.
 fn copied<'a>(
     alloc: Global,
-    front: &str,
+    prefix: &str,
     part: StringPart<'a>,
     parts: &mut StringPartsIter<'a>,
     most: usize,
     place: &Span,
 ) -> Result<CowStr<'a>, ParserError>
-    ensures { PutTogether ⊥ (front.now ++ part_text part.entry) (left_of parts.old) place.now result }
+    ensures { PutTogether ⊥ (prefix.now ++ part_text part.entry) (left_of parts.old) place.now result }
 {
     let Ok(mut text) = String::with_capacity(alloc, most) else {
         return Err(out_of_memory(place));
     };
-    let Ok(()) = push_all(&mut text, front, part, parts) else {
+    let Ok(()) = push_all(&mut text, prefix, part, parts) else {
         return Err(out_of_memory(place));
     };
     match parts.end() {
@@ -105,7 +105,7 @@ fn copied<'a>(
 #[cold]
 #[inline(never)]
 fn out_of_memory(place: &Span) -> ParserError
-    ensures { WantsMemory place.now result }
+    ensures { IsOutOfMemoryAt place.now result }
 {
     ParserError::new(ParserErrorKind::OutOfMemory, place.start..place.end)
 }
@@ -114,14 +114,14 @@ fn out_of_memory(place: &Span) -> ParserError
 #[inline(always)]
 fn push_all<'a>(
     text: &mut String,
-    front: &str,
+    prefix: &str,
     part: StringPart<'a>,
     parts: &mut StringPartsIter<'a>,
 ) -> Result<(), AllocError>
     ensures { OnOk result (IsAppended (left_of parts.old) (left_of parts.new)
-        (string_bytes text.old ++ (front.now ++ part_text part.entry)) (string_bytes text.new)) }
+        (string_bytes text.old ++ (prefix.now ++ part_text part.entry)) (string_bytes text.new)) }
 {
-    text.push_str(front)?;
+    text.push_str(prefix)?;
     push_part(text, part)?;
     push_parts(text, parts)
 }

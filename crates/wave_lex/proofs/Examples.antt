@@ -8,8 +8,8 @@ use Rattle.std.proofs.lemmas.Bool.Decides.{not_from_Decides}
 use Rattle.std.proofs.lemmas.Slice.Eq.{bytes_eq-Decides}
 use Rattle.wave_lex.specs.declared.lex.Token.TheVariants as class
 use Rattle.wave_lex.specs.declared.error.ParserErrorKind.TheVariants as kind
-use Rattle.wave_lex.specs.Tokens.{gap, invalid, function_name, label}
-use Rattle.wave_lex.specs.Tokenization.{IsInvalid, IsLongestToken, Cuts, three_quotes, span}
+use Rattle.wave_lex.specs.Tokens.{whitespace, invalid, function_name, label}
+use Rattle.wave_lex.specs.Tokenization.{IsInvalid, IsLongestToken, Tokenizes, three_quotes, span}
 use Rattle.wave_lex.specs.FunctionName.{IsName}
 use Rattle.wave_lex.specs.Labels.{IsLabel}
 use Rattle.wave_lex.specs.Strings.{CharMeans, StringMeans, UnescapesTo, IsBadEscapeAt, short_escape}
@@ -18,7 +18,7 @@ use Rattle.wave_lex.specs.Errors.{error_text}
 use Rattle.wave_lex.proofs.StringDecoding.EscapesFound.{none_long}
 use Rattle.wave_lex.proofs.RegularShapes.Derivatives.{matches_from}
 use Rattle.wave_lex.proofs.LongestPrefix.ByComputing.{longest_here, token_here, no_token_here}
-use Rattle.wave_lex.proofs.Tokenization.OneCut.{no_token_quoted}
+use Rattle.wave_lex.proofs.Tokenization.OneTokenization.{no_token_quoted}
 
 -- texts that a test tells apart
 apart : (a b : List ℕ) → bytes_eq a b ≡ false → a ≢ b
@@ -47,8 +47,8 @@ quoted : IsLongestToken (codes "'\\u{1f44b}'") 11 class.Char × IsLongestToken (
 quoted = (token_here _ 11 class.Char refl refl refl tt refl, token_here _ 2 class.String refl refl refl (λ e. apart (codes "\"\" ") three_quotes refl) refl, token_here _ 7 class.MultilineString refl refl refl tt refl)
 
 -- a text is tokenized with whitespace before and after its tokens; the last comment goes on to the end
-text_cut : Cuts (codes " 'x'1// ") ((class.Char, codes "'x'") ∷ (class.Number, codes "1") ∷ [])
-text_cut = (codes "// ", (1, 3, longest_here gap _ _ refl refl refl refl, token_here _ 3 class.Char refl refl refl tt refl, refl, (0, 1, longest_here gap _ _ refl refl refl refl, token_here _ 1 class.Number refl refl refl tt refl, refl, refl)), longest_here gap _ _ refl refl refl refl)
+text_cut : Tokenizes (codes " 'x'1// ") ((class.Char, codes "'x'") ∷ (class.Number, codes "1") ∷ [])
+text_cut = (codes "// ", (1, 3, longest_here whitespace _ _ refl refl refl refl, token_here _ 3 class.Char refl refl refl tt refl, refl, (0, 1, longest_here whitespace _ _ refl refl refl refl, token_here _ 1 class.Number refl refl refl tt refl, refl, refl)), longest_here whitespace _ _ refl refl refl refl)
 
 -- three quotes with none after them are refused together, two scalars between single quotes whole, five at the first quote
 invalid_tokens : IsInvalid (codes "\"\"\"abc") 3 × IsInvalid (codes "'ab'") 4 × IsInvalid (codes "'abcde'") 1

@@ -1,5 +1,5 @@
 pub mod Classes
-pub mod OneCut
+pub mod OneTokenization
 pub mod TokenEnds
 pub mod Decimals
 pub mod NextToken

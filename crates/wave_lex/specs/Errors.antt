@@ -144,8 +144,8 @@ abbrev pub repeated_name : List ℕ → List ℕ
 repeated_name name = quoted_name name
 
 -- the detail of a record key that is no label
-abbrev pub field_label_due : List ℕ
-field_label_due = codes "expected a record field label"
+abbrev pub field_label_expected : List ℕ
+field_label_expected = codes "expected a record field label"
 
 -- the details of a call's parameters: too many values, too few, none
 abbrev pub too_many_params : List ℕ

@@ -1,4 +1,4 @@
--- Which names are labels, and which types have good names.
+-- Which names are labels, and which types have distinct ones.
 use Rattle.std.specs.Prelude.{ℕ, List}
 use Rattle.wave_wasm.specs.Lists.{AllOf}
 use Rattle.wave_wasm.specs.Types.{TypeTree, EachNames, HasDistinctNames}
@@ -14,5 +14,5 @@ abbrev pub HasLabels : TypeTree → Type 0
 HasLabels T = EachNames (AllOf IsLabel) T
 
 -- there they are labels and distinct
-abbrev pub Good : TypeTree → Type 0
-Good T = HasLabels T × HasDistinctNames T
+abbrev pub HasDistinctLabels : TypeTree → Type 0
+HasDistinctLabels T = HasLabels T × HasDistinctNames T

@@ -43,7 +43,7 @@ pub record TakesEscape (old new : Undecoded) (c : ℕ) : Type 0 where
   pub moved : new.pos ≡ old.pos + length escape
 
 -- the refusal of an escape at this place
-pub record TellsBadEscape (e : Diagnostic) (pos : ℕ) : Type 0 where
+pub record ReportsBadEscape (e : Diagnostic) (pos : ℕ) : Type 0 where
   pub refusal : refusal_of e ≡ plainly InvalidEscape
   pub at : e.span ≡ span pos (pos + 1)
 
@@ -52,7 +52,7 @@ pub record MeetsBadEscape (old new : Undecoded) (e : Diagnostic) : Type 0 where
   pub begins : (t : List ℕ) × (old.rest ≡ backslash ∷ t)
   pub none : UnescapesTo old.rest None
   pub ended : new.rest ≡ []
-  pub told : TellsBadEscape e old.pos
+  pub reported : ReportsBadEscape e old.pos
 
 -- what `StringParts::next` answers
 abbrev pub PartIs : Undecoded → Option (Result StringPart Diagnostic) → Undecoded → Type 0
@@ -71,17 +71,17 @@ RunsTo s (p ∷ ps) end = (t : Undecoded) × PartIs s (Some (Ok p)) t × RunsTo 
 abbrev pub PartsJoin : Type 0
 PartsJoin = (s : Undecoded) (ps : List StringPart)
     → (RunsTo s ps None → Decodes s.rest (part_texts ps))
-    × ((e : Diagnostic) → RunsTo s ps (Some e) → (i : ℕ) × IsBadEscapeAt s.rest i × TellsBadEscape e (s.pos + i))
+    × ((e : Diagnostic) → RunsTo s ps (Some e) → (i : ℕ) × IsBadEscapeAt s.rest i × ReportsBadEscape e (s.pos + i))
 
 -- ---- a multiline string
 
 -- the refusal of a fault at these bytes
-pub record TellsFault (e : Diagnostic) (f : LineFault) (place : Range ℕ) : Type 0 where
+pub record ReportsFault (e : Diagnostic) (f : LineFault) (place : Range ℕ) : Type 0 where
   pub refusal : refusal_of e ≡ with_detail (fault_kind f) (fault_detail f)
   pub at : e.span ≡ place
 
 -- the refusal of a line with too few spaces at this place
-pub record TellsBadLine (e : Diagnostic) (pos : ℕ) : Type 0 where
+pub record ReportsBadLine (e : Diagnostic) (pos : ℕ) : Type 0 where
   pub refusal : refusal_of e ≡ with_detail InvalidMultilineString (Some badly_indented)
   pub at : e.span ≡ span pos (pos + 1)
 
@@ -108,7 +108,7 @@ pub record MeetsBadLine (old new : LinesLeft) (e : Diagnostic) : Type 0 where
   pub met : HasBadLine old
   pub stays : new.line ≡ old.line
   pub ended : new.later ≡ []
-  pub told : TellsBadLine e old.next
+  pub reported : ReportsBadLine e old.next
 
 -- a part of the line that is read; the lines after it stay
 pub record StaysInLine (old new : LinesLeft) (part : StringPart) : Type 0 where
@@ -152,8 +152,8 @@ OpensTo s pos new = (l : LinesLeft) × Begins s pos l × ((l.later ≡ []) × (n
 -- why there is no iterator: the last piece, or the first
 abbrev pub OpeningRefused : List ℕ → ℕ → Diagnostic → Type 0
 OpeningRefused s pos e =
-    ((IsSpaces (closing_piece (pieces s)) → ⊥) × TellsFault e closing (fault_span pos (length s) closing))
-    ⊎ (IsSpaces (closing_piece (pieces s)) × (OpensWell (pieces s) → ⊥) × TellsFault e opening (fault_span pos (length s) opening))
+    ((IsSpaces (closing_piece (pieces s)) → ⊥) × ReportsFault e closing (fault_span pos (length s) closing))
+    ⊎ (IsSpaces (closing_piece (pieces s)) × (OpensWell (pieces s) → ⊥) × ReportsFault e opening (fault_span pos (length s) opening))
 
 -- the parts that came, up to None or up to an error
 abbrev pub LinesRunTo : LinesLeft → List StringPart → Option Diagnostic → Type 0
@@ -166,8 +166,8 @@ abbrev pub LinesJoin : Type 0
 LinesJoin = (s : List ℕ) (pos : ℕ)
     → ((l : LinesLeft) (ps : List StringPart) → OpensTo s pos l
     → (LinesRunTo l ps None → DecodesLines s (part_texts ps))
-    × ((e : Diagnostic) → LinesRunTo l ps (Some e) → (f : LineFault) × MultilineFault s f × TellsFault e f (fault_span pos (length s) f)))
-    × ((e : Diagnostic) → OpeningRefused s pos e → (f : LineFault) × MultilineFault s f × TellsFault e f (fault_span pos (length s) f))
+    × ((e : Diagnostic) → LinesRunTo l ps (Some e) → (f : LineFault) × MultilineFault s f × ReportsFault e f (fault_span pos (length s) f)))
+    × ((e : Diagnostic) → OpeningRefused s pos e → (f : LineFault) × MultilineFault s f × ReportsFault e f (fault_span pos (length s) f))
 
 -- ---- both kinds of strings
 
@@ -180,7 +180,7 @@ left_of (Multiline parts) = parts
 abbrev pub OneLineJoins : Type 0
 OneLineJoins = (s : Undecoded) (ps : List StringPart)
     → (LinesRunTo (one_line s) ps None → Decodes s.rest (part_texts ps))
-    × ((e : Diagnostic) → LinesRunTo (one_line s) ps (Some e) → (i : ℕ) × IsBadEscapeAt s.rest i × TellsBadEscape e (s.pos + i))
+    × ((e : Diagnostic) → LinesRunTo (one_line s) ps (Some e) → (i : ℕ) × IsBadEscapeAt s.rest i × ReportsBadEscape e (s.pos + i))
 
 -- the parts that came so far, and what is left
 abbrev pub LinesRun : LinesLeft → List StringPart → LinesLeft → Type 0

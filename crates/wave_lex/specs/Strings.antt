@@ -53,13 +53,13 @@ IsPiece p = ((b : ℕ) × (b ≢ backslash) × (p ≡ record { source = b ∷ []
     ⊎ ((c : ℕ) × IsEscape p.source c × (p.meaning ≡ encode_utf8 c))
 
 -- s is the sources of the pieces, one after the other, and t is their meanings
-abbrev pub IsCutInto : List ℕ → List StringPiece → List ℕ → Type 0
-IsCutInto s [] t = (s ≡ []) × (t ≡ [])
-IsCutInto s (p ∷ ps) t = IsPiece p × (x : List ℕ) × (y : List ℕ) × (s ≡ p.source ++ x) × (t ≡ p.meaning ++ y) × IsCutInto x ps y
+abbrev pub IsSplitInto : List ℕ → List StringPiece → List ℕ → Type 0
+IsSplitInto s [] t = (s ≡ []) × (t ≡ [])
+IsSplitInto s (p ∷ ps) t = IsPiece p × (x : List ℕ) × (y : List ℕ) × (s ≡ p.source ++ x) × (t ≡ p.meaning ++ y) × IsSplitInto x ps y
 
 -- the bytes s decode to t
 abbrev pub Decodes : List ℕ → List ℕ → Type 0
-Decodes s t = (ps : List StringPiece) × IsCutInto s ps t
+Decodes s t = (ps : List StringPiece) × IsSplitInto s ps t
 
 -- the bytes s decode to nothing
 abbrev pub Undecodable : List ℕ → Type 0
@@ -68,8 +68,8 @@ Undecodable s = (t : List ℕ) → Decodes s t → ⊥
 -- the first i bytes decode, and after them stands a `\` that begins no escape
 abbrev pub IsBadEscapeAt : List ℕ → ℕ → Type 0
 IsBadEscapeAt s i =
-    (front : List ℕ) × (rest : List ℕ) × (t : List ℕ)
-    × (s ≡ front ++ backslash ∷ rest) × Decodes front t × UnescapesTo (backslash ∷ rest) None × (i ≡ length front)
+    (prefix : List ℕ) × (rest : List ℕ) × (t : List ℕ)
+    × (s ≡ prefix ++ backslash ∷ rest) × Decodes prefix t × UnescapesTo (backslash ∷ rest) None × (i ≡ length prefix)
 
 -- what stands between the quotes of a char token
 abbrev pub IsInCharQuotes : List ℕ → List ℕ → Type 0

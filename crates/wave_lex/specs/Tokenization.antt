@@ -8,7 +8,7 @@ use Rattle.wave_lex.specs.declared.lex.Token.{Token}
 use Rattle.wave_lex.specs.declared.lex.Token.TheVariants.{String}
 use Rattle.wave_lex.specs.Regex.{Matches}
 use Rattle.wave_lex.specs.LongestMatch.{Greatest, IsPrefixOf}
-use Rattle.wave_lex.specs.Tokens.{shape, gap, invalid, label, multiline_string}
+use Rattle.wave_lex.specs.Tokens.{shape, whitespace, invalid, label, multiline_string}
 
 -- `"""`
 abbrev pub three_quotes : List ℕ
@@ -33,8 +33,8 @@ abbrev pub NoToken : List ℕ → Type 0
 NoToken r = (k : ℕ) (c : Token) → IsToken r k c → ⊥
 
 -- the whitespace at the start of s has g bytes, as many as can be
-abbrev pub IsGap : List ℕ → ℕ → Type 0
-IsGap s g = Greatest (IsPrefixOf gap s) (Some g)
+abbrev pub IsWhitespace : List ℕ → ℕ → Type 0
+IsWhitespace s g = Greatest (IsPrefixOf whitespace s) (Some g)
 
 -- the invalid token at the start of r has k bytes
 abbrev pub IsInvalid : List ℕ → ℕ → Type 0
@@ -45,17 +45,17 @@ abbrev pub Lexeme : Type 0
 Lexeme = Token × List ℕ
 
 -- s is whitespace, token, whitespace, token, and so on through the last of ts, then r
-abbrev pub Front : List ℕ → List Lexeme → List ℕ → Type 0
-Front s [] r = s ≡ r
-Front s (t ∷ ts) r = (g : ℕ) × (k : ℕ) × IsGap s g × IsLongestToken (drop g s) k t.0 × (t.1 ≡ take k (drop g s)) × Front (drop (g + k) s) ts r
+abbrev pub Prefix : List ℕ → List Lexeme → List ℕ → Type 0
+Prefix s [] r = s ≡ r
+Prefix s (t ∷ ts) r = (g : ℕ) × (k : ℕ) × IsWhitespace s g × IsLongestToken (drop g s) k t.0 × (t.1 ≡ take k (drop g s)) × Prefix (drop (g + k) s) ts r
 
 -- s is so through the last of ts, and whitespace after it
-abbrev pub Cuts : List ℕ → List Lexeme → Type 0
-Cuts s ts = (r : List ℕ) × Front s ts r × IsGap r (length r)
+abbrev pub Tokenizes : List ℕ → List Lexeme → Type 0
+Tokenizes s ts = (r : List ℕ) × Prefix s ts r × IsWhitespace r (length r)
 
 -- a text is tokenized in one way
-abbrev pub OneCut : Type 0
-OneCut = (s : List ℕ) (ts us : List Lexeme) → Cuts s ts → Cuts s us → ts ≡ us
+abbrev pub OneTokenization : Type 0
+OneTokenization = (s : List ℕ) (ts us : List Lexeme) → Tokenizes s ts → Tokenizes s us → ts ≡ us
 
 -- no three quotes stand in s
 abbrev pub HasNoThreeQuotes : List ℕ → Type 0
@@ -91,7 +91,7 @@ pub record Stands (source : List ℕ) (start end : ℕ) : Type 0 where
 -- after whitespace of g bytes stands an item of k bytes, and the span is its
 pub record Passes (old new : Lexed) (g k : ℕ) : Type 0 where
   pub source : new.source ≡ old.source
-  pub skipped : IsGap (remainder_of old) g
+  pub skipped : IsWhitespace (remainder_of old) g
   pub start : new.start ≡ old.end + g
   pub end : new.end ≡ old.end + g + k
 

@@ -164,8 +164,8 @@ abbrev pub comment_text : Regex
 comment_text = word (codes "//") then star (except (line_feed ∷ []))
 
 -- blanks and comments; the last comment may go on to the end
-abbrev pub gap : Regex
-gap = star (blank or (comment_text then one line_feed)) then maybe comment_text
+abbrev pub whitespace : Regex
+whitespace = star (blank or (comment_text then one line_feed)) then maybe comment_text
 
 -- where no token begins: `'` with two to four scalars and `'`, or three quotes, or else one scalar
 abbrev pub invalid : Regex

@@ -15,7 +15,7 @@ use wave_wasm::wasm::WasmValueError;
 /// What kind of refusal it is.
 #[derive(Clone, Copy, Debug, PartialEq, Eq, Drop)]
 pub enum ParserErrorKind {
-    /// `()` where a value is due.
+    /// `()` where a value is expected.
     EmptyTuple,
     /// Never answered.
     MultipleChars,
@@ -33,7 +33,7 @@ pub enum ParserErrorKind {
     InvalidValue,
     /// Something after the value.
     TrailingCharacters,
-    /// The end of the text where more is due.
+    /// The end of the text where more is expected.
     UnexpectedEnd,
     /// A token that can not stand here.
     UnexpectedToken,

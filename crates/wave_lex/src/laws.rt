@@ -1,19 +1,19 @@
 //! Laws of the definitions.
-ghost use Rattle.wave_lex.specs.LexerRuns.{TokensCut};
+ghost use Rattle.wave_lex.specs.LexerRuns.{TokensTokenize};
 ghost use Rattle.wave_lex.specs.LabelWords.{LabelTokensAreLabels, LabelsAreWords};
-ghost use Rattle.wave_lex.specs.Tokenization.{NoLongerLabel, OneCut, ThroughFirstQuotes};
+ghost use Rattle.wave_lex.specs.Tokenization.{NoLongerLabel, OneTokenization, ThroughFirstQuotes};
 ghost use Rattle.wave_lex.specs.Multiline.{FaultsRefuse, DecodingFunctional};
 ghost use Rattle.wave_lex.specs.Parts.{LinesJoin, OneLineJoins, PartsJoin};
 
 /// No text is tokenized in two ways.
 pub fn one_cut()
-    ensures { OneCut }
+    ensures { OneTokenization }
 {}
 
 /// The tokens that a lexer gives are those into which the source is tokenized; where it refuses one,
 /// the source isn't tokenized.
 pub fn tokens_cut()
-    ensures { TokensCut }
+    ensures { TokensTokenize }
 {}
 
 /// The parts of a string join to what it decodes to; a refusal reports its first bad escape.

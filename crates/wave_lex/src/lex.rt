@@ -11,7 +11,7 @@ ghost use Rattle.wave_lex.specs.Private.Reading.{TokenAt, IsMark, IsFirstMark, I
 
 pub use self::func_name::FuncNameLexer;
 use self::scan::{
-    begins_number, char_at, gap_at, label_at, mark_at, multiline_at, number_at, string_at,
+    begins_number, char_at, label_at, mark_at, multiline_at, number_at, string_at, whitespace_at,
 };
 use crate::asked::Asked;
 use crate::found::Found;
@@ -231,14 +231,14 @@ fn number_behind_comma(text: &str) -> Option<(usize, usize)>
         return None;
     }
     let rest = &text[1..];
-    let gap = gap_at(rest);
-    let number = &rest[gap..];
+    let whitespace = whitespace_at(rest);
+    let number = &rest[whitespace..];
     let first = number.as_bytes();
     if first.len() == 0 || !begins_number(first[0]) {
         return None;
     }
     let length = number_at(number)?;
-    Some((gap, length))
+    Some((whitespace, length))
 }
 
 /// Tokenizes a source, one token after the other. Places are counted in bytes.
@@ -320,7 +320,7 @@ impl<'source> Lexer<'source> {
         self.item(found)
     }
 
-    /// Takes what stands next, and counts the question. A mark that stands at once is told here, by
+    /// Takes what stands next, and counts the question. A mark that stands at once is found here, by
     /// its byte.
     #[inline(always)]
     pub(crate) fn take(&mut self, asked: &mut Asked) -> Found
@@ -343,12 +343,12 @@ impl<'source> Lexer<'source> {
         ensures taken { IsTrue result → TakesNumberInTurn self.old self.new × (asked.new ≡ asked.old + 2) }
         ensures stays { result ≡ false → (self.new ≡ self.old) × (asked.new ≡ asked.old) }
     {
-        let Some((gap, length)) = number_behind_comma(self.remainder()) else {
+        let Some((whitespace, length)) = number_behind_comma(self.remainder()) else {
             return false;
         };
         asked.tick();
         asked.tick();
-        self.start = self.end + 1 + gap;
+        self.start = self.end + 1 + whitespace;
         self.end = self.start + length;
         true
     }
@@ -371,9 +371,9 @@ impl<'source> Lexer<'source> {
         ensures { NextIs self.old self.new (item_of result self.new) }
     {
         let rest = &self.source[self.end..];
-        let gap = gap_at(rest);
-        let text = &rest[gap..];
-        self.start = self.end + gap;
+        let whitespace = whitespace_at(rest);
+        let text = &rest[whitespace..];
+        self.start = self.end + whitespace;
         if let Some((token, length)) = token_at(text) {
             self.end = self.start + length;
             return Found::Token(token);

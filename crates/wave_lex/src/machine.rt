@@ -6,12 +6,12 @@ ghost use Rattle.wave_lex.specs.LongestMatch.{Greatest, IsPrefixOf};
 
 pub(crate) mod character;
 pub(crate) mod escape;
-pub(crate) mod gap;
 pub(crate) mod invalid;
 pub mod label;
 pub(crate) mod name;
 pub(crate) mod number;
 pub(crate) mod string;
+pub(crate) mod whitespace;
 
 /// A machine that reads a text scalar by scalar, and knows what may still follow.
 pub trait Dfa: Copy {

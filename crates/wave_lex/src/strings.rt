@@ -8,7 +8,7 @@ ghost use Rattle.wave_lex.specs.Multiline.{pieces, closing_piece, DropsReturn};
 ghost use Rattle.wave_lex.specs.declared.strings.StringPartsIter.TheVariants.{Normal};
 ghost use Rattle.wave_lex.specs.Remaining.{ended_lines, size_of};
 ghost use Rattle.wave_lex.specs.Parts.{PartIs, LinePartIs, LinesRunTo, TakesPart, NoPartNext, left_of};
-ghost use Rattle.wave_lex.specs.Parts.{OpensTo, OpeningRefused, EntersLine, TellsBadEscape, TellsBadLine};
+ghost use Rattle.wave_lex.specs.Parts.{OpensTo, OpeningRefused, EntersLine, ReportsBadEscape, ReportsBadLine};
 ghost use Rattle.wave_lex.specs.Private.Runs.{IsRun};
 ghost use Rattle.wave_lex.specs.Private.Lines.{IsNumberAt, PartTaken, EndIs, LinesEndIs, NoLineEntered, SplitsLine, OpeningIs, BehindLastFeed};
 
@@ -370,7 +370,7 @@ impl<'a> Iterator for StringPartsIter<'a> {
 #[inline(never)]
 fn invalid_escape(pos: usize) -> ParserError
     requires { pos + 1 < 2 ^ 64 }
-    ensures { TellsBadEscape result pos }
+    ensures { ReportsBadEscape result pos }
 {
     ParserError::new(ParserErrorKind::InvalidEscape, pos..pos + 1)
 }
@@ -380,7 +380,7 @@ fn invalid_escape(pos: usize) -> ParserError
 #[inline(never)]
 fn badly_indented(pos: usize) -> ParserError
     requires { pos + 1 < 2 ^ 64 }
-    ensures { TellsBadLine result pos }
+    ensures { ReportsBadLine result pos }
 {
     ParserError::with_static(
         ParserErrorKind::InvalidMultilineString,
@@ -470,18 +470,18 @@ fn run_length(text: &str) -> usize
 {
     let bytes = text.as_bytes();
     if bytes.len() <= FEW {
-        return run_in_turn(bytes);
+        return run_bytewise(bytes);
     }
-    let run = run_in_turn(&bytes[..FEW]);
+    let run = run_bytewise(&bytes[..FEW]);
     if run < FEW {
         return run;
     }
-    FEW + run_at_once(&bytes[FEW..])
+    FEW + run_by_memchr(&bytes[FEW..])
 }
 
 /// The same, by looking at each byte.
 #[inline(always)]
-fn run_in_turn(bytes: &[u8]) -> usize
+fn run_bytewise(bytes: &[u8]) -> usize
     ensures { IsRun bytes.now result }
 {
     for (i, byte) in bytes.iter().enumerate() {
@@ -493,7 +493,7 @@ fn run_in_turn(bytes: &[u8]) -> usize
 }
 
 /// The same, by a search.
-fn run_at_once(bytes: &[u8]) -> usize
+fn run_by_memchr(bytes: &[u8]) -> usize
     ensures { IsRun bytes.now result }
 {
     memchr(b'\\', bytes).unwrap_or(bytes.len())

@@ -1,3 +1,3 @@
 pub mod HandedOn
 pub mod ByParts
-pub mod DoomedValues
+pub mod RejectedValues

@@ -12,9 +12,9 @@ use Rattle.wave_grammar.specs.NodeAccessors.{node_text}
 use Rattle.wave_read.specs.Reading.{IsReadAs}
 use Rattle.wave_read.specs.declared.variants.CasePayload.{CasePayload}
 
--- the type of the payload that is due
-abbrev pub payload_due : {S V : Type 0} → CasePayload S V → Option (Bor S)
-payload_due x = option_map (λ c. c.1) x.case
+-- the type of the payload that is expected
+abbrev pub payload_expected : {S V : Type 0} → CasePayload S V → Option (Bor S)
+payload_expected x = option_map (λ c. c.1) x.case
 
 module _ {S V : Type 0} (type_tree : S → TypeTree) (tree : V → Value) (of : V → TypeTree → Type 0) (Full : TypeTree → Type 0) (w : Order) where
   -- the label names this case, which the type has, with a payload of this type

@@ -5,7 +5,7 @@ use Rattle.std.specs.declared.ops.Range.{Range}
 use Rattle.wave_wasm.specs.ValueErrors.{cause_of}
 use Rattle.wave_wasm.specs.declared.wasm.WasmValueError.{WasmValueError}
 use Rattle.wave_wasm.specs.declared.wasm.WasmValueError.TheVariants as error
-use Rattle.wave_lex.specs.Errors.{Diagnostic, refusal_of, refused_by, plainly, class_name, field_label_due, badly_indented}
+use Rattle.wave_lex.specs.Errors.{Diagnostic, refusal_of, refused_by, plainly, class_name, field_label_expected, badly_indented}
 use Rattle.wave_lex.specs.ErrorDetails.{error_with}
 use Rattle.wave_lex.specs.declared.error.Detail.{Detail}
 use Rattle.wave_lex.specs.declared.error.Detail.TheVariants as detail
@@ -19,7 +19,7 @@ use Rattle.wave_read.specs.declared.error.StaticDetail.TheVariants as static
 
 -- the words of a detail that is written in the program
 abbrev pub static_words : StaticDetail → List ℕ
-static_words static.FieldLabel = field_label_due
+static_words static.FieldLabel = field_label_expected
 static_words static.Closing = codes "closing \"\"\" must be on a line preceded only by spaces"
 static_words static.Opening = codes "opening \"\"\" must be followed immediately by newline"
 static_words static.Indentation = badly_indented
@@ -69,7 +69,7 @@ abbrev pub IsRefusedBy : WasmValueError → Diagnostic → Type 0
 IsRefusedBy cause e = (refusal_of e ≡ refused_by (cause_of cause)) ⊎ HasText (detail.Cause cause) × (refusal_of e ≡ plainly OutOfMemory)
 
 -- the value that was made; or such a refusal by its constructor, at the node
-abbrev pub IsMadeOrMemory : {V : Type 0} → NodeTree → Result V WasmValueError → Result V Diagnostic → Type 0
-IsMadeOrMemory n (Ok v) (Ok w) = w ≡ v
-IsMadeOrMemory n (Err cause) (Err e) = IsRefusedBy cause e × (e.span ≡ place_of n)
-IsMadeOrMemory n _ _ = ⊥
+abbrev pub IsBuiltOrMemory : {V : Type 0} → NodeTree → Result V WasmValueError → Result V Diagnostic → Type 0
+IsBuiltOrMemory n (Ok v) (Ok w) = w ≡ v
+IsBuiltOrMemory n (Err cause) (Err e) = IsRefusedBy cause e × (e.span ≡ place_of n)
+IsBuiltOrMemory n _ _ = ⊥

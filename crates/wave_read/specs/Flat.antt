@@ -22,10 +22,10 @@ abbrev pub IsAround : {S : Type 0} → (S → TypeTree) → TypeTree → NodeTyp
 IsAround type_tree T ty None x = (type_tree x.now ≡ T) × ((U : TypeTree) → IsFlatAt T ty U → ⊥)
 IsAround type_tree T ty (Some whole) x = (type_tree whole.now ≡ T) × IsFlatAt T ty (type_tree x.now)
 
--- so for the type that is due, where one is
-abbrev pub IsAroundWhereDue : {S : Type 0} → (S → TypeTree) → Option TypeTree → NodeType → Option (Bor S) → Bor S → Type 0
-IsAroundWhereDue type_tree None ty around x = ⊥
-IsAroundWhereDue type_tree (Some T) ty around x = IsAround type_tree T ty around x
+-- so for the type that is expected, where one is
+abbrev pub IsAroundWhereExpected : {S : Type 0} → (S → TypeTree) → Option TypeTree → NodeType → Option (Bor S) → Bor S → Type 0
+IsAroundWhereExpected type_tree None ty around x = ⊥
+IsAroundWhereExpected type_tree (Some T) ty around x = IsAround type_tree T ty around x
 
 -- a value that was read is of the type of a flat payload of the option or result
 abbrev pub IsOfFlatPart : {V : Type 0} → (V → TypeTree → Type 0) → TypeTree → Result V Diagnostic → Type 0

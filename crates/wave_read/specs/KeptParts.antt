@@ -9,7 +9,7 @@ use Rattle.wave_grammar.specs.NodeTree.{NodeTree}
 use Rattle.wave_grammar.specs.declared.form.NodeType.{NodeType}
 use Rattle.wave_read.specs.PlainReading.{IsPlain, TakesMemory}
 use Rattle.wave_read.specs.Flat.{IsFlatAt}
-use Rattle.wave_read.specs.PartsOfKinds.{AreParts, IsBare, IsSimpleAt, next_due}
+use Rattle.wave_read.specs.PartsOfKinds.{AreParts, IsBare, IsSimpleAt, next_expected}
 use Rattle.wave_read.specs.declared.parts.Partial.{Partial}
 use Rattle.wave_read.specs.declared.parts.Partial.TheVariants as parts
 use Rattle.wave_read.specs.declared.values.Frame.{Frame}
@@ -24,29 +24,29 @@ module _ {S V : Type 0} (type_tree : S → TypeTree) (tree : V → Value) (of : 
   abbrev pub AreKept : TypeTree → List ℕ → NodeType → List NodeTree → Frame S V → Type 0
   AreKept T source ty children kept = AreOfType T source ty children kept.around kept
 
-  -- so of the type that is due; where it is a plain one or none is due, nothing is kept, and where none is due nothing stands around them
-  abbrev pub AreKeptWhereDue : Option TypeTree → List ℕ → NodeType → List NodeTree → Frame S V → Type 0
-  AreKeptWhereDue None source ty children kept = IsBare kept.parts × (kept.around ≡ None)
-  AreKeptWhereDue (Some T) source ty children kept = AreKept T source ty children kept × (IsPlain T → IsSimpleAt type_tree T kept.parts)
+  -- so of the type that is expected; where it is a plain one or none is expected, nothing is kept, and where none is expected nothing stands around them
+  abbrev pub AreKeptWhereExpected : Option TypeTree → List ℕ → NodeType → List NodeTree → Frame S V → Type 0
+  AreKeptWhereExpected None source ty children kept = IsBare kept.parts × (kept.around ≡ None)
+  AreKeptWhereExpected (Some T) source ty children kept = AreKept T source ty children kept × (IsPlain T → IsSimpleAt type_tree T kept.parts)
 
-  -- where nothing is kept, nothing is due
-  none_next : (x : Partial S V) → IsBare x → TakesMemory (shown type_tree (next_due x)) → ⊥
+  -- where nothing is kept, nothing is expected
+  none_next : (x : Partial S V) → IsBare x → TakesMemory (shown type_tree (next_expected x)) → ⊥
   none_next (parts.Faulty f) bare takes = takes
   none_next (parts.Simple y) bare takes = takes
   none_next _ bare takes = absurd bare
 
-  simple_next : (T : TypeTree) (x : Partial S V) → IsSimpleAt type_tree T x → TakesMemory (shown type_tree (next_due x)) → ⊥
+  simple_next : (T : TypeTree) (x : Partial S V) → IsSimpleAt type_tree T x → TakesMemory (shown type_tree (next_expected x)) → ⊥
   simple_next T (parts.Simple y) simple takes = takes
   simple_next T _ simple takes = absurd simple
 
   -- where memory is taken for the parts of the next part, it is taken for parts
-  pub next_takes : (due : Option TypeTree) (source : List ℕ) (ty : NodeType) (children : List NodeTree) (kept : Frame S V)
-      → AreKeptWhereDue due source ty children kept → TakesMemory (shown type_tree (next_due kept.parts)) → TakesMemory due
+  pub next_takes : (expected : Option TypeTree) (source : List ℕ) (ty : NodeType) (children : List NodeTree) (kept : Frame S V)
+      → AreKeptWhereExpected expected source ty children kept → TakesMemory (shown type_tree (next_expected kept.parts)) → TakesMemory expected
   next_takes None source ty children kept are takes = none_next kept.parts are.0 takes
   next_takes (Some T) source ty children kept are takes = λ plain. simple_next T kept.parts (are.1 plain) takes
 
 module _ {S V : Type 0} (type_tree : S → TypeTree) (tree : V → Value) (of : V → TypeTree → Type 0) (Full : TypeTree → Type 0) where
-  -- they are those of some children of a node, at whatever is due
+  -- they are those of some children of a node, at whatever is expected
   abbrev pub AreKeptOfSome : Frame S V → Type 0
   AreKeptOfSome kept =
-      (w : Order) × (due : Option TypeTree) × (source : List ℕ) × (ty : NodeType) × (children : List NodeTree) × AreKeptWhereDue type_tree tree of Full w due source ty children kept
+      (w : Order) × (expected : Option TypeTree) × (source : List ℕ) × (ty : NodeType) × (children : List NodeTree) × AreKeptWhereExpected type_tree tree of Full w expected source ty children kept

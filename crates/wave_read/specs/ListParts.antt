@@ -15,8 +15,8 @@ unless_held None element = Some element
 unless_held (Some e) element = None
 
 -- the type of the item that comes next
-abbrev pub element_due : {S V : Type 0} → Items S V → Option (Bor S)
-element_due x = unless_held x.held x.element
+abbrev pub element_expected : {S V : Type 0} → Items S V → Option (Bor S)
+element_expected x = unless_held x.held x.element
 
 module _ {V : Type 0} (tree : V → Value) (of : V → TypeTree → Type 0) (Full : TypeTree → Type 0) (w : Order) where
   -- each of the nodes was read as its item

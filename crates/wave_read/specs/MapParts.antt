@@ -11,8 +11,8 @@ use Rattle.wave_read.specs.Reading.{IsReadAs}
 use Rattle.wave_read.specs.declared.maps.Entries.{Entries}
 
 -- the type of the value that comes next, after a key
-abbrev pub value_type_due : {S V : Type 0} → Entries S V → Option (Bor S)
-value_type_due x = option_map (λ key. x.value_type) x.key
+abbrev pub value_type_expected : {S V : Type 0} → Entries S V → Option (Bor S)
+value_type_expected x = option_map (λ key. x.value_type) x.key
 
 -- the keys of the entries, and the one that waits, are of the type, where its names are distinct
 abbrev pub AreKeysOf : {V : Type 0} → (V → TypeTree → Type 0) → TypeTree → List (V × V) → Option V → Type 0

@@ -10,14 +10,14 @@ use Rattle.wave_grammar.specs.declared.form.NodeType.{NodeType}
 use Rattle.wave_grammar.specs.declared.form.NodeType.TheVariants as kind
 use Rattle.wave_read.specs.Leaves.{IsSimpleOrUnreadable}
 use Rattle.wave_grammar.specs.NodeParts.{IsOfParts}
-use Rattle.wave_read.specs.CaseParts.{AreCaseParts, payload_due}
-use Rattle.wave_read.specs.Faults.{IsDoomed, IsOfKind}
+use Rattle.wave_read.specs.CaseParts.{AreCaseParts, payload_expected}
+use Rattle.wave_read.specs.Faults.{IsRefusedWhateverFollows, IsOfKind}
 use Rattle.wave_read.specs.declared.fault.Fault.{Fault}
-use Rattle.wave_read.specs.MapParts.{AreEntries, value_type_due}
-use Rattle.wave_read.specs.Payloads.{AreOfSome, AreOfResult, result_node, some_due, result_due}
-use Rattle.wave_read.specs.ListParts.{AreItems, element_due}
-use Rattle.wave_read.specs.RecordParts.{AreFields, type_due}
-use Rattle.wave_read.specs.TupleParts.{IsRow, item_due}
+use Rattle.wave_read.specs.MapParts.{AreEntries, value_type_expected}
+use Rattle.wave_read.specs.Payloads.{AreOfSome, AreOfResult, result_node, some_expected, result_expected}
+use Rattle.wave_read.specs.ListParts.{AreItems, element_expected}
+use Rattle.wave_read.specs.RecordParts.{AreFields, type_expected}
+use Rattle.wave_read.specs.TupleParts.{IsRow, item_expected}
 use Rattle.wave_read.specs.declared.parts.Partial.{Partial}
 use Rattle.wave_read.specs.declared.parts.Partial.TheVariants as parts
 
@@ -39,20 +39,20 @@ IsSimpleAt type_tree T (parts.Simple x) = type_tree x.now ≡ T
 IsSimpleAt type_tree T _ = ⊥
 
 -- the type of the value that comes next
-abbrev pub next_due : {S V : Type 0} → Partial S V → Option (Bor S)
-next_due (parts.Items x) = element_due x
-next_due (parts.TupleItems x) = item_due x
-next_due (parts.OfSome x) = some_due x
-next_due (parts.OfResult x) = result_due x
-next_due (parts.OfCase x) = payload_due x
-next_due (parts.Fields x) = type_due x
-next_due (parts.Entries x) = value_type_due x
-next_due _ = None
+abbrev pub next_expected : {S V : Type 0} → Partial S V → Option (Bor S)
+next_expected (parts.Items x) = element_expected x
+next_expected (parts.TupleItems x) = item_expected x
+next_expected (parts.OfSome x) = some_expected x
+next_expected (parts.OfResult x) = result_expected x
+next_expected (parts.OfCase x) = payload_expected x
+next_expected (parts.Fields x) = type_expected x
+next_expected (parts.Entries x) = value_type_expected x
+next_expected _ = None
 
 module _ {S V : Type 0} (type_tree : S → TypeTree) (tree : V → Value) (of : V → TypeTree → Type 0) (Full : TypeTree → Type 0) (w : Order) where
   -- these parts were read of the first children of a node of this type
   abbrev pub AreParts : TypeTree → List ℕ → NodeType → List NodeTree → Partial S V → Type 0
-  AreParts T source ty children (parts.Faulty f) = IsDoomed tree of Full in_text w T source ty children f
+  AreParts T source ty children (parts.Faulty f) = IsRefusedWhateverFollows tree of Full in_text w T source ty children f
   AreParts T source ty children (parts.Simple x) = (type_tree x.now ≡ T) × IsSimpleOrUnreadable T × IsOfParts ty
   AreParts T source ty children (parts.Empty x) = (ty ≡ kind.EmptySet) × (children ≡ []) × (type_tree x.now ≡ T) × TakesEmptySet T
   AreParts T source ty children (parts.Items x) = (ty ≡ kind.List) × AreItems type_tree tree of Full w T source children x
@@ -71,11 +71,11 @@ module _ {S V : Type 0} (type_tree : S → TypeTree) (tree : V → Value) (of : 
       ⊎ ((w : Order) × (T : TypeTree) × (source : List ℕ) × (ty : NodeType) × (children : List NodeTree) × AreParts type_tree tree of Full w T source ty children x)
 
   -- where they have a fault already, it is a refusal of this kind of the whole value, in whatever order
-  abbrev pub AreDoomedAtOnce : TypeTree → NodeType → Partial S V → Type 0
-  AreDoomedAtOnce T ty x =
-      (f : Fault) → x ≡ parts.Faulty f → IsOfKind f × ((o w : Order) (source : List ℕ) → IsOfParts ty → IsDoomed tree of Full o w T source ty [] f)
+  abbrev pub AreRefusedAtOnce : TypeTree → NodeType → Partial S V → Type 0
+  AreRefusedAtOnce T ty x =
+      (f : Fault) → x ≡ parts.Faulty f → IsOfKind f × ((o w : Order) (source : List ℕ) → IsOfParts ty → IsRefusedWhateverFollows tree of Full o w T source ty [] f)
 
   -- the parts of a value at a node of this type with parts, before the first of them
   pub record AreNoPartsYet (T : TypeTree) (ty : NodeType) (x : Partial S V) : Type 0 where
     pub begun : (w : Order) (source : List ℕ) → IsOfParts ty → AreParts type_tree tree of Full w T source ty [] x
-    pub doomed : AreDoomedAtOnce T ty x
+    pub rejected : AreRefusedAtOnce T ty x

@@ -24,10 +24,10 @@ module _ {V : Type 0} (tree : V → Value) (of : V → TypeTree → Type 0) (Ful
     pub within : IsValueOf source n → IfErr r (RefusesIn n)
     pub typed : IsOfType of T r
 
-  -- so at the type that is due; where none is, whatever was answered
-  abbrev pub IsReadWhereDue : Option TypeTree → List ℕ → NodeTree → Result V Diagnostic → Type 0
-  IsReadWhereDue None source n r = Unit {0}
-  IsReadWhereDue (Some T) source n r = IsReadAs T source n r
+  -- so at the type that is expected; where none is, whatever was answered
+  abbrev pub IsReadWhereExpected : Option TypeTree → List ℕ → NodeTree → Result V Diagnostic → Type 0
+  IsReadWhereExpected None source n r = Unit {0}
+  IsReadWhereExpected (Some T) source n r = IsReadAs T source n r
 
 module _ {V : Type 0} (tree : V → Value) (of : V → TypeTree → Type 0) (Full : TypeTree → Type 0) where
   -- so of the node that the leaf would be, in any text that has the leaf and in whatever orders

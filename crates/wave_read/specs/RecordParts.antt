@@ -25,7 +25,7 @@ field_name f = f.name.now
 
 -- the name and the place are those of a field of this type that was not read
 abbrev pub IsUnread : {S V : Type 0} → List (Field S V) → List ℕ → ℕ × Bor S → Type 0
-IsUnread {S} {V} fields name due = (f : Field S V) × (slice_get fields due.0 ≡ Some f) × (f.name.now ≡ name) × (f.ty ≡ due.1) × (f.value ≡ None)
+IsUnread {S} {V} fields name expected = (f : Field S V) × (slice_get fields expected.0 ≡ Some f) × (f.name.now ≡ name) × (f.ty ≡ expected.1) × (f.value ≡ None)
 
 -- the key that stands last, where it has no value yet
 abbrev pub last_key : List NodeTree → Option NodeTree
@@ -34,14 +34,14 @@ last_key (key ∷ []) = Some key
 last_key (key ∷ val ∷ more) = last_key more
 
 -- the type of the value that comes next
-abbrev pub type_due : {S V : Type 0} → Fields S V → Option (Bor S)
-type_due x = option_map (λ d. d.1) x.due
+abbrev pub type_expected : {S V : Type 0} → Fields S V → Option (Bor S)
+type_expected x = option_map (λ d. d.1) x.expected
 
--- the key that waits for its value is the label of the field that is due
-abbrev pub IsKeyDue : {S V : Type 0} → List ℕ → List (Field S V) → Option NodeTree → Option (ℕ × Bor S) → Type 0
-IsKeyDue source fields None None = Unit {0}
-IsKeyDue source fields (Some key) (Some due) = (type_of key ≡ kind.Label) × IsUnread fields (name_of (node_text source key)) due
-IsKeyDue source fields _ _ = ⊥
+-- the key that waits for its value is the label of the field that is expected
+abbrev pub IsKeyExpected : {S V : Type 0} → List ℕ → List (Field S V) → Option NodeTree → Option (ℕ × Bor S) → Type 0
+IsKeyExpected source fields None None = Unit {0}
+IsKeyExpected source fields (Some key) (Some expected) = (type_of key ≡ kind.Label) × IsUnread fields (name_of (node_text source key)) expected
+IsKeyExpected source fields _ _ = ⊥
 
 -- ---- fields
 
@@ -64,7 +64,7 @@ module _ {S V : Type 0} (type_tree : S → TypeTree) (tree : V → Value) (of : 
   pub record AreBegun (T : TypeTree) (source : List ℕ) (children : List NodeTree) (x : Fields S V) : Type 0 where
     pub labels : AllOf IsLabelled (node_pairs children)
     pub known : AllOf (IsOneOf (map field_name x.fields.items)) (names_of (fields_at source children))
-    pub due : IsKeyDue source x.fields.items (last_key children) x.due
+    pub expected : IsKeyExpected source x.fields.items (last_key children) x.expected
     pub distinct : HasDistinctNames T → AreDistinct (names_of (fields_at source children))
     pub kept : HasDistinctNames T → AreKeptAs source (fields_at source children) x.fields.items
 

@@ -12,8 +12,8 @@ use Rattle.wave_read.specs.Reading.{IsReadAs}
 use Rattle.wave_read.specs.declared.tuples.TupleItems.{TupleItems}
 
 -- the type of the item that comes next
-abbrev pub item_due : {S V : Type 0} → TupleItems S V → Option (Bor S)
-item_due x = slice_get x.types.items (length x.items.items)
+abbrev pub item_expected : {S V : Type 0} → TupleItems S V → Option (Bor S)
+item_expected x = slice_get x.types.items (length x.items.items)
 
 module _ {V : Type 0} (tree : V → Value) (of : V → TypeTree → Type 0) (Full : TypeTree → Type 0) (w : Order) where
   -- each of the nodes was read at its own type, and those beyond the types at none

@@ -41,7 +41,7 @@ pub enum Reason {
     Static(ParserErrorKind, StaticDetail),
     /// With a detail that was made for it.
     Words(ParserErrorKind, Box<String>),
-    /// With `WrongNumberOfElements`: how many are due, and how many there are.
+    /// With `WrongNumberOfElements`: how many are expected, and how many there are.
     Elements(ParserErrorKind, u32, usize),
     /// With `WrongNumberOfTupleValues`, likewise.
     TupleValues(ParserErrorKind, usize, usize),

@@ -16,29 +16,29 @@ use wave_wasm::wasm::{WasmType, WasmTypeKind, WasmValue, WasmValueError};
 
 impl<'src> Leaf<'src> {
     /// The bool, whole number or char, or the string in one line without escapes, where a value of
-    /// that type is due, read and made. Nothing is said of why there is none.
+    /// that type is expected, read and made. Nothing is said of why there is none.
     #[inline(always)]
     pub fn read_fast<V: WasmValue>(&self, alloc: Global, ty: &V::Type) -> Option<V>
         ensures { (o w : Order) (source : List ℕ) → IsLeafIn source self.now
             → IfSome result (λ val. IsReadAs V.tree V.is_of V.is_full o w (V.Type.tree ty.now) source (leaf_node self.now) (Ok val)) }
     {
         match ty.kind() {
-            WasmTypeKind::S8 => if_made(V::make_s8(alloc, self.number()?)),
-            WasmTypeKind::S16 => if_made(V::make_s16(alloc, self.number()?)),
-            WasmTypeKind::S32 => if_made(V::make_s32(alloc, self.number()?)),
-            WasmTypeKind::S64 => if_made(V::make_s64(alloc, self.number()?)),
-            WasmTypeKind::U8 => if_made(V::make_u8(alloc, self.number()?)),
-            WasmTypeKind::U16 => if_made(V::make_u16(alloc, self.number()?)),
-            WasmTypeKind::U32 => if_made(V::make_u32(alloc, self.number()?)),
-            WasmTypeKind::U64 => if_made(V::make_u64(alloc, self.number()?)),
-            WasmTypeKind::Bool => if_made(V::make_bool(alloc, self.boolean()?)),
-            WasmTypeKind::Char => if_made(V::make_char(alloc, self.scalar()?)),
+            WasmTypeKind::S8 => if_built(V::make_s8(alloc, self.number()?)),
+            WasmTypeKind::S16 => if_built(V::make_s16(alloc, self.number()?)),
+            WasmTypeKind::S32 => if_built(V::make_s32(alloc, self.number()?)),
+            WasmTypeKind::S64 => if_built(V::make_s64(alloc, self.number()?)),
+            WasmTypeKind::U8 => if_built(V::make_u8(alloc, self.number()?)),
+            WasmTypeKind::U16 => if_built(V::make_u16(alloc, self.number()?)),
+            WasmTypeKind::U32 => if_built(V::make_u32(alloc, self.number()?)),
+            WasmTypeKind::U64 => if_built(V::make_u64(alloc, self.number()?)),
+            WasmTypeKind::Bool => if_built(V::make_bool(alloc, self.boolean()?)),
+            WasmTypeKind::Char => if_built(V::make_char(alloc, self.scalar()?)),
             WasmTypeKind::String => self.read_run(alloc, ty),
             _ => None,
         }
     }
 
-    /// The same where a string is due. It stands apart since what it makes is zeroed where it begins, for
+    /// The same where a string is expected. It stands apart since what it makes is zeroed where it begins, for
     /// which no other value need wait.
     #[inline(always)]
     fn read_run<V: WasmValue>(&self, alloc: Global, ty: &V::Type) -> Option<V>
@@ -46,7 +46,7 @@ impl<'src> Leaf<'src> {
         ensures { (o w : Order) (source : List ℕ) → IsLeafIn source self.now
             → IfSome result (λ val. IsReadAs V.tree V.is_of V.is_full o w (V.Type.tree ty.now) source (leaf_node self.now) (Ok val)) }
     {
-        if_made(V::make_string(alloc, self.run()?))
+        if_built(V::make_string(alloc, self.run()?))
     }
 
     /// The number, at a number of the type.
@@ -99,10 +99,10 @@ impl<'src> Leaf<'src> {
 
 /// The value that was made.
 #[inline(always)]
-fn if_made<V>(made: Result<V, WasmValueError>) -> Option<V>
-    ensures { IfSome result (λ val. made ≡ Ok val) }
+fn if_built<V>(built: Result<V, WasmValueError>) -> Option<V>
+    ensures { IfSome result (λ val. built ≡ Ok val) }
 {
-    match made {
+    match built {
         Ok(val) => Some(val),
         Err(_) => None,
     }

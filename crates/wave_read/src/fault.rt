@@ -1,6 +1,6 @@
 //! What is wrong with a value, before its end is seen.
 ghost use Rattle.std.specs.Prelude.{MatchOption};
-ghost use Rattle.wave_read.specs.Faults.{IsOfKind, Tells, IsMadeAt};
+ghost use Rattle.wave_read.specs.Faults.{IsOfKind, Reports, IsBuiltAt};
 ghost use Rattle.wave_read.specs.Private.Faults.{IsFaultOf};
 
 use crate::error::{ReadError, Reason};
@@ -14,14 +14,14 @@ use wave_wasm::wasm::WasmValueError;
 pub enum Fault {
     /// The error of a part.
     Part(ReadError),
-    /// Why the whole value is refused. Where it stands is told at the end.
+    /// Why the whole value is refused. Where it stands is reported at the end.
     Whole(Reason),
 }
 
 impl Fault {
     /// The error of the whole value, which stands here, where the fault says its kind alone.
     pub(crate) fn of_kind(&self, span: Span) -> Option<ReadError>
-        ensures { MatchOption result (IsOfKind self.now → ⊥) (Tells self.now span) }
+        ensures { MatchOption result (IsOfKind self.now → ⊥) (Reports self.now span) }
     {
         match self {
             Fault::Whole(Reason::Plain(kind)) => Some(ReadError::at(span, Reason::Plain(*kind))),
@@ -32,8 +32,8 @@ impl Fault {
     /// The error, where the whole value stands here.
     #[cold]
     #[inline(never)]
-    pub(crate) fn tell(self, span: Span) -> ReadError
-        ensures { Tells self span result }
+    pub(crate) fn report(self, span: Span) -> ReadError
+        ensures { Reports self span result }
     {
         match self {
             Fault::Part(error) => error,
@@ -53,11 +53,11 @@ pub(crate) fn caused(alloc: Global, cause: WasmValueError) -> Fault
 pub fn or_error_at<V>(
     alloc: Global,
     span: Span,
-    made: Result<V, WasmValueError>,
+    built: Result<V, WasmValueError>,
 ) -> Result<V, ReadError>
-    ensures { IsMadeAt span made result }
+    ensures { IsBuiltAt span built result }
 {
-    match made {
+    match built {
         Ok(val) => Ok(val),
         Err(cause) => Err(ReadError::with_cause(alloc, span, cause)),
     }

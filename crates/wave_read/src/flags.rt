@@ -9,7 +9,7 @@ ghost use Rattle.wave_grammar.specs.NodeTree.{NodeTree, node, no_nodes, children
 ghost use Rattle.wave_grammar.specs.declared.form.NodeType.TheVariants as node_type;
 ghost use Rattle.wave_grammar.specs.NodeFlags.{AreFlags, names_at};
 ghost use Rattle.wave_read.specs.Reading.{IsReadAs, IsOfType};
-ghost use Rattle.wave_read.specs.Private.NamedFlags.{flag_names, IsReadOrTold, IsTold, TellsCause, TellsUnknown, IsReadOfFlags};
+ghost use Rattle.wave_read.specs.Private.NamedFlags.{flag_names, IsReadOrReported, IsReported, ReportsCause, ReportsUnknown, IsReadOfFlags};
 
 use crate::error::{ReadError, Reason};
 use crate::fault::{Fault, caused};
@@ -30,7 +30,7 @@ pub(crate) fn read_flags<V: WasmValue>(
     ensures read { IsReadOfFlags V.tree V.is_of V.is_full (V.Type.tree ty.now) span flags.entry result }
     ensures typed { IsOfType V.is_of (V.Type.tree ty.now) result }
 {
-    told(read_names(alloc, ty, flags), span)
+    reported(read_names(alloc, ty, flags), span)
 }
 
 /// The value of no flags, where `{}` stands here.
@@ -42,7 +42,7 @@ pub(crate) fn read_no_flags<V: WasmValue>(
     requires { kind_of (V.Type.tree ty.now) ≡ WasmTypeKind.Flags }
     ensures { (o w : Order) (source : List ℕ) → IsReadAs V.tree V.is_of V.is_full o w (V.Type.tree ty.now) source (node node_type.EmptySet span no_nodes) result }
 {
-    told(read_names(alloc, ty, BTreeMap::new(alloc)), span)
+    reported(read_names(alloc, ty, BTreeMap::new(alloc)), span)
 }
 
 /// The value of the flags of these names.
@@ -53,7 +53,7 @@ fn read_names<V: WasmValue>(
 ) -> Result<V, Fault>
     requires { kind_of (V.Type.tree ty.now) ≡ WasmTypeKind.Flags }
     ensures read { (source : List ℕ) (n : NodeTree) → AreFlags n → names_at source (children_of n) ≡ flag_names flags.entry
-        → IsReadOrTold V.tree V.is_of V.is_full (V.Type.tree ty.now) source n result }
+        → IsReadOrReported V.tree V.is_of V.is_full (V.Type.tree ty.now) source n result }
     ensures typed { IfOk result (λ val. HasDistinctNames (V.Type.tree ty.now) → V.is_of val (V.Type.tree ty.now)) }
 {
     let picked = picked(alloc, ty, &flags)?;
@@ -72,7 +72,7 @@ fn picked<'name, T: WasmType>(
     ensures known { IfOk result (λ _. AreAllOf (flags_names (T.tree ty.now)) (flag_names flags.now)) }
     ensures picked { IfOk result (λ picked. AreDistinct (flags_names (T.tree ty.now))
         → texts picked.items ≡ found_in (flag_names flags.now) (flags_names (T.tree ty.now))) }
-    ensures refused { IfErr result (TellsUnknown (flags_names (T.tree ty.now)) (flag_names flags.now)) }
+    ensures refused { IfErr result (ReportsUnknown (flags_names (T.tree ty.now)) (flag_names flags.now)) }
 {
     let mut placed = BTreeMap::new(alloc);
     for name in flags.keys() {
@@ -93,7 +93,7 @@ fn picked<'name, T: WasmType>(
 
 /// The fault of a flag that the type doesn't name.
 fn unknown(alloc: Global, name: &str) -> Fault
-    ensures { TellsCause (unknown_case name.now) result }
+    ensures { ReportsCause (unknown_case name.now) result }
 {
     match String::from_str(alloc, name) {
         Ok(name) => caused(alloc, WasmValueError::UnknownCase(name)),
@@ -102,11 +102,11 @@ fn unknown(alloc: Global, name: &str) -> Fault
 }
 
 /// What was read, or its fault as one of the whole value, which stands here.
-fn told<V>(read: Result<V, Fault>, span: Span) -> Result<V, ReadError>
-    ensures { IsTold read span result }
+fn reported<V>(read: Result<V, Fault>, span: Span) -> Result<V, ReadError>
+    ensures { IsReported read span result }
 {
     match read {
         Ok(val) => Ok(val),
-        Err(fault) => Err(fault.tell(span)),
+        Err(fault) => Err(fault.report(span)),
     }
 }

@@ -58,13 +58,13 @@ pub(crate) fn wrap<V: WasmValue>(
     alloc: Global,
     ty: &V::Type,
     span: Span,
-    made: Result<V, ReadError>,
+    built: Result<V, ReadError>,
 ) -> Result<V, ReadError>
-    requires { IsOfFlatPart V.is_of (V.Type.tree ty.now) made }
+    requires { IsOfFlatPart V.is_of (V.Type.tree ty.now) built }
     ensures { (o w : Order) (source : List ℕ) (n : NodeTree) (U : TypeTree) → IsFlatAt (V.Type.tree ty.now) (type_of n) U → place_of n ≡ span
-        → IsReadAs V.tree V.is_of V.is_full o w U source n made → IsReadAs V.tree V.is_of V.is_full o w (V.Type.tree ty.now) source n result }
+        → IsReadAs V.tree V.is_of V.is_full o w U source n built → IsReadAs V.tree V.is_of V.is_full o w (V.Type.tree ty.now) source n result }
 {
-    let val = match made {
+    let val = match built {
         Ok(val) => val,
         Err(error) => return Err(error),
     };

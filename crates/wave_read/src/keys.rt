@@ -3,7 +3,7 @@ ghost use Rattle.std.specs.Prelude.{ℕ, List, ◌≡◌, IfOk};
 ghost use Rattle.std.specs.String.{string_bytes};
 ghost use Rattle.wave_wasm.specs.Types as type;
 ghost use Rattle.wave_grammar.specs.NodeAccessors.{GivesBoolKey};
-ghost use Rattle.wave_grammar.specs.TypeErrors.{key_due};
+ghost use Rattle.wave_grammar.specs.TypeErrors.{key_expected};
 ghost use Rattle.wave_read.specs.Private.Keys.{IsDetailed};
 ghost use Rattle.wave_read.specs.Keys.{IsKeyReadOf, IsMapKeyReadOf, RefusesInKey};
 ghost use Rattle.wave_read.specs.Leaves.{leaf_node, IsLeafIn};
@@ -32,7 +32,7 @@ impl<'src> Leaf<'src> {
     }
 
     /// The refusal of a key; where a label is none of the type, with a detail that says which key is
-    /// due.
+    /// expected.
     fn with_key_detail<T: WasmType>(&self, alloc: Global, ty: &T, error: ReadError) -> ReadError
         ensures { IsDetailed (T.tree ty.now) self.now error result }
     {
@@ -70,10 +70,10 @@ impl<'src> Leaf<'src> {
         ensures typed { IsOfType V.is_of (type.simple type.string) result }
     {
         if let Some(text) = self.run() {
-            return self.made_string(alloc, CowStr::Borrowed(text));
+            return self.built_string(alloc, CowStr::Borrowed(text));
         }
         match self.as_str(alloc) {
-            Ok(text) => self.made_string(alloc, text),
+            Ok(text) => self.built_string(alloc, text),
             Err(error) => Err(ReadError::of_error(alloc, error)),
         }
     }
@@ -93,9 +93,9 @@ impl<'src> Leaf<'src> {
     }
 }
 
-/// Which key is due, where a label is none of the type.
+/// Which key is expected, where a label is none of the type.
 fn key_words<T: WasmType>(alloc: Global, ty: &T) -> Result<Box<String>, AllocError>
-    ensures { IfOk result (λ words. string_bytes words.value ≡ key_due (T.tree ty.now)) }
+    ensures { IfOk result (λ words. string_bytes words.value ≡ key_expected (T.tree ty.now)) }
 {
     let words = format!(in alloc;
         "expected a {} key, found a label",

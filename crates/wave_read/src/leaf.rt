@@ -6,7 +6,7 @@ ghost use Rattle.wave_wasm.specs.ValueErrors.{unsupported_type};
 ghost use Rattle.wave_grammar.specs.NodeTree.{place_of};
 ghost use Rattle.wave_grammar.specs.NodeAccessors.{RefusedAs, GivesBool, GivesNumber, GivesChar};
 ghost use Rattle.wave_grammar.specs.PartReading.{IsCaused, AnswersWhole};
-ghost use Rattle.wave_read.specs.Errors.{IsMadeOrMemory, IsRefusedBy};
+ghost use Rattle.wave_read.specs.Errors.{IsBuiltOrMemory, IsRefusedBy};
 ghost use Rattle.wave_read.specs.Leaves.{leaf_node, IsLeafIn};
 ghost use Rattle.wave_read.specs.Reading.{IsReadOfLeaf};
 
@@ -124,11 +124,11 @@ impl<'src> Leaf<'src> {
     pub(crate) fn or_error_here<V>(
         &self,
         alloc: Global,
-        made: Result<V, WasmValueError>,
+        built: Result<V, WasmValueError>,
     ) -> Result<V, ReadError>
-        ensures { IsMadeOrMemory (leaf_node self.now) made result }
+        ensures { IsBuiltOrMemory (leaf_node self.now) built result }
     {
-        match made {
+        match built {
             Ok(val) => Ok(val),
             Err(cause) => Err(self.refused(alloc, cause)),
         }

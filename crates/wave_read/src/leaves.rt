@@ -37,8 +37,8 @@ pub(crate) fn read_leaf<V: WasmValue>(
 {
     match flat_payload(ty, leaf.ty) {
         Some(payload) => {
-            let made = read_directly::<V>(leaf, alloc, payload);
-            wrap(alloc, ty, leaf.span.start..leaf.span.end, made)
+            let built = read_directly::<V>(leaf, alloc, payload);
+            wrap(alloc, ty, leaf.span.start..leaf.span.end, built)
         }
         None => read_directly(leaf, alloc, ty),
     }
@@ -83,8 +83,8 @@ pub(crate) fn flags_at<V: WasmValue>(
 {
     match flat_payload(ty, NodeType::Flags) {
         Some(payload) => {
-            let made = flags_directly::<V>(alloc, payload, span.start..span.end, flags);
-            wrap(alloc, ty, span, made)
+            let built = flags_directly::<V>(alloc, payload, span.start..span.end, flags);
+            wrap(alloc, ty, span, built)
         }
         None => flags_directly(alloc, ty, span, flags),
     }

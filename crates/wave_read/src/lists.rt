@@ -6,7 +6,7 @@ ghost use Rattle.wave_grammar.specs.FaultOrder.{Order};
 ghost use Rattle.wave_grammar.specs.NodeTree.{NodeTree, NodeTrees, node};
 ghost use Rattle.wave_grammar.specs.PartReading.{IsOfLength, IsOtherLength};
 ghost use Rattle.wave_read.specs.Leaves.{leaf_node, IsLeafIn};
-ghost use Rattle.wave_read.specs.ListParts.{AreItems, element_due};
+ghost use Rattle.wave_read.specs.ListParts.{AreItems, element_expected};
 ghost use Rattle.wave_read.specs.Private.PartSteps.{AddsPart, IsWholeOf, WereRead};
 
 use crate::error::{ReadError, Reason};
@@ -53,7 +53,7 @@ impl<'ty, V: WasmValue> Items<'ty, V::Type, V> {
 
     /// The type of the item that comes next, where none was refused.
     pub(crate) fn next(&self) -> Option<&'ty V::Type>
-        ensures { result ≡ element_due self.now }
+        ensures { result ≡ element_expected self.now }
     {
         if self.held.is_some() {
             return None;
@@ -61,14 +61,14 @@ impl<'ty, V: WasmValue> Items<'ty, V::Type, V> {
         Some(self.element)
     }
 
-    /// Adds an item, which was read at the type that is due.
+    /// Adds an item, which was read at the type that is expected.
     #[inline(always)]
     pub(crate) fn push_part(
         &mut self,
         alloc: Global,
-        made: Result<V, ReadError>,
+        built: Result<V, ReadError>,
     ) -> Result<(), AllocError>
-        ensures { IfOk result (λ _. AddsPart AreItems V.Type.tree V.tree V.is_of V.is_full NodeType.List element_due self.old made self.new None) }
+        ensures { IfOk result (λ _. AddsPart AreItems V.Type.tree V.tree V.is_of V.is_full NodeType.List element_expected self.old built self.new None) }
     {
         match self.count.checked_add(1) {
             Some(count) => self.count = count,
@@ -77,7 +77,7 @@ impl<'ty, V: WasmValue> Items<'ty, V::Type, V> {
         if self.held.is_some() {
             return Ok(());
         }
-        match made {
+        match built {
             Ok(item) => {
                 self.items.reserve(1)?;
                 self.items.push_reserved(item);

@@ -4,7 +4,7 @@ ghost use Rattle.wave_wasm.specs.Types.{kind_of};
 ghost use Rattle.wave_grammar.specs.FaultOrder.{Order};
 ghost use Rattle.wave_grammar.specs.NodeTree.{node, no_nodes};
 ghost use Rattle.wave_read.specs.Reading.{IsReadAs};
-ghost use Rattle.wave_read.specs.MapParts.{AreEntries, value_type_due};
+ghost use Rattle.wave_read.specs.MapParts.{AreEntries, value_type_expected};
 ghost use Rattle.wave_read.specs.Private.PartSteps.{AddsKey, AddsPart, IsWholeOf, WereRead};
 
 use crate::error::ReadError;
@@ -45,7 +45,7 @@ impl<'ty, V: WasmValue> Entries<'ty, V::Type, V> {
 
     /// The type of the value that comes next, after a key.
     pub(crate) fn next(&self) -> Option<&'ty V::Type>
-        ensures { result ≡ value_type_due self.now }
+        ensures { result ≡ value_type_expected self.now }
     {
         if self.key.is_none() {
             return None;
@@ -73,9 +73,9 @@ impl<'ty, V: WasmValue> Entries<'ty, V::Type, V> {
         }
     }
 
-    /// Adds the value after the last key, which was read at the type that is due.
+    /// Adds the value after the last key, which was read at the type that is expected.
     pub(crate) fn push_part(&mut self, val: V) -> Result<(), AllocError>
-        ensures { IfOk result (λ _. AddsPart AreEntries V.Type.tree V.tree V.is_of V.is_full NodeType.TupleSet value_type_due self.old (Ok val) self.new None) }
+        ensures { IfOk result (λ _. AddsPart AreEntries V.Type.tree V.tree V.is_of V.is_full NodeType.TupleSet value_type_expected self.old (Ok val) self.new None) }
     {
         if let Some(key) = self.key.take() {
             self.entries.reserve(1)?;

@@ -5,7 +5,7 @@ ghost use Rattle.wave_grammar.specs.FaultOrder.{Order};
 ghost use Rattle.wave_grammar.specs.declared.form.NodeType.TheVariants as node_type;
 ghost use Rattle.wave_read.specs.Leaves.{leaf_node};
 ghost use Rattle.wave_read.specs.Reading.{IsReadAs};
-ghost use Rattle.wave_read.specs.Payloads.{AreOfSome, some_due};
+ghost use Rattle.wave_read.specs.Payloads.{AreOfSome, some_expected};
 ghost use Rattle.wave_read.specs.Private.PartSteps.{AddsPart, IsWholeOf, WereRead};
 
 use crate::error::ReadError;
@@ -22,9 +22,9 @@ pub struct SomePayload<'ty, T, V> {
     /// The type of the option.
     ty: &'ty T,
     /// The type of the payload.
-    due: &'ty T,
+    expected: &'ty T,
     /// The payload or its refusal, once it was read.
-    made: Option<Result<V, ReadError>>,
+    built: Option<Result<V, ReadError>>,
 }
 
 impl<'ty, V: WasmValue> SomePayload<'ty, V::Type, V> {
@@ -35,16 +35,16 @@ impl<'ty, V: WasmValue> SomePayload<'ty, V::Type, V> {
     {
         SomePayload {
             ty,
-            due: ty.option_some_type().unwrap(),
-            made: None,
+            expected: ty.option_some_type().unwrap(),
+            built: None,
         }
     }
 
     /// The type of the payload.
     pub(crate) fn next(&self) -> Option<&'ty V::Type>
-        ensures { result ≡ some_due self.now }
+        ensures { result ≡ some_expected self.now }
     {
-        Some(self.due)
+        Some(self.expected)
     }
 
     /// The payload was read, or refused.
@@ -52,11 +52,11 @@ impl<'ty, V: WasmValue> SomePayload<'ty, V::Type, V> {
     pub(crate) fn push_part(
         &mut self,
         alloc: Global,
-        made: Result<V, ReadError>,
+        built: Result<V, ReadError>,
     ) -> Result<(), AllocError>
-        ensures { IfOk result (λ _. AddsPart AreOfSome V.Type.tree V.tree V.is_of V.is_full node_type.OptionSome some_due self.old made self.new None) }
+        ensures { IfOk result (λ _. AddsPart AreOfSome V.Type.tree V.tree V.is_of V.is_full node_type.OptionSome some_expected self.old built self.new None) }
     {
-        self.made = Some(made);
+        self.built = Some(built);
         Ok(())
     }
 
@@ -65,8 +65,12 @@ impl<'ty, V: WasmValue> SomePayload<'ty, V::Type, V> {
         requires { WereRead AreOfSome V.Type.tree V.tree V.is_of V.is_full self }
         ensures { IsWholeOf AreOfSome V.Type.tree V.tree V.is_of V.is_full node_type.OptionSome self.entry span result }
     {
-        let SomePayload { ty, due: _, made } = self;
-        match made {
+        let SomePayload {
+            ty,
+            expected: _,
+            built,
+        } = self;
+        match built {
             Some(Ok(val)) => {
                 let mut payload = Some(val);
                 or_error_at(

@@ -9,10 +9,10 @@ ghost use Rattle.wave_grammar.specs.NodeTree.{NodeTree, node, no_nodes, node_tre
 ghost use Rattle.wave_grammar.specs.NodeParts.{TakesKey, TakesPart};
 ghost use Rattle.wave_read.specs.Leaves.{leaf_node, IsLeafIn};
 ghost use Rattle.wave_read.specs.PlainReading.{IsPlain};
-ghost use Rattle.wave_read.specs.Reading.{IsReadAs, IsReadWhereDue, IsReadOfForm};
+ghost use Rattle.wave_read.specs.Reading.{IsReadAs, IsReadWhereExpected, IsReadOfForm};
 ghost use Rattle.wave_lex.specs.Errors.{Says};
 ghost use Rattle.wave_read.specs.Flat.{IsFlatAt};
-ghost use Rattle.wave_read.specs.PartsOfKinds.{AreParts, AreBareOrRead, IsBare, IsSimpleAt, TakesEmptySet, next_due, AreNoPartsYet};
+ghost use Rattle.wave_read.specs.PartsOfKinds.{AreParts, AreBareOrRead, IsBare, IsSimpleAt, TakesEmptySet, next_expected, AreNoPartsYet};
 ghost use Rattle.wave_read.specs.Private.PartsOfKinds.{AreNoItems};
 ghost use Rattle.wave_read.specs.declared.parts.Partial.TheVariants as parts;
 ghost use Rattle.wave_read.specs.declared.error.Reason.TheVariants as reason;
@@ -197,9 +197,9 @@ impl<'ty, V: WasmValue> Partial<'ty, V::Type, V> {
         Partial::Faulty(Fault::Whole(Reason::Plain(ParserErrorKind::OutOfMemory)))
     }
 
-    /// The type of the value that comes next, where one is due.
+    /// The type of the value that comes next, where one is expected.
     pub(crate) fn next(&self) -> Option<&'ty V::Type>
-        ensures { result ≡ next_due self.now }
+        ensures { result ≡ next_expected self.now }
     {
         match self {
             Partial::Items(items) => items.next(),
@@ -236,23 +236,23 @@ impl<'ty, V: WasmValue> Partial<'ty, V::Type, V> {
         Ok(())
     }
 
-    /// Adds the next value, which was read at the type that was due. An item of a list, of which there
+    /// Adds the next value, which was read at the type that was expected. An item of a list, of which there
     /// may be many, is added where this is called.
     #[inline(always)]
     pub(crate) fn push_part(
         &mut self,
         alloc: Global,
-        made: Result<V, ReadError>,
+        built: Result<V, ReadError>,
     ) -> Result<(), AllocError>
         ensures grown { IfOk result (λ _. (w : Order) (T : TypeTree) (source : List ℕ) (of : NodeType) (children : List NodeTree) (n : NodeTree)
             → TakesPart of children → AreParts V.Type.tree V.tree V.is_of V.is_full w T source of children self.old
-            → IsReadWhereDue V.tree V.is_of V.is_full w w (shown V.Type.tree (next_due self.old)) source n made
+            → IsReadWhereExpected V.tree V.is_of V.is_full w w (shown V.Type.tree (next_expected self.old)) source n built
             → AreParts V.Type.tree V.tree V.is_of V.is_full w T source of (children ++ n ∷ []) self.new) }
         ensures bare { IsBare self.old → (self.new ≡ self.old) × IsOk result }
     {
         match self {
-            Partial::Items(items) => items.push_part(alloc, made),
-            _ => self.push_other_part(alloc, made),
+            Partial::Items(items) => items.push_part(alloc, built),
+            _ => self.push_other_part(alloc, built),
         }
     }
 
@@ -278,16 +278,16 @@ impl<'ty, V: WasmValue> Partial<'ty, V::Type, V> {
     fn push_other_part(
         &mut self,
         alloc: Global,
-        made: Result<V, ReadError>,
+        built: Result<V, ReadError>,
     ) -> Result<(), AllocError>
         requires { AreNoItems self.now }
         ensures grown { IfOk result (λ _. (w : Order) (T : TypeTree) (source : List ℕ) (of : NodeType) (children : List NodeTree) (n : NodeTree)
             → TakesPart of children → AreParts V.Type.tree V.tree V.is_of V.is_full w T source of children self.old
-            → IsReadWhereDue V.tree V.is_of V.is_full w w (shown V.Type.tree (next_due self.old)) source n made
+            → IsReadWhereExpected V.tree V.is_of V.is_full w w (shown V.Type.tree (next_expected self.old)) source n built
             → AreParts V.Type.tree V.tree V.is_of V.is_full w T source of (children ++ n ∷ []) self.new) }
         ensures bare { IsBare self.old → (self.new ≡ self.old) × IsOk result }
     {
-        let val = match made {
+        let val = match built {
             Ok(val) => val,
             Err(error) => return self.push_failed(alloc, error),
         };
@@ -315,7 +315,7 @@ impl<'ty, V: WasmValue> Partial<'ty, V::Type, V> {
         requires { AreNoItems self.now }
         ensures grown { IfOk result (λ _. (w : Order) (T : TypeTree) (source : List ℕ) (of : NodeType) (children : List NodeTree) (n : NodeTree)
             → TakesPart of children → AreParts V.Type.tree V.tree V.is_of V.is_full w T source of children self.old
-            → IsReadWhereDue V.tree V.is_of V.is_full w w (shown V.Type.tree (next_due self.old)) source n (Err error)
+            → IsReadWhereExpected V.tree V.is_of V.is_full w w (shown V.Type.tree (next_expected self.old)) source n (Err error)
             → AreParts V.Type.tree V.tree V.is_of V.is_full w T source of (children ++ n ∷ []) self.new) }
         ensures bare { IsBare self.old → (self.new ≡ self.old) × IsOk result }
     {
@@ -351,7 +351,7 @@ impl<'ty, V: WasmValue> Partial<'ty, V::Type, V> {
         ensures plain { (T : TypeTree) → IsPlain T → IsSimpleAt V.Type.tree T self.entry → IfErr result (λ e. Says e why.InvalidType span None) }
     {
         match self {
-            Partial::Faulty(fault) => Err(fault.tell(span)),
+            Partial::Faulty(fault) => Err(fault.report(span)),
             Partial::Simple(ty) => refuse_form(alloc, ty, span),
             Partial::Empty(ty) => read_empty(alloc, ty, span),
             Partial::Items(items) => items.whole(alloc, span),

@@ -6,10 +6,10 @@ ghost use Rattle.wave_grammar.specs.FaultOrder.{Order};
 ghost use Rattle.wave_grammar.specs.NodeTree.{NodeTree, place_of};
 ghost use Rattle.wave_grammar.specs.ErrorSpans.{RefusesAt};
 ghost use Rattle.wave_grammar.specs.NodeFields.{IsLeftOut, IsMissing};
-ghost use Rattle.wave_lex.specs.Errors.{field_label_due, repeated_name};
+ghost use Rattle.wave_lex.specs.Errors.{field_label_expected, repeated_name};
 ghost use Rattle.wave_lex.specs.declared.error.ParserErrorKind.TheVariants.{InvalidType, DuplicateField, OutOfMemory};
-ghost use Rattle.wave_read.specs.RecordParts.{AreFields, type_due, field_name};
-ghost use Rattle.wave_read.specs.Private.RecordParts.{IsFieldKey, IsKeyFault, IsNamedAt, AreFull, IsLeftUnfilled, IsMissingOrMemory, IsToldAs, with_value};
+ghost use Rattle.wave_read.specs.RecordParts.{AreFields, type_expected, field_name};
+ghost use Rattle.wave_read.specs.Private.RecordParts.{IsFieldKey, IsKeyFault, IsNamedAt, AreFull, IsLeftUnfilled, IsMissingOrMemory, IsReportedAs, with_value};
 ghost use Rattle.wave_read.specs.declared.records.Field.{Field};
 ghost use Rattle.wave_read.specs.Private.PartSteps.{AddsKey, AddsPart, IsWholeOf, WereRead};
 
@@ -41,7 +41,7 @@ pub struct Fields<'ty, T, V> {
     /// The place after the field that was read last.
     behind: usize,
     /// The place and the type of the field whose key was taken.
-    due: Option<(usize, &'ty T)>,
+    expected: Option<(usize, &'ty T)>,
     /// The names of the fields with their places, sorted, once a field stood elsewhere than after the
     /// last one. Any place that is taken from it is looked at.
     index: Option<Box<Vec<(&'ty str, usize)>>>,
@@ -88,7 +88,7 @@ impl<'ty, T, V> Fields<'ty, T, V> {
     fn keep_index(&mut self, alloc: Global, place: usize)
         ensures ty { self.new.ty ≡ self.old.ty }
         ensures fields { self.new.fields ≡ self.old.fields }
-        ensures due { self.new.due ≡ self.old.due }
+        ensures expected { self.new.expected ≡ self.old.expected }
     {
         if place != self.behind && self.fields.len() > FEW && self.index.is_none() {
             self.index = index_of(alloc, &self.fields);
@@ -153,16 +153,16 @@ impl<'ty, V: WasmValue> Fields<'ty, V::Type, V> {
             ty,
             fields,
             behind: 0,
-            due: None,
+            expected: None,
             index: None,
         })
     }
 
     /// The type of the value that comes next, after a key.
     pub(crate) fn next(&self) -> Option<&'ty V::Type>
-        ensures { result ≡ type_due self.now }
+        ensures { result ≡ type_expected self.now }
     {
-        match self.due {
+        match self.expected {
             Some((_, ty)) => Some(ty),
             None => None,
         }
@@ -179,20 +179,20 @@ impl<'ty, V: WasmValue> Fields<'ty, V::Type, V> {
         ensures { IfOk result (AddsKey AreFields V.Type.tree V.tree V.is_of V.is_full NodeType.TupleSet self.old ty span text.now self.new) }
     {
         match self.named(alloc, ty, span, text)? {
-            Ok(due) => {
-                self.keep_index(alloc, due.0);
-                self.due = Some(due);
+            Ok(expected) => {
+                self.keep_index(alloc, expected.0);
+                self.expected = Some(expected);
                 Ok(None)
             }
             Err(fault) => Ok(Some(fault)),
         }
     }
 
-    /// Adds the value after the last key, which was read at the type that is due.
+    /// Adds the value after the last key, which was read at the type that is expected.
     pub(crate) fn push_part(&mut self, val: V)
-        ensures { AddsPart AreFields V.Type.tree V.tree V.is_of V.is_full NodeType.TupleSet type_due self.old (Ok val) self.new None }
+        ensures { AddsPart AreFields V.Type.tree V.tree V.is_of V.is_full NodeType.TupleSet type_expected self.old (Ok val) self.new None }
     {
-        if let Some((i, _)) = self.due.take() {
+        if let Some((i, _)) = self.expected.take() {
             keep(&mut self.fields, i, val);
             self.behind = i.saturating_add(1);
         }
@@ -316,7 +316,7 @@ fn missing(alloc: Global, name: &str) -> WasmValueError
 #[cold]
 #[inline(never)]
 fn no_label(span: Span) -> Fault
-    ensures { IsToldAs InvalidType span field_label_due result }
+    ensures { IsReportedAs InvalidType span field_label_expected result }
 {
     let reason = Reason::Static(ParserErrorKind::InvalidType, StaticDetail::FieldLabel);
     Fault::Part(ReadError::at(span, reason))
@@ -326,7 +326,7 @@ fn no_label(span: Span) -> Fault
 #[cold]
 #[inline(never)]
 fn repeated(alloc: Global, span: Span, name: &str) -> Result<Fault, AllocError>
-    ensures { IfOk result (IsToldAs DuplicateField span (repeated_name name.now)) }
+    ensures { IfOk result (IsReportedAs DuplicateField span (repeated_name name.now)) }
 {
     let words = repeated_words(alloc, name)?;
     Ok(Fault::Part(ReadError::with_words(ParserErrorKind::DuplicateField, span, words)))

@@ -9,7 +9,7 @@ ghost use Rattle.wave_grammar.specs.PartReading.{IsCaused, IsPayloadOf, AnswersP
 ghost use Rattle.wave_grammar.specs.ErrorSpans.{RefusesInPart};
 ghost use Rattle.wave_read.specs.Leaves.{leaf_node};
 ghost use Rattle.wave_read.specs.Reading.{IsReadAs};
-ghost use Rattle.wave_read.specs.Payloads.{AreOfResult, IsReadPayload, result_node, result_due};
+ghost use Rattle.wave_read.specs.Payloads.{AreOfResult, IsReadPayload, result_node, result_expected};
 ghost use Rattle.wave_read.specs.Private.Payloads.{IsOfPayloadType, payload_cause, result_name, result_with};
 ghost use Rattle.wave_read.specs.Private.PartSteps.{AddsPart, WereRead};
 
@@ -27,10 +27,10 @@ pub struct ResultPayload<'ty, T, V> {
     ty: &'ty T,
     /// Whether it is `ok`.
     is_ok: bool,
-    /// The type of the payload, where one is due.
-    due: Option<&'ty T>,
-    /// The payload or its refusal, once it was read; where none is due, whatever was made of it.
-    made: Option<Result<V, ReadError>>,
+    /// The type of the payload, where one is expected.
+    expected: Option<&'ty T>,
+    /// The payload or its refusal, once it was read; where none is expected, whatever was made of it.
+    built: Option<Result<V, ReadError>>,
 }
 
 impl<'ty, V: WasmValue> ResultPayload<'ty, V::Type, V> {
@@ -44,16 +44,16 @@ impl<'ty, V: WasmValue> ResultPayload<'ty, V::Type, V> {
         ResultPayload {
             ty,
             is_ok,
-            due: if is_ok { ok } else { err },
-            made: None,
+            expected: if is_ok { ok } else { err },
+            built: None,
         }
     }
 
-    /// The type of the payload, where one is due.
+    /// The type of the payload, where one is expected.
     pub(crate) fn next(&self) -> Option<&'ty V::Type>
-        ensures { result ≡ result_due self.now }
+        ensures { result ≡ result_expected self.now }
     {
-        self.due
+        self.expected
     }
 
     /// The payload was read, or refused.
@@ -61,13 +61,13 @@ impl<'ty, V: WasmValue> ResultPayload<'ty, V::Type, V> {
     pub(crate) fn push_part(
         &mut self,
         alloc: Global,
-        made: Result<V, ReadError>,
+        built: Result<V, ReadError>,
     ) -> Result<(), AllocError>
-        ensures parts { IfOk result (λ _. AddsPart AreOfResult V.Type.tree V.tree V.is_of V.is_full (result_node self.old.is_ok) result_due
-            self.old made self.new None) }
+        ensures parts { IfOk result (λ _. AddsPart AreOfResult V.Type.tree V.tree V.is_of V.is_full (result_node self.old.is_ok) result_expected
+            self.old built self.new None) }
         ensures case { self.new.is_ok ≡ self.old.is_ok }
     {
-        self.made = Some(made);
+        self.built = Some(built);
         Ok(())
     }
 
@@ -80,10 +80,16 @@ impl<'ty, V: WasmValue> ResultPayload<'ty, V::Type, V> {
         let ResultPayload {
             ty,
             is_ok,
-            due,
-            made,
+            expected,
+            built,
         } = self;
-        match read_payload(alloc, case_name(is_ok), due, made, span.start..span.end) {
+        match read_payload(
+            alloc,
+            case_name(is_ok),
+            expected,
+            built,
+            span.start..span.end,
+        ) {
             Ok(payload) => {
                 let mut payload = case_with(is_ok, payload);
                 or_error_at(
@@ -126,46 +132,46 @@ pub(crate) fn read_alone<V: WasmValue>(
     payload.whole(alloc, leaf.span.start..leaf.span.end)
 }
 
-/// The payload of the case of this name, where one is due; the case stands there.
+/// The payload of the case of this name, where one is expected; the case stands there.
 fn read_payload<V: WasmValue>(
     alloc: Global,
     name: &str,
-    due: Option<&V::Type>,
-    made: Option<Result<V, ReadError>>,
+    expected: Option<&V::Type>,
+    built: Option<Result<V, ReadError>>,
     span: Span,
 ) -> Result<Option<V>, ReadError>
     ensures answer { (w : Order) (source : List ℕ) (children : List NodeTree) (n : NodeTree) → place_of n ≡ span
-        → IsReadPayload V.tree V.is_of V.is_full w (shown V.Type.tree due.entry) source children made
-        → AnswersPayload V.tree V.is_of V.is_full w name.now (shown V.Type.tree due.entry) source n (first_of children) result }
+        → IsReadPayload V.tree V.is_of V.is_full w (shown V.Type.tree expected.entry) source children built
+        → AnswersPayload V.tree V.is_of V.is_full w name.now (shown V.Type.tree expected.entry) source n (first_of children) result }
     ensures within { (w : Order) (source : List ℕ) (children : List NodeTree) (n : NodeTree) → place_of n ≡ span
-        → IsReadPayload V.tree V.is_of V.is_full w (shown V.Type.tree due.entry) source children made
+        → IsReadPayload V.tree V.is_of V.is_full w (shown V.Type.tree expected.entry) source children built
         → IsPayloadOf source (first_of children) → IfErr result (RefusesInPart n (first_of children)) }
     ensures typed { (w : Order) (source : List ℕ) (children : List NodeTree)
-        → IsReadPayload V.tree V.is_of V.is_full w (shown V.Type.tree due.entry) source children made
-        → IfOk result (IsOfPayloadType V.is_of (shown V.Type.tree due.entry)) }
+        → IsReadPayload V.tree V.is_of V.is_full w (shown V.Type.tree expected.entry) source children built
+        → IfOk result (IsOfPayloadType V.is_of (shown V.Type.tree expected.entry)) }
 {
-    match due {
-        Some(_) => match made {
+    match expected {
+        Some(_) => match built {
             Some(Ok(val)) => Ok(Some(val)),
             Some(Err(error)) => Err(error),
             None => Err(refused_payload(alloc, name, true, span)),
         },
-        None => match made {
+        None => match built {
             Some(_) => Err(refused_payload(alloc, name, false, span)),
             None => Ok(None),
         },
     }
 }
 
-/// A refusal, at this place, of the payload of the case of this name: it is due and not there, or
-/// there and not due.
-fn refused_payload(alloc: Global, name: &str, is_due: bool, span: Span) -> ReadError
-    ensures cause { (n : NodeTree) → place_of n ≡ span → IsCaused (payload_cause is_due name.now) n result }
+/// A refusal, at this place, of the payload of the case of this name: it is expected and not there, or
+/// there and not expected.
+fn refused_payload(alloc: Global, name: &str, is_needed: bool, span: Span) -> ReadError
+    ensures cause { (n : NodeTree) → place_of n ≡ span → IsCaused (payload_cause is_needed name.now) n result }
     ensures span { result.span ≡ span }
 {
     let cause = match String::from_str(alloc, name) {
         Err(error) => WasmValueError::Memory(error),
-        Ok(name) if is_due => WasmValueError::MissingPayload(name),
+        Ok(name) if is_needed => WasmValueError::MissingPayload(name),
         Ok(name) => WasmValueError::UnexpectedPayload(name),
     };
     ReadError::with_cause(alloc, span, cause)

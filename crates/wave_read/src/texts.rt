@@ -4,10 +4,10 @@ ghost use Rattle.std.specs.Cow.{cow_str_bytes};
 ghost use Rattle.std.specs.Result.{IsErrAnd};
 ghost use Rattle.wave_wasm.specs.Types as type;
 ghost use Rattle.wave_wasm.specs.Values as value;
-ghost use Rattle.wave_grammar.specs.StringAssembly.{WantsMemory};
+ghost use Rattle.wave_grammar.specs.StringAssembly.{IsOutOfMemoryAt};
 ghost use Rattle.wave_grammar.specs.NodeAccessors.{GivesParts, RefusedAs};
 ghost use Rattle.wave_grammar.specs.NodeStrings.{GivesString};
-ghost use Rattle.wave_grammar.specs.TypedReading.{IsLeafMade};
+ghost use Rattle.wave_grammar.specs.TypedReading.{IsLeafBuilt};
 ghost use Rattle.wave_read.specs.Leaves.{leaf_node, HasQuotes, IsLeafIn};
 ghost use Rattle.wave_read.specs.Reading.{IsReadOfLeaf};
 
@@ -27,7 +27,7 @@ impl<'src> Leaf<'src> {
         ensures { IsReadOfLeaf V.tree V.is_of V.is_full (type.simple type.string) self.now result }
     {
         match self.as_str(alloc) {
-            Ok(text) => self.made_string(alloc, text),
+            Ok(text) => self.built_string(alloc, text),
             Err(error) => Err(ReadError::of_error(alloc, error)),
         }
     }
@@ -40,7 +40,7 @@ impl<'src> Leaf<'src> {
     pub fn as_str(&self, alloc: Global) -> Result<CowStr<'src>, ParserError>
         ensures gives { (source : List ℕ) → IsLeafIn source self.now → HasQuotes self.now
             → GivesString source (leaf_node self.now) result
-            ⊎ IsErrAnd result (WantsMemory self.now.span) × (2 ^ 64 ≤ self.now.span.start + length self.now.text.now + 3) }
+            ⊎ IsErrAnd result (IsOutOfMemoryAt self.now.span) × (2 ^ 64 ≤ self.now.span.start + length self.now.text.now + 3) }
         ensures ty { IfOk result (λ c. (self.now.ty ≡ NodeType.String) ⊎ (self.now.ty ≡ NodeType.MultilineString)) }
     {
         match self.ty {
@@ -89,12 +89,12 @@ impl<'src> Leaf<'src> {
     }
 
     /// The string of this text, which is not copied before the constructor is called.
-    pub(crate) fn made_string<V: WasmValue>(
+    pub(crate) fn built_string<V: WasmValue>(
         &self,
         alloc: Global,
         val: CowStr<'_>,
     ) -> Result<V, ReadError>
-        ensures { IsLeafMade V.tree V.is_of V.is_full (value.string (cow_str_bytes val.entry)) (leaf_node self.now) result }
+        ensures { IsLeafBuilt V.tree V.is_of V.is_full (value.string (cow_str_bytes val.entry)) (leaf_node self.now) result }
     {
         match val {
             CowStr::Borrowed(text) => self.or_error_here(alloc, V::make_string(alloc, text)),

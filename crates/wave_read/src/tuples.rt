@@ -4,7 +4,7 @@ ghost use Rattle.wave_wasm.specs.Types.{kind_of};
 ghost use Rattle.wave_wasm.specs.ValueErrors as causes;
 ghost use Rattle.wave_lex.specs.Errors.{caused, refusal_of};
 ghost use Rattle.wave_grammar.specs.FaultOrder.{Order};
-ghost use Rattle.wave_read.specs.TupleParts.{IsRow, item_due};
+ghost use Rattle.wave_read.specs.TupleParts.{IsRow, item_expected};
 ghost use Rattle.wave_read.specs.Private.PartSteps.{AddsPart, IsWholeOf, WereRead};
 
 use crate::error::{ReadError, Reason};
@@ -46,7 +46,7 @@ impl<'ty, V: WasmValue> TupleItems<'ty, V::Type, V> {
 
     /// The type of the item that comes next, where there is one.
     pub(crate) fn next(&self) -> Option<&'ty V::Type>
-        ensures { result ≡ item_due self.now }
+        ensures { result ≡ item_expected self.now }
     {
         match self.types.get(self.items.len()) {
             Some(ty) => Some(*ty),
@@ -54,9 +54,9 @@ impl<'ty, V: WasmValue> TupleItems<'ty, V::Type, V> {
         }
     }
 
-    /// Adds an item, which was read at the type that is due.
+    /// Adds an item, which was read at the type that is expected.
     pub(crate) fn push_part(&mut self, item: V) -> Result<(), AllocError>
-        ensures { IfOk result (λ _. AddsPart IsRow V.Type.tree V.tree V.is_of V.is_full NodeType.Tuple item_due self.old (Ok item) self.new None) }
+        ensures { IfOk result (λ _. AddsPart IsRow V.Type.tree V.tree V.is_of V.is_full NodeType.Tuple item_expected self.old (Ok item) self.new None) }
     {
         match self.count.checked_add(1) {
             Some(count) => self.count = count,
@@ -70,11 +70,11 @@ impl<'ty, V: WasmValue> TupleItems<'ty, V::Type, V> {
         Ok(())
     }
 
-    /// Counts an item that was refused, and answers what is wrong with the tuple where it was due.
+    /// Counts an item that was refused, and answers what is wrong with the tuple where it was expected.
     #[cold]
     #[inline(never)]
     pub(crate) fn push_failed(&mut self, error: ReadError) -> Result<Option<Fault>, AllocError>
-        ensures { IfOk result (AddsPart IsRow V.Type.tree V.tree V.is_of V.is_full NodeType.Tuple item_due self.old (Err error) self.new) }
+        ensures { IfOk result (AddsPart IsRow V.Type.tree V.tree V.is_of V.is_full NodeType.Tuple item_expected self.old (Err error) self.new) }
     {
         match self.count.checked_add(1) {
             Some(count) => self.count = count,

@@ -13,9 +13,9 @@ ghost use Rattle.wave_read.specs.Leaves.{leaf_node, IsLeafIn};
 ghost use Rattle.wave_read.specs.PlainReading.{IsReadSparing, TakesMemory};
 ghost use Rattle.wave_read.specs.Private.Leaves.{IsTokenOfSome};
 ghost use Rattle.wave_read.specs.Reading.{IsReadAs};
-ghost use Rattle.wave_read.specs.Flat.{IsAround, IsAroundWhereDue, IsCounted, IsOfPartWithin, ReadsFlags, ReadsNoRecord};
-ghost use Rattle.wave_read.specs.KeptParts.{AreKeptOfSome, AreKeptWhereDue};
-ghost use Rattle.wave_read.specs.PartsOfKinds.{AreDoomedAtOnce, next_due};
+ghost use Rattle.wave_read.specs.Flat.{IsAround, IsAroundWhereExpected, IsCounted, IsOfPartWithin, ReadsFlags, ReadsNoRecord};
+ghost use Rattle.wave_read.specs.KeptParts.{AreKeptOfSome, AreKeptWhereExpected};
+ghost use Rattle.wave_read.specs.PartsOfKinds.{AreRefusedAtOnce, next_expected};
 
 use crate::error::{ReadError, Reason};
 use crate::fault::Fault;
@@ -31,33 +31,33 @@ use wave_lex::error::ParserErrorKind;
 use wave_lex::lex::Span;
 use wave_wasm::wasm::{WasmType, WasmTypeKind, WasmValue};
 
-/// The builder that reads a value of the type that is due. Where none is due nothing is kept, and the
+/// The builder that reads a value of the type that is expected. Where none is expected nothing is kept, and the
 /// answer is worth nothing.
 #[derive_where(Clone, Copy)]
 pub struct ValueBuilder<'ty, V: WasmValue> {
-    due: Option<&'ty V::Type>,
+    expected: Option<&'ty V::Type>,
 }
 
 impl<'ty, V: WasmValue> ValueBuilder<'ty, V> {
     /// The builder that reads a value of the type.
     pub fn new(ty: &'ty V::Type) -> Self
-        ensures { result.due ≡ Some ty.entry }
+        ensures { result.expected ≡ Some ty.entry }
     {
-        ValueBuilder { due: Some(ty) }
+        ValueBuilder { expected: Some(ty) }
     }
 
-    /// The type of the record that is due at a node of entries, after the option or result that is
+    /// The type of the record that is expected at a node of entries, after the option or result that is
     /// around it.
     pub fn record(self, node: NodeType) -> Option<(Option<&'ty V::Type>, &'ty V::Type)>
         ensures node { IfSome result (λ _. node ≡ node_type.TupleSet) }
-        ensures around { IfSome result (λ found. IsAroundWhereDue V.Type.tree (shown V.Type.tree self.entry.due) node_type.TupleSet found.0 found.1) }
+        ensures around { IfSome result (λ found. IsAroundWhereExpected V.Type.tree (shown V.Type.tree self.entry.expected) node_type.TupleSet found.0 found.1) }
         ensures kind { IfSome result (λ found. kind_of (V.Type.tree found.1.now) ≡ WasmTypeKind.Record) }
-        ensures none { IfNone result ((T : TypeTree) → shown V.Type.tree self.entry.due ≡ Some T → ReadsNoRecord T node) }
+        ensures none { IfNone result ((T : TypeTree) → shown V.Type.tree self.entry.expected ≡ Some T → ReadsNoRecord T node) }
     {
         if node != NodeType::TupleSet {
             return None;
         }
-        let (around, ty) = wrapper_and_type(self.due?, NodeType::TupleSet);
+        let (around, ty) = wrapper_and_type(self.expected?, NodeType::TupleSet);
         match ty.kind() {
             WasmTypeKind::Record => Some((around, ty)),
             _ => None,
@@ -70,13 +70,13 @@ impl<'ty, V: WasmValue> ValueBuilder<'ty, V> {
         requires one { IsOneToken ty }
         requires text { (source : List ℕ) × (text.now ≡ slice source span) }
         ensures { (o w : Order) (source : List ℕ) → IsOneToken ty → text.now ≡ slice source span
-            → IsReadSparing V.tree V.is_of V.is_full o w (shown V.Type.tree self.entry.due) source (node ty span no_nodes) result }
+            → IsReadSparing V.tree V.is_of V.is_full o w (shown V.Type.tree self.entry.expected) source (node ty span no_nodes) result }
     {
         let leaf = Leaf { ty, span, text };
-        match self.due {
-            Some(due) => match leaf.read_fast(alloc, due) {
+        match self.expected {
+            Some(expected) => match leaf.read_fast(alloc, expected) {
                 Some(val) => Ok(val),
-                None => read_leaf(&leaf, alloc, due),
+                None => read_leaf(&leaf, alloc, expected),
             },
             None => Err(ReadError::new(ParserErrorKind::InvalidType, leaf.span)),
         }
@@ -90,41 +90,41 @@ impl<'ty, V: WasmValue> ValueBuilder<'ty, V> {
         flags: BTreeMap<&str, Span>,
     ) -> Result<V, ReadError>
         ensures { (o w : Order) (source : List ℕ) → AreFlagsOf source flags.entry
-            → IsReadSparing V.tree V.is_of V.is_full o w (shown V.Type.tree self.entry.due) source (node node_type.Flags span (flag_nodes flags.entry)) result }
+            → IsReadSparing V.tree V.is_of V.is_full o w (shown V.Type.tree self.entry.expected) source (node node_type.Flags span (flag_nodes flags.entry)) result }
     {
-        match self.due {
-            Some(due) => flags_at(alloc, due, span, flags),
+        match self.expected {
+            Some(expected) => flags_at(alloc, expected, span, flags),
             None => Err(ReadError::new(ParserErrorKind::InvalidType, span)),
         }
     }
 
-    /// What is read of a node of flags that stands here, where no flags are due.
+    /// What is read of a node of flags that stands here, where no flags are expected.
     pub fn no_flags(self, alloc: Global, span: Span) -> Option<Result<V, ReadError>>
-        ensures read { IfSome result (λ made. (o w : Order) (source : List ℕ) (n : NodeTree) → type_of n ≡ node_type.Flags → place_of n ≡ span
-            → IsReadSparing V.tree V.is_of V.is_full o w (shown V.Type.tree self.entry.due) source n made) }
-        ensures due { IfNone result ((T : TypeTree) → shown V.Type.tree self.entry.due ≡ Some T → ReadsFlags T) }
+        ensures read { IfSome result (λ built. (o w : Order) (source : List ℕ) (n : NodeTree) → type_of n ≡ node_type.Flags → place_of n ≡ span
+            → IsReadSparing V.tree V.is_of V.is_full o w (shown V.Type.tree self.entry.expected) source n built) }
+        ensures expected { IfNone result ((T : TypeTree) → shown V.Type.tree self.entry.expected ≡ Some T → ReadsFlags T) }
     {
-        let due = match self.due {
-            Some(due) => due,
+        let expected = match self.expected {
+            Some(expected) => expected,
             None => return Some(Err(ReadError::new(ParserErrorKind::InvalidType, span))),
         };
-        let (around, ty) = wrapper_and_type(due, NodeType::Flags);
+        let (around, ty) = wrapper_and_type(expected, NodeType::Flags);
         if ty.kind() == WasmTypeKind::Flags {
             return None;
         }
-        let made = refuse_flags::<V>(alloc, ty, span.start..span.end);
-        Some(wrapped(alloc, around, ty, span, made))
+        let built = refuse_flags::<V>(alloc, ty, span.start..span.end);
+        Some(wrapped(alloc, around, ty, span, built))
     }
 
     /// No parts yet, of a node of this type, which has parts.
     #[inline(always)]
     pub fn begin(self, alloc: Global, ty: NodeType) -> Frame<'ty, V::Type, V>
         ensures begun { (w : Order) (source : List ℕ) → IsOfParts ty
-            → AreKeptWhereDue V.Type.tree V.tree V.is_of V.is_full w (shown V.Type.tree self.entry.due) source ty [] result }
-        ensures doomed { (T : TypeTree) → shown V.Type.tree self.entry.due ≡ Some T → AreDoomedAtOnce V.Type.tree V.tree V.is_of V.is_full T ty result.parts }
+            → AreKeptWhereExpected V.Type.tree V.tree V.is_of V.is_full w (shown V.Type.tree self.entry.expected) source ty [] result }
+        ensures rejected { (T : TypeTree) → shown V.Type.tree self.entry.expected ≡ Some T → AreRefusedAtOnce V.Type.tree V.tree V.is_of V.is_full T ty result.parts }
     {
-        match self.due {
-            Some(due) => Frame::new(alloc, due, ty),
+        match self.expected {
+            Some(expected) => Frame::new(alloc, expected, ty),
             None => Frame {
                 around: None,
                 parts: Partial::Faulty(Fault::Whole(Reason::Plain(ParserErrorKind::InvalidType))),
@@ -140,15 +140,15 @@ pub fn wrapped<V: WasmValue>(
     whole: Option<&V::Type>,
     ty: &V::Type,
     span: Span,
-    made: Result<V, ReadError>,
+    built: Result<V, ReadError>,
 ) -> Result<V, ReadError>
-    requires { IsOfPartWithin V.Type.tree V.is_of whole made }
+    requires { IsOfPartWithin V.Type.tree V.is_of whole built }
     ensures { (o w : Order) (T : TypeTree) (source : List ℕ) (n : NodeTree) → IsAround V.Type.tree T (type_of n) whole.entry ty.entry → place_of n ≡ span
-        → IsReadAs V.tree V.is_of V.is_full o w (V.Type.tree ty.now) source n made → IsReadAs V.tree V.is_of V.is_full o w T source n result }
+        → IsReadAs V.tree V.is_of V.is_full o w (V.Type.tree ty.now) source n built → IsReadAs V.tree V.is_of V.is_full o w T source n result }
 {
     match whole {
-        Some(whole) => wrap(alloc, whole, span, made),
-        None => made,
+        Some(whole) => wrap(alloc, whole, span, built),
+        None => built,
     }
 }
 
@@ -164,26 +164,26 @@ impl<'ty, V: WasmValue> Frame<'ty, V::Type, V> {
     #[inline(always)]
     fn new(alloc: Global, ty: &'ty V::Type, of: NodeType) -> Self
         ensures begun { (w : Order) (source : List ℕ) → IsOfParts of
-            → AreKeptWhereDue V.Type.tree V.tree V.is_of V.is_full w (Some (V.Type.tree ty.now)) source of [] result }
-        ensures doomed { AreDoomedAtOnce V.Type.tree V.tree V.is_of V.is_full (V.Type.tree ty.now) of result.parts }
+            → AreKeptWhereExpected V.Type.tree V.tree V.is_of V.is_full w (Some (V.Type.tree ty.now)) source of [] result }
+        ensures rejected { AreRefusedAtOnce V.Type.tree V.tree V.is_of V.is_full (V.Type.tree ty.now) of result.parts }
     {
-        let (around, due) = wrapper_and_type(ty, of);
+        let (around, expected) = wrapper_and_type(ty, of);
         Frame {
             around,
-            parts: Partial::new(alloc, due, of),
+            parts: Partial::new(alloc, expected, of),
         }
     }
 
     /// The refusal of a node that stands here and has this many parts, before any of them is read: where
     /// the type takes no such form, or tuples of another number of items.
     pub fn refused(&self, span: Span, count: usize) -> Option<ReadError>
-        ensures refused { IfSome result (λ error. (w : Order) (due : Option TypeTree) (source : List ℕ) (ty : NodeType) (children : List NodeTree)
-            → IsOfParts ty → length children ≡ count → AreKeptWhereDue V.Type.tree V.tree V.is_of V.is_full w due source ty [] self.now
-            → ((T : TypeTree) → due ≡ Some T → AreDoomedAtOnce V.Type.tree V.tree V.is_of V.is_full T ty self.now.parts)
-            → IsReadSparing V.tree V.is_of V.is_full by_type w due source (node ty span (node_trees children)) (Err error)) }
+        ensures refused { IfSome result (λ error. (w : Order) (expected : Option TypeTree) (source : List ℕ) (ty : NodeType) (children : List NodeTree)
+            → IsOfParts ty → length children ≡ count → AreKeptWhereExpected V.Type.tree V.tree V.is_of V.is_full w expected source ty [] self.now
+            → ((T : TypeTree) → expected ≡ Some T → AreRefusedAtOnce V.Type.tree V.tree V.is_of V.is_full T ty self.now.parts)
+            → IsReadSparing V.tree V.is_of V.is_full by_type w expected source (node ty span (node_trees children)) (Err error)) }
         ensures counted { IfNone result ((w : Order) (T : TypeTree) (source : List ℕ) (ty : NodeType) → IsOfParts ty
-            → AreKeptWhereDue V.Type.tree V.tree V.is_of V.is_full w (Some T) source ty [] self.now
-            → AreDoomedAtOnce V.Type.tree V.tree V.is_of V.is_full T ty self.now.parts → IsCounted T ty count) }
+            → AreKeptWhereExpected V.Type.tree V.tree V.is_of V.is_full w (Some T) source ty [] self.now
+            → AreRefusedAtOnce V.Type.tree V.tree V.is_of V.is_full T ty self.now.parts → IsCounted T ty count) }
     {
         match &self.parts {
             Partial::Faulty(fault) => fault.of_kind(span),
@@ -194,10 +194,10 @@ impl<'ty, V: WasmValue> Frame<'ty, V::Type, V> {
 
     /// The builder of the part that comes next.
     pub fn next(&self) -> ValueBuilder<'ty, V>
-        ensures { result.due ≡ next_due self.now.parts }
+        ensures { result.expected ≡ next_expected self.now.parts }
     {
         ValueBuilder {
-            due: self.parts.next(),
+            expected: self.parts.next(),
         }
     }
 
@@ -209,27 +209,31 @@ impl<'ty, V: WasmValue> Frame<'ty, V::Type, V> {
         span: Span,
         text: &str,
     ) -> Result<(), AllocError>
-        ensures kept { IfOk result (λ _. (w : Order) (due : Option TypeTree) (source : List ℕ) (whole : NodeType) (children : List NodeTree)
+        ensures kept { IfOk result (λ _. (w : Order) (expected : Option TypeTree) (source : List ℕ) (whole : NodeType) (children : List NodeTree)
             → text.now ≡ slice source span → TakesKey whole children
-            → AreKeptWhereDue V.Type.tree V.tree V.is_of V.is_full w due source whole children self.old
-            → AreKeptWhereDue V.Type.tree V.tree V.is_of V.is_full w due source whole (children ++ node ty span no_nodes ∷ []) self.new) }
-        ensures memory { IfErr result (λ _. (w : Order) (due : Option TypeTree) (source : List ℕ) (whole : NodeType) (children : List NodeTree)
-            → AreKeptWhereDue V.Type.tree V.tree V.is_of V.is_full w due source whole children self.old → TakesMemory due) }
+            → AreKeptWhereExpected V.Type.tree V.tree V.is_of V.is_full w expected source whole children self.old
+            → AreKeptWhereExpected V.Type.tree V.tree V.is_of V.is_full w expected source whole (children ++ node ty span no_nodes ∷ []) self.new) }
+        ensures memory { IfErr result (λ _. (w : Order) (expected : Option TypeTree) (source : List ℕ) (whole : NodeType) (children : List NodeTree)
+            → AreKeptWhereExpected V.Type.tree V.tree V.is_of V.is_full w expected source whole children self.old → TakesMemory expected) }
     {
         self.parts.push_key(alloc, ty, span, text)
     }
 
     /// Adds a part, which was read by the builder of the next part.
     #[inline(always)]
-    pub fn push_part(&mut self, alloc: Global, made: Result<V, ReadError>) -> Result<(), AllocError>
-        ensures kept { IfOk result (λ _. (w : Order) (due : Option TypeTree) (source : List ℕ) (whole : NodeType) (children : List NodeTree) (n : NodeTree)
-            → TakesPart whole children → AreKeptWhereDue V.Type.tree V.tree V.is_of V.is_full w due source whole children self.old
-            → IsReadSparing V.tree V.is_of V.is_full w w (shown V.Type.tree (next_due self.old.parts)) source n made
-            → AreKeptWhereDue V.Type.tree V.tree V.is_of V.is_full w due source whole (children ++ n ∷ []) self.new) }
-        ensures memory { IfErr result (λ _. (w : Order) (due : Option TypeTree) (source : List ℕ) (whole : NodeType) (children : List NodeTree)
-            → AreKeptWhereDue V.Type.tree V.tree V.is_of V.is_full w due source whole children self.old → TakesMemory due) }
+    pub fn push_part(
+        &mut self,
+        alloc: Global,
+        built: Result<V, ReadError>,
+    ) -> Result<(), AllocError>
+        ensures kept { IfOk result (λ _. (w : Order) (expected : Option TypeTree) (source : List ℕ) (whole : NodeType) (children : List NodeTree) (n : NodeTree)
+            → TakesPart whole children → AreKeptWhereExpected V.Type.tree V.tree V.is_of V.is_full w expected source whole children self.old
+            → IsReadSparing V.tree V.is_of V.is_full w w (shown V.Type.tree (next_expected self.old.parts)) source n built
+            → AreKeptWhereExpected V.Type.tree V.tree V.is_of V.is_full w expected source whole (children ++ n ∷ []) self.new) }
+        ensures memory { IfErr result (λ _. (w : Order) (expected : Option TypeTree) (source : List ℕ) (whole : NodeType) (children : List NodeTree)
+            → AreKeptWhereExpected V.Type.tree V.tree V.is_of V.is_full w expected source whole children self.old → TakesMemory expected) }
     {
-        self.parts.push_part(alloc, made)
+        self.parts.push_part(alloc, built)
     }
 
     /// Adds a part of one token, of this text, which stands there in some source.
@@ -243,12 +247,12 @@ impl<'ty, V: WasmValue> Frame<'ty, V::Type, V> {
     ) -> Result<(), AllocError>
         requires one { IsOneToken ty }
         requires text { (source : List ℕ) × (text.now ≡ slice source span) }
-        ensures kept { IfOk result (λ _. (w : Order) (due : Option TypeTree) (source : List ℕ) (whole : NodeType) (children : List NodeTree)
+        ensures kept { IfOk result (λ _. (w : Order) (expected : Option TypeTree) (source : List ℕ) (whole : NodeType) (children : List NodeTree)
             → text.now ≡ slice source span → TakesPart whole children
-            → AreKeptWhereDue V.Type.tree V.tree V.is_of V.is_full w due source whole children self.old
-            → AreKeptWhereDue V.Type.tree V.tree V.is_of V.is_full w due source whole (children ++ node ty span no_nodes ∷ []) self.new) }
-        ensures memory { IfErr result (λ _. (w : Order) (due : Option TypeTree) (source : List ℕ) (whole : NodeType) (children : List NodeTree)
-            → AreKeptWhereDue V.Type.tree V.tree V.is_of V.is_full w due source whole children self.old → TakesMemory due) }
+            → AreKeptWhereExpected V.Type.tree V.tree V.is_of V.is_full w expected source whole children self.old
+            → AreKeptWhereExpected V.Type.tree V.tree V.is_of V.is_full w expected source whole (children ++ node ty span no_nodes ∷ []) self.new) }
+        ensures memory { IfErr result (λ _. (w : Order) (expected : Option TypeTree) (source : List ℕ) (whole : NodeType) (children : List NodeTree)
+            → AreKeptWhereExpected V.Type.tree V.tree V.is_of V.is_full w expected source whole children self.old → TakesMemory expected) }
     {
         let leaf = Leaf { ty, span, text };
         if self.parts.push_fast(alloc, &leaf)? {
@@ -261,58 +265,58 @@ impl<'ty, V: WasmValue> Frame<'ty, V::Type, V> {
     #[inline(never)]
     fn push_token(&mut self, alloc: Global, leaf: &Leaf<'_>) -> Result<(), AllocError>
         requires { IsTokenOfSome leaf.now }
-        ensures kept { IfOk result (λ _. (w : Order) (due : Option TypeTree) (source : List ℕ) (whole : NodeType) (children : List NodeTree)
+        ensures kept { IfOk result (λ _. (w : Order) (expected : Option TypeTree) (source : List ℕ) (whole : NodeType) (children : List NodeTree)
             → IsLeafIn source leaf.now → TakesPart whole children
-            → AreKeptWhereDue V.Type.tree V.tree V.is_of V.is_full w due source whole children self.old
-            → AreKeptWhereDue V.Type.tree V.tree V.is_of V.is_full w due source whole (children ++ leaf_node leaf.now ∷ []) self.new) }
-        ensures memory { IfErr result (λ _. (w : Order) (due : Option TypeTree) (source : List ℕ) (whole : NodeType) (children : List NodeTree)
-            → AreKeptWhereDue V.Type.tree V.tree V.is_of V.is_full w due source whole children self.old → TakesMemory due) }
+            → AreKeptWhereExpected V.Type.tree V.tree V.is_of V.is_full w expected source whole children self.old
+            → AreKeptWhereExpected V.Type.tree V.tree V.is_of V.is_full w expected source whole (children ++ leaf_node leaf.now ∷ []) self.new) }
+        ensures memory { IfErr result (λ _. (w : Order) (expected : Option TypeTree) (source : List ℕ) (whole : NodeType) (children : List NodeTree)
+            → AreKeptWhereExpected V.Type.tree V.tree V.is_of V.is_full w expected source whole children self.old → TakesMemory expected) }
     {
-        let made = self
+        let built = self
             .next()
             .token(alloc, leaf.ty, leaf.span.start..leaf.span.end, leaf.text);
-        self.push_part(alloc, made)
+        self.push_part(alloc, built)
     }
 
     /// What is read of a node that stands here and has these parts, which were read of a node's children.
     pub fn whole(self, alloc: Global, span: Span) -> Result<V, ReadError>
         requires { AreKeptOfSome V.Type.tree V.tree V.is_of V.is_full self }
-        ensures { (w : Order) (due : Option TypeTree) (source : List ℕ) (ty : NodeType) (children : List NodeTree)
-            → AreKeptWhereDue V.Type.tree V.tree V.is_of V.is_full w due source ty children self.entry
-            → IsReadSparing V.tree V.is_of V.is_full in_text w due source (node ty span (node_trees children)) result }
+        ensures { (w : Order) (expected : Option TypeTree) (source : List ℕ) (ty : NodeType) (children : List NodeTree)
+            → AreKeptWhereExpected V.Type.tree V.tree V.is_of V.is_full w expected source ty children self.entry
+            → IsReadSparing V.tree V.is_of V.is_full in_text w expected source (node ty span (node_trees children)) result }
     {
         let place = span.start..span.end;
         let Frame { around: ty, parts } = self;
-        let made = parts.whole(alloc, span);
+        let built = parts.whole(alloc, span);
         match ty {
-            Some(ty) => wrap(alloc, ty, place, made),
-            None => made,
+            Some(ty) => wrap(alloc, ty, place, built),
+            None => built,
         }
     }
 }
 
 impl<'ty, V: WasmValue> Builder for ValueBuilder<'ty, V> {
-    type Made = Result<V, ReadError>;
+    type Built = Result<V, ReadError>;
 
     type Parts = Frame<'ty, V::Type, V>;
 
     ghost use Rattle.wave_wasm.specs.Borrowed.{shown};
     ghost use Rattle.wave_grammar.specs.FaultOrder.{in_text};
     ghost use Rattle.wave_read.specs.PlainReading.{IsReadSparing, TakesMemory};
-    ghost use Rattle.wave_read.specs.KeptParts.{AreKeptWhereDue, next_takes};
-    ghost use Rattle.wave_read.specs.PartsOfKinds.{next_due};
+    ghost use Rattle.wave_read.specs.KeptParts.{AreKeptWhereExpected, next_takes};
+    ghost use Rattle.wave_read.specs.PartsOfKinds.{next_expected};
 
-    ghost is_made = { λ builder source n made. IsReadSparing V.tree V.is_of V.is_full in_text in_text (shown V.Type.tree builder.due) source n made };
+    ghost is_built = { λ builder source n built. IsReadSparing V.tree V.is_of V.is_full in_text in_text (shown V.Type.tree builder.expected) source n built };
 
     ghost are_parts = { λ builder source ty children kept.
-        AreKeptWhereDue V.Type.tree V.tree V.is_of V.is_full in_text (shown V.Type.tree builder.due) source ty children kept };
+        AreKeptWhereExpected V.Type.tree V.tree V.is_of V.is_full in_text (shown V.Type.tree builder.expected) source ty children kept };
 
-    ghost next = { λ builder kept. record builder { due = next_due kept.parts } };
+    ghost next = { λ builder kept. record builder { expected = next_expected kept.parts } };
 
-    ghost takes_memory = { λ builder. TakesMemory (shown V.Type.tree builder.due) };
+    ghost takes_memory = { λ builder. TakesMemory (shown V.Type.tree builder.expected) };
 
     ghost next_takes = { λ builder source ty children kept are takes.
-        next_takes V.Type.tree V.tree V.is_of V.is_full in_text (shown V.Type.tree builder.due) source ty children kept are takes };
+        next_takes V.Type.tree V.tree V.is_of V.is_full in_text (shown V.Type.tree builder.expected) source ty children kept are takes };
 
     #[inline(always)]
     fn leaf(self, alloc: Global, ty: NodeType, span: Span, text: &str) -> Result<V, ReadError> {
@@ -346,9 +350,9 @@ impl<'ty, V: WasmValue> Builder for ValueBuilder<'ty, V> {
         self,
         alloc: Global,
         parts: &mut Frame<'ty, V::Type, V>,
-        made: Result<V, ReadError>,
+        built: Result<V, ReadError>,
     ) -> Result<(), AllocError> {
-        parts.push_part(alloc, made)
+        parts.push_part(alloc, built)
     }
 
     #[inline(always)]

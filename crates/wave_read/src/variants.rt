@@ -7,7 +7,7 @@ ghost use Rattle.wave_grammar.specs.NodeTree.{place_of};
 ghost use Rattle.wave_grammar.specs.declared.form.NodeType.TheVariants as node_type;
 ghost use Rattle.wave_grammar.specs.PartReading.{IsCaused};
 ghost use Rattle.wave_read.specs.Leaves.{leaf_node};
-ghost use Rattle.wave_read.specs.CaseParts.{AreCaseParts, payload_due};
+ghost use Rattle.wave_read.specs.CaseParts.{AreCaseParts, payload_expected};
 ghost use Rattle.wave_read.specs.Private.PartSteps.{AddsKey, AddsPart, IsWholeOf, WereRead};
 ghost use Rattle.wave_read.specs.Reading.{IsReadOfLeaf};
 
@@ -48,7 +48,7 @@ impl<'ty, V: WasmValue> CasePayload<'ty, V::Type, V> {
 
     /// The type of the payload, once the label was read.
     pub(crate) fn next(&self) -> Option<&'ty V::Type>
-        ensures { result ≡ payload_due self.now }
+        ensures { result ≡ payload_expected self.now }
     {
         match self.case {
             Some((_, payload)) => Some(payload),
@@ -88,7 +88,7 @@ impl<'ty, V: WasmValue> CasePayload<'ty, V::Type, V> {
 
     /// The payload is read.
     pub(crate) fn push_part(&mut self, val: V)
-        ensures { AddsPart AreCaseParts V.Type.tree V.tree V.is_of V.is_full node_type.VariantWithPayload payload_due self.old (Ok val) self.new None }
+        ensures { AddsPart AreCaseParts V.Type.tree V.tree V.is_of V.is_full node_type.VariantWithPayload payload_expected self.old (Ok val) self.new None }
     {
         drop(self.payload.replace(val));
     }

@@ -1,10 +1,10 @@
 //! Makes the call of the library that its first argument names, on what the others say, and prints
-//! whether it answered what they say is due, or was out of memory, or answered otherwise. Where it
+//! whether it answered what they say is expected, or was out of memory, or answered otherwise. Where it
 //! was out of memory it makes the call once more. A test calls it while memory is refused to it.
 //!
 //! `?` keeps two refusals of memory apart: an `AllocError` is one to the call that is judged, while a
 //! `TypeErrorKind` and a `ParserError` come of making ready what it is called on. A refusal that a
-//! judged call answers is compared with the words that are due, and never passed on.
+//! judged call answers is compared with the words that are expected, and never passed on.
 #![tactic(auto)]
 
 mod memory;
@@ -17,7 +17,7 @@ mod trees;
 use memory::found::Found;
 use memory::words::{value_at, word};
 use memory::{lexing, making, nodes, reading, types, values};
-use rows::cuts::is_told_at_each_cut;
+use rows::cuts::is_reported_at_each_cut;
 use rows::types::type_of;
 use std::alloc::Global;
 use std::process::ExitCode;
@@ -28,7 +28,7 @@ use wasm_wave::value::Type;
 fn main(rt: HostRuntime) -> ExitCode {
     let first = attempt(rt);
     let said = match first {
-        Found::Want | Found::NotCalled => {
+        Found::OutOfMemory | Found::NotCalled => {
             let second = attempt(rt);
             println!(rt; "{first}, then {second}")
         }
@@ -87,7 +87,7 @@ enum On {
 }
 
 /// What the call of this name is made on.
-fn made_on(name: &str) -> On {
+fn built_on(name: &str) -> On {
     match name {
         "from_str" | "parse_value" | "to_wasm_value" | "Node::to_wasm_value" | "text" => {
             On::TextAtType
@@ -122,7 +122,7 @@ fn on_value_or_words(name: &str) -> On {
 
 /// What the call of this name is found to answer on what the arguments stand for.
 fn call(alloc: Global, name: &str, words: &[String]) -> Result<Found, Found> {
-    match made_on(name) {
+    match built_on(name) {
         On::TextAtType => {
             let ty = type_of(alloc, word(words, 0))?;
             reading::at_type(alloc, name, &ty, words)
@@ -145,14 +145,14 @@ fn call(alloc: Global, name: &str, words: &[String]) -> Result<Found, Found> {
 
 /// What a call on something else is found to answer.
 fn on_words(alloc: Global, name: &str, words: &[String]) -> Result<Found, Found> {
-    let (text, due) = (word(words, 0), word(words, 1));
+    let (text, expected) = (word(words, 0), word(words, 1));
     match name {
         "parse_raw_value" => Ok(reading::all_read(alloc, None, words, 1)),
-        "UntypedValue::parse" => Ok(reading::untyped(alloc, text, due)),
-        "untyped text" => Ok(with_cuts(alloc, text, reading::untyped(alloc, text, due))),
-        "parse_raw_func_call" => Ok(reading::raw_call(alloc, text, due)),
-        "UntypedFuncCall::parse" => Ok(reading::call(alloc, text, due)),
-        "call's text" => Ok(with_cuts(alloc, text, reading::call(alloc, text, due))),
+        "UntypedValue::parse" => Ok(reading::untyped(alloc, text, expected)),
+        "untyped text" => Ok(with_cuts(alloc, text, reading::untyped(alloc, text, expected))),
+        "parse_raw_func_call" => Ok(reading::raw_call(alloc, text, expected)),
+        "UntypedFuncCall::parse" => Ok(reading::call(alloc, text, expected)),
+        "call's text" => Ok(with_cuts(alloc, text, reading::call(alloc, text, expected))),
         "into_owned" => reading::owned(alloc, words),
         "UntypedFuncCall::into_owned" => reading::owned_call(alloc, words),
         "to_wasm_params" => reading::params(alloc, words),
@@ -163,7 +163,7 @@ fn on_words(alloc: Global, name: &str, words: &[String]) -> Result<Found, Found>
 
 /// The answer, where each prefix of the text is answered rightly too.
 fn with_cuts(alloc: Global, text: &str, found: Found) -> Found {
-    match is_told_at_each_cut(alloc, &Type::U8, text) {
+    match is_reported_at_each_cut(alloc, &Type::U8, text) {
         true => found,
         false => Found::Other,
     }

@@ -1,5 +1,5 @@
-//! Calls of the library, and whether each answers what is due of it or is out of memory.
-pub mod due;
+//! Calls of the library, and whether each answers what is expected of it or is out of memory.
+pub mod expected;
 pub mod found;
 pub mod lexing;
 pub mod making;

@@ -5,7 +5,7 @@ use wave_type::ty::Type;
 use wave_wasm::wasm::{DisplayFunc, WasmFunc, WasmValueError};
 
 /// The type of a function of two parameters, and of a result of this name.
-fn made(rt: HostRuntime, name: &str) -> Result<FuncType, WasmValueError> {
+fn built(rt: HostRuntime, name: &str) -> Result<FuncType, WasmValueError> {
     let mut params = Vec::new(rt.alloc());
     params.push((String::from_str(rt.alloc(), "a")?, Type::U8))?;
     params.push((String::from_str(rt.alloc(), "b")?, Type::STRING))?;
@@ -25,11 +25,11 @@ fn is_printed(rt: HostRuntime, func: &FuncType, text: &str) -> Result<bool, Fail
 
 #[test]
 fn texts_and_names(rt: HostRuntime) -> Result<(), Fail> {
-    let func = made(rt, "n")?;
+    let func = built(rt, "n")?;
     assert!(rt; is_printed(rt, &func, "func(a: u8, b: string) -> (n: u8)")?);
     assert!(rt; func.param_names(rt.alloc())?.as_slice() == ["a", "b"].as_slice());
     assert!(rt; func.result_names(rt.alloc())?.as_slice() == ["n"].as_slice());
-    let unnamed = made(rt, "")?;
+    let unnamed = built(rt, "")?;
     assert!(rt; is_printed(rt, &unnamed, "func(a: u8, b: string) -> u8")?);
     assert!(rt; unnamed.result_names(rt.alloc())?.is_empty());
     assert!(rt; unnamed.results(rt.alloc())?.len() == 1 && func != unnamed);

@@ -58,7 +58,7 @@ impl WasmType for CharType {
 }
 
 /// The type as it is displayed, with its refusal after a colon where it has to be of another kind.
-pub fn told(rt: HostRuntime, kind: WasmTypeKind) -> Result<String, Fail> {
+pub fn reported(rt: HostRuntime, kind: WasmTypeKind) -> Result<String, Fail> {
     let shown = DisplayType::new(rt.alloc(), &CharType);
     match ensure_type_kind(rt.alloc(), &CharType, kind) {
         Ok(()) => Ok(format!(in rt.alloc(); "{shown}")?),

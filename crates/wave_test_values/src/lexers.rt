@@ -97,7 +97,7 @@ fn tokens(rt: HostRuntime) -> Result<(), Fail> {
 }
 
 /// The span and the slice of a lexer, what remains, and the source.
-fn told(rt: HostRuntime, lexer: &Lexer) -> Result<String, Fail> {
+fn reported(rt: HostRuntime, lexer: &Lexer) -> Result<String, Fail> {
     let span = lexer.span();
     let (slice, rest, source) = (lexer.slice(), lexer.remainder(), lexer.source());
     Ok(format!(in rt.alloc();
@@ -110,9 +110,12 @@ fn told(rt: HostRuntime, lexer: &Lexer) -> Result<String, Fail> {
 fn calls(rt: HostRuntime) -> Result<(), Fail> {
     let mut asked = Asked::new();
     let mut lexer = Lexer::new(" ab 1");
-    assert_eq!(rt; told(rt, &lexer)?.as_str(), "0..0 <> < ab 1> of < ab 1>");
+    assert_eq!(rt;
+        reported(rt, &lexer)?.as_str(),
+        "0..0 <> < ab 1> of < ab 1>"
+    );
     assert!(rt; lexer.next() == Some(Ok(Token::LabelOrKeyword)));
-    assert_eq!(rt; told(rt, &lexer)?.as_str(), "1..3 <ab> < 1> of < ab 1>");
+    assert_eq!(rt; reported(rt, &lexer)?.as_str(), "1..3 <ab> < 1> of < ab 1>");
     let mut other = lexer.clone();
     assert!(rt; other.next_ticked(&mut asked) == Some(Ok(Token::Number)));
     assert!(rt; other.next_ticked(&mut asked).is_none());

@@ -66,7 +66,11 @@ fn own_text(rt: HostRuntime, val: &Value, ty: &Type) -> Result<String, Fail> {
 }
 
 /// The text of what was made at the type, or the refusal's words.
-fn told(rt: HostRuntime, val: Result<Value, WasmValueError>, ty: &Type) -> Result<String, Fail> {
+fn reported(
+    rt: HostRuntime,
+    val: Result<Value, WasmValueError>,
+    ty: &Type,
+) -> Result<String, Fail> {
     match val {
         Ok(val) => own_text(rt, &val, ty),
         Err(error) => Ok(error.to_string(rt.alloc())?),
@@ -74,9 +78,9 @@ fn told(rt: HostRuntime, val: Result<Value, WasmValueError>, ty: &Type) -> Resul
 }
 
 /// What the constructor makes at the type, or the refusal's words.
-fn made(rt: HostRuntime, maker: &str, ty: &str) -> Result<String, Fail> {
+fn built(rt: HostRuntime, maker: &str, ty: &str) -> Result<String, Fail> {
     let ty = Type::parse(rt.alloc(), ty)?;
-    told(rt, part(rt, maker, &ty), &ty)
+    reported(rt, part(rt, maker, &ty), &ty)
 }
 
 /// A constructor, the text of a type, and the text of what is made, or the words of the refusal.
@@ -86,7 +90,7 @@ pub type Row = (&'static str, &'static str, &'static str);
 pub fn wrong(rt: HostRuntime, rows: &[Row]) -> Result<&'static str, Fail> {
     for row in rows {
         let (maker, ty, text) = *row;
-        if made(rt, maker, ty)?.as_str() != text {
+        if built(rt, maker, ty)?.as_str() != text {
             return Ok(text);
         }
     }

@@ -4,7 +4,7 @@ use std::test::Fail;
 use wave_lex::lex::{FuncNameLexer, FuncNameToken, Token};
 
 /// The span and the slice of a lexer of a name, what remains, and the length of the source.
-fn told(rt: HostRuntime, names: &FuncNameLexer) -> Result<String, Fail> {
+fn reported(rt: HostRuntime, names: &FuncNameLexer) -> Result<String, Fail> {
     let span = names.span();
     let (slice, rest, length) = (names.slice(), names.remainder(), names.source().len());
     Ok(format!(in rt.alloc();
@@ -19,7 +19,7 @@ fn calls(rt: HostRuntime) -> Result<(), Fail> {
     assert!(rt; names.span() == (0..0));
     assert!(rt; names.next() == Some(Ok(FuncNameToken::FunctionName)));
     assert_eq!(rt;
-        told(rt, &names)?.as_str(),
+        reported(rt, &names)?.as_str(),
         "0..13 <a:b/c.d@1.0.0> <(1)> of 16"
     );
     let mut tokens = names.clone().into_lexer();

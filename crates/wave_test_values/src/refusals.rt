@@ -57,8 +57,8 @@ fn words_of_kinds(rt: HostRuntime) -> Result<(), Fail> {
 }
 
 /// The refusal with this detail or cause.
-fn refusal(rt: HostRuntime, told: &str) -> Result<ParserError, AllocError> {
-    match told {
+fn refusal(rt: HostRuntime, reported: &str) -> Result<ParserError, AllocError> {
+    match reported {
         "name" => Ok(ParserError::with_detail(
             ParserErrorKind::DuplicateField,
             7..9,
@@ -100,10 +100,10 @@ fn answers(rt: HostRuntime, error: &ParserError) -> Result<String, Fail> {
 /// The first refusal that answers otherwise, with its answers; nothing where there is none.
 fn wrong(rt: HostRuntime, rows: &[(&str, &str)]) -> Result<String, Fail> {
     for row in rows {
-        let (told, expected) = *row;
-        let answers = answers(rt, &refusal(rt, told)?)?;
+        let (reported, expected) = *row;
+        let answers = answers(rt, &refusal(rt, reported)?)?;
         if answers.as_str() != expected {
-            return Ok(format!(in rt.alloc(); "{told} answers {answers}")?);
+            return Ok(format!(in rt.alloc(); "{reported} answers {answers}")?);
         }
     }
     Ok(String::new(rt.alloc()))

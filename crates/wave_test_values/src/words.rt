@@ -139,10 +139,10 @@ fn value_error(rt: HostRuntime, word: &str) -> Result<WasmValueError, AllocError
 }
 
 /// The words of the item.
-fn told(rt: HostRuntime, item: Item) -> Result<String, Fail> {
+fn reported(rt: HostRuntime, item: Item) -> Result<String, Fail> {
     match item {
         Item::Kind(kind) => Ok(kind.to_string(rt.alloc())?),
-        Item::Stranger(kind) => kinds::told(rt, kind),
+        Item::Stranger(kind) => kinds::reported(rt, kind),
         Item::Keyword(keyword) => keyword_text(rt, keyword),
         Item::Writer(reason) => Ok(writer_error(reason).to_string(rt.alloc())?),
         Item::Value(word) => Ok(value_error(rt, word)?.to_string(rt.alloc())?),
@@ -153,7 +153,7 @@ fn told(rt: HostRuntime, item: Item) -> Result<String, Fail> {
 fn wrong(rt: HostRuntime, rows: &[(Item, &'static str)]) -> Result<&'static str, Fail> {
     for row in rows {
         let (item, words) = *row;
-        if told(rt, item)?.as_str() != words {
+        if reported(rt, item)?.as_str() != words {
             return Ok(words);
         }
     }

@@ -2,7 +2,7 @@ pub mod Sound
 pub mod Steps
 pub mod Lookahead
 pub mod AloneTokens
-pub mod PartsDue
+pub mod PartsExpected
 pub mod BuiltNodes
 pub mod OutOfMemory
 pub mod LexerCalls

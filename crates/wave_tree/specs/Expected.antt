@@ -106,7 +106,7 @@ IsWithoutName source at = (k : ℕ) → IsName source k → at < k
 abbrev pub same_class : lex.Token → lex.Token → Bool
 same_class a b = bytes_eq (class_name a) (class_name b)
 
--- how people are told of a class; of a value by its `[`
+-- how a class is named to people; a value by its `[`
 abbrev pub class_word : lex.Token → List ℕ
 class_word BracketOpen = codes "a value"
 class_word LabelOrKeyword = codes "a label"
@@ -121,19 +121,19 @@ class_word _ = []
 
 -- the words of those that are among the classes
 abbrev pub words_among : List lex.Token → List lex.Token → List (List ℕ)
-words_among classes told = map class_word (filter (λ c. list_any (same_class c) classes) told)
+words_among classes reported = map class_word (filter (λ c. list_any (same_class c) classes) reported)
 
--- what is told of the tokens that begin a value: where one may stand, that alone; else a label, the other keys by a number, and the `(` of a payload
-abbrev pub starts_told : List lex.Token → List lex.Token
-starts_told classes = if list_any (same_class BracketOpen) classes then BracketOpen ∷ [] else LabelOrKeyword ∷ Number ∷ ParenOpen ∷ []
+-- what is reported of the tokens that begin a value: where one may stand, that alone; else a label, the other keys by a number, and the `(` of a payload
+abbrev pub starts_reported : List lex.Token → List lex.Token
+starts_reported classes = if list_any (same_class BracketOpen) classes then BracketOpen ∷ [] else LabelOrKeyword ∷ Number ∷ ParenOpen ∷ []
 
 -- the marks that begin no value
-abbrev pub marks_told : List lex.Token
-marks_told = Colon ∷ Comma ∷ ParenClose ∷ BracketClose ∷ BraceClose ∷ []
+abbrev pub marks_reported : List lex.Token
+marks_reported = Colon ∷ Comma ∷ ParenClose ∷ BracketClose ∷ BraceClose ∷ []
 
 -- the words of the classes, then that the text may end
-abbrev pub told_words : List lex.Token → Bool → List (List ℕ)
-told_words classes may_end = words_among classes (starts_told classes ++ marks_told) ++ (if may_end then codes "the end" ∷ [] else [])
+abbrev pub reported_words : List lex.Token → Bool → List (List ℕ)
+reported_words classes may_end = words_among classes (starts_reported classes ++ marks_reported) ++ (if may_end then codes "the end" ∷ [] else [])
 
 -- the words, with `or` before the last and a comma before each other one; `nothing` for none
 abbrev pub or_joined : List (List ℕ) → List ℕ
@@ -144,4 +144,4 @@ or_joined (word ∷ more) = word ++ (codes ", " ++ or_joined more)
 
 -- what may stand there, for people
 abbrev pub expected_words : List lex.Token → Bool → List ℕ
-expected_words classes may_end = or_joined (told_words classes may_end)
+expected_words classes may_end = or_joined (reported_words classes may_end)

@@ -4,7 +4,7 @@ use Rattle.wave_lex.specs.declared.lex.Token as lex
 use Rattle.wave_lex.specs.declared.error.ParserErrorKind.TheVariants.{UnexpectedToken, UnexpectedEnd, InvalidToken}
 use Rattle.wave_lex.specs.Errors.{Diagnostic, class_name}
 use Rattle.wave_grammar.specs.ParserPosition.{Place}
-use Rattle.wave_grammar.specs.PrefixAutomaton as due
+use Rattle.wave_grammar.specs.PrefixAutomaton as expectation
 use Rattle.wave_grammar.specs.PrefixAutomaton.{Expectation, StackSymbol, value, Shifts}
 use Rattle.wave_grammar.specs.SyntaxErrors.{IsSyntaxError}
 use Rattle.wave_tree.specs.ParserState.{start_of}
@@ -26,15 +26,15 @@ UnexpectedMayNotFollow =
     (source : List ℕ) (n : ℕ) (e : Diagnostic) (new : Place) (before : List Placed) → IsSyntaxError e n value [] (start_of source) new → e.kind ≡ UnexpectedToken
     → StandBefore (start_of source).lexer e.span.start before → (c : lex.Token) × (e.detail ≡ Some (class_name c)) × (MayFollow n (map (token_at source) before) c → ⊥)
 
--- how many braces are open in which no value is due or was just read, so that they are no open form
+-- how many braces are open in which no value is expected or was just read, so that they are no open form
 abbrev pub bare_braces : Expectation → ℕ
-bare_braces due.in_braces = 1
-bare_braces due.no_fields = 1
-bare_braces (due.behind_word text) = 1
-bare_braces due.key = 1
-bare_braces due.behind_key = 1
-bare_braces (due.flag names) = 1
-bare_braces (due.behind_flag names) = 1
+bare_braces expectation.in_braces = 1
+bare_braces expectation.no_fields = 1
+bare_braces (expectation.behind_word text) = 1
+bare_braces expectation.key = 1
+bare_braces expectation.behind_key = 1
+bare_braces (expectation.flag names) = 1
+bare_braces (expectation.behind_flag names) = 1
 bare_braces _ = 0
 
 -- after tokens that are led as many brackets are open as forms are, and such braces

@@ -92,7 +92,7 @@ BlamesText Full T n s e =
 -- what the refusal of a text within n levels says: at any type of its tree, where the type's names are distinct of its meaning; its span lies in the text;
 -- a `WasmValueError` has a cause, and stands at a node of what was read; out of memory stands at 0..0
 pub record RefusesText (Full : TypeTree → Type 0) (T : TypeTree) (n : ℕ) (s : List ℕ) (e : Diagnostic) : Type 0 where
-  pub front : RefusesStart n s e
+  pub prefix : RefusesStart n s e
   pub blames : HasDistinctNames T → BlamesText Full T n s e
   pub within : LiesInText s e.span
   pub caused : (p : Place) × IsCausedBetween n (start_of s) p e

@@ -11,5 +11,5 @@ pub mod SyntaxErrors
 pub mod TokenRoles
 pub mod Moves
 pub mod Prefixes
-pub mod CallFronts
+pub mod CallPrefixes
 pub mod Separators

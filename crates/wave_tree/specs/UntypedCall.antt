@@ -79,7 +79,7 @@ abbrev pub AreParamsTaken : Place → Place → Option NodeTree → Type 0
 AreParamsTaken old new None = (m : Place) × TakesClass ParenOpen old m × TakesClass ParenClose m new
 AreParamsTaken old new (Some n) = IsTupleTaken 100 old new n
 
--- no `(` stands there; or what is after it is no `)`, and is refused where items of a tuple are due, each within 100 levels
+-- no `(` stands there; or what is after it is no `)`, and is refused where items of a tuple are expected, each within 100 levels
 abbrev pub RefusesTuple : Diagnostic → Place → Place → Type 0
 RefusesTuple e old new =
     Fails (λ c. c ≡ ParenOpen) e old new

@@ -4,7 +4,7 @@ ghost use Rattle.wave_lex.specs.declared.lex.Token.TheVariants as lex_class;
 ghost use Rattle.wave_lex.specs.declared.error.ParserErrorKind.TheVariants as kind;
 ghost use Rattle.wave_grammar.specs.ParserPosition.{Place, TakesItem, span_at, text_at};
 ghost use Rattle.wave_grammar.specs.Tree.{word_of, some_word};
-ghost use Rattle.wave_grammar.specs.PrefixAutomaton as due;
+ghost use Rattle.wave_grammar.specs.PrefixAutomaton as expectation;
 ghost use Rattle.wave_tree.specs.Private.SyntaxErrors.{GivesWithin, GivesAnywhere};
 ghost use Rattle.wave_lex.specs.Tokenization.{span};
 ghost use Rattle.wave_tree.specs.Private.TokenRoles.{form_of, IsClose};
@@ -13,7 +13,7 @@ ghost use Rattle.wave_grammar.specs.NodeParts.{IsOfParts, IsOneToken};
 ghost use Rattle.wave_grammar.specs.NodeTree.{node, no_nodes};
 ghost use Rattle.wave_grammar.specs.declared.form.NodeType.TheVariants as node_type;
 ghost use Rattle.wave_tree.specs.ParsedNodes.{IsParsed, TakesClass};
-ghost use Rattle.wave_tree.specs.Private.ParsedNodes.{IsBuilt, IsParsedBehind, IsOfPayload, IsMaybe, IsInParens, IsOfItems, IsOfEntries, IsOfFlags, HasPartBehind, WithParts, label_children};
+ghost use Rattle.wave_tree.specs.Private.ParsedNodes.{IsNodeBuilt, IsParsedBehind, IsOfPayload, IsMaybe, IsInParens, IsOfItems, IsOfEntries, IsOfFlags, HasPartBehind, WithParts, label_children};
 ghost use Rattle.wave_tree.specs.Private.ParserState.{AsksFor, IsValueStart, OnlyOutOfMemory};
 
 use crate::ast::NodeType;
@@ -43,9 +43,9 @@ impl<'source> Tokens<'source> {
         alloc: Global,
         builder: P,
         levels: u32,
-    ) -> Result<P::Made, ReadError>
-        ensures led { GivesWithin result levels due.value [] self.old.place self.new.place }
-        ensures tree { IfOk result (IsBuilt (P.is_made builder) self.old.place (IsParsed levels self.old.place self.new.place)) }
+    ) -> Result<P::Built, ReadError>
+        ensures led { GivesWithin result levels expectation.value [] self.old.place self.new.place }
+        ensures tree { IfOk result (IsNodeBuilt (P.is_built builder) self.old.place (IsParsed levels self.old.place self.new.place)) }
         ensures memory { IfErr result (OnlyOutOfMemory (P.takes_memory builder) self.old.place) }
         ensures asks { AsksFor self.old self.new }
     {
@@ -53,8 +53,8 @@ impl<'source> Tokens<'source> {
             return self.refuse_depth();
         }
         let token = self.advance()?;
-        let front = value_start(token, self.slice());
-        self.parse_after_token(alloc, builder, levels, token, front)
+        let start = value_start(token, self.slice());
+        self.parse_after_token(alloc, builder, levels, token, start)
     }
 
     /// Reads a part of a value, and adds it to the parts.
@@ -67,7 +67,7 @@ impl<'source> Tokens<'source> {
         parts: &mut P::Parts,
         levels: u32,
     ) -> Result<(), ReadError>
-        ensures led { GivesWithin result levels due.value [] self.old.place self.new.place }
+        ensures led { GivesWithin result levels expectation.value [] self.old.place self.new.place }
         ensures kept { IfOk result (λ _. HasPartBehind (P.are_parts builder) levels self.old.place self.new.place parts.old parts.new) }
         ensures memory { IfErr result (WithParts (P.are_parts builder) parts.old (OnlyOutOfMemory (P.takes_memory builder) self.old.place)) }
         ensures asks { AsksFor self.old self.new }
@@ -96,18 +96,18 @@ impl<'source> Tokens<'source> {
         token: Token,
     ) -> Result<(), ReadError>
         requires { 0 < levels }
-        ensures led { (first : Place) → TakesClass token first self.old.place → GivesWithin result levels due.value [] first self.new.place }
+        ensures led { (first : Place) → TakesClass token first self.old.place → GivesWithin result levels expectation.value [] first self.new.place }
         ensures kept { (first : Place) → TakesClass token first self.old.place
             → IfOk result (λ _. HasPartBehind (P.are_parts builder) levels first self.new.place parts.old parts.new) }
         ensures memory { (first : Place) → TakesClass token first self.old.place
             → IfErr result (WithParts (P.are_parts builder) parts.old (OnlyOutOfMemory (P.takes_memory builder) first)) }
         ensures asks { AsksFor self.old self.new }
     {
-        let front = value_start(token, self.slice());
-        if let ValueStart::Alone(ty) = front {
+        let start = value_start(token, self.slice());
+        if let ValueStart::Alone(ty) = start {
             return self.push_leaf(alloc, builder, parts, ty);
         }
-        self.parse_nested_part(alloc, builder, parts, levels, token, front)
+        self.parse_nested_part(alloc, builder, parts, levels, token, start)
     }
 
     /// The same of a part that begins so. It stands apart since what it makes is zeroed where it begins,
@@ -121,11 +121,11 @@ impl<'source> Tokens<'source> {
         parts: &mut P::Parts,
         levels: u32,
         token: Token,
-        front: ValueStart,
+        start: ValueStart,
     ) -> Result<(), ReadError>
         requires levels { 0 < levels }
-        requires front { IsValueStart token (text_at self.old.place) front }
-        ensures led { (first : Place) → TakesClass token first self.old.place → GivesWithin result levels due.value [] first self.new.place }
+        requires start { IsValueStart token (text_at self.old.place) start }
+        ensures led { (first : Place) → TakesClass token first self.old.place → GivesWithin result levels expectation.value [] first self.new.place }
         ensures kept { (first : Place) → TakesClass token first self.old.place
             → IfOk result (λ _. HasPartBehind (P.are_parts builder) levels first self.new.place parts.old parts.new) }
         ensures memory { (first : Place) → TakesClass token first self.old.place
@@ -133,8 +133,8 @@ impl<'source> Tokens<'source> {
         ensures asks { AsksFor self.old self.new }
     {
         let part = builder.part(parts);
-        let made = self.parse_after_token(alloc, part, levels, token, front)?;
-        self.push_part(alloc, builder, parts, made)
+        let built = self.parse_after_token(alloc, part, levels, token, start)?;
+        self.push_part(alloc, builder, parts, built)
     }
 
     /// Reads what stands after the first token of a value, which is of this class and begins a value so.
@@ -148,16 +148,16 @@ impl<'source> Tokens<'source> {
         builder: P,
         levels: u32,
         token: Token,
-        front: ValueStart,
-    ) -> Result<P::Made, ReadError>
+        start: ValueStart,
+    ) -> Result<P::Built, ReadError>
         requires levels { 0 < levels }
-        requires front { IsValueStart token (text_at self.old.place) front }
-        ensures led { (first : Place) → TakesClass token first self.old.place → GivesWithin result levels due.value [] first self.new.place }
-        ensures tree { IfOk result (IsBuilt (P.is_made builder) self.old.place (IsParsedBehind token levels self.old.place self.new.place)) }
+        requires start { IsValueStart token (text_at self.old.place) start }
+        ensures led { (first : Place) → TakesClass token first self.old.place → GivesWithin result levels expectation.value [] first self.new.place }
+        ensures tree { IfOk result (IsNodeBuilt (P.is_built builder) self.old.place (IsParsedBehind token levels self.old.place self.new.place)) }
         ensures memory { (first : Place) → TakesClass token first self.old.place → IfErr result (OnlyOutOfMemory (P.takes_memory builder) first) }
         ensures asks { AsksFor self.old self.new }
     {
-        match front {
+        match start {
             ValueStart::Alone(ty) => Ok(self.leaf(alloc, builder, ty)),
             ValueStart::Some => self.parse_payload(
                 alloc,
@@ -190,10 +190,10 @@ impl<'source> Tokens<'source> {
         levels: u32,
         alone: NodeType,
         with: NodeType,
-    ) -> Result<P::Made, ReadError>
+    ) -> Result<P::Built, ReadError>
         requires { IsOneToken alone × IsOfPayload with }
-        ensures led { GivesWithin result (levels + 1) due.behind_label [] self.old.place self.new.place }
-        ensures tree { IfOk result (IsBuilt (P.is_made builder) self.old.place (IsMaybe levels alone with self.old.place self.new.place)) }
+        ensures led { GivesWithin result (levels + 1) expectation.behind_label [] self.old.place self.new.place }
+        ensures tree { IfOk result (IsNodeBuilt (P.is_built builder) self.old.place (IsMaybe levels alone with self.old.place self.new.place)) }
         ensures memory { IfErr result (OnlyOutOfMemory (P.takes_memory builder) self.old.place) }
         ensures asks { AsksFor self.old self.new }
     {
@@ -213,10 +213,10 @@ impl<'source> Tokens<'source> {
         builder: P,
         levels: u32,
         ty: NodeType,
-    ) -> Result<P::Made, ReadError>
+    ) -> Result<P::Built, ReadError>
         requires { IsOfPayload ty }
-        ensures led { GivesWithin result (levels + 1) due.paren [] self.old.place self.new.place }
-        ensures tree { IfOk result (IsBuilt (P.is_made builder) self.old.place (IsInParens levels ty self.old.place self.new.place)) }
+        ensures led { GivesWithin result (levels + 1) expectation.paren [] self.old.place self.new.place }
+        ensures tree { IfOk result (IsNodeBuilt (P.is_built builder) self.old.place (IsInParens levels ty self.old.place self.new.place)) }
         ensures memory { IfErr result (OnlyOutOfMemory (P.takes_memory builder) self.old.place) }
         ensures asks { AsksFor self.old self.new }
     {
@@ -260,10 +260,10 @@ impl<'source> Tokens<'source> {
         builder: P,
         levels: u32,
         close: Token,
-    ) -> Result<P::Made, ReadError>
+    ) -> Result<P::Built, ReadError>
         requires { IsClose close }
-        ensures led { GivesWithin result (levels + 1) due.first_item (form_of close ∷ []) self.old.place self.new.place }
-        ensures tree { IfOk result (IsBuilt (P.is_made builder) self.old.place (IsOfItems levels close self.old.place self.new.place)) }
+        ensures led { GivesWithin result (levels + 1) expectation.first_item (form_of close ∷ []) self.old.place self.new.place }
+        ensures tree { IfOk result (IsNodeBuilt (P.is_built builder) self.old.place (IsOfItems levels close self.old.place self.new.place)) }
         ensures memory { IfErr result (OnlyOutOfMemory (P.takes_memory builder) self.old.place) }
         ensures asks { AsksFor self.old self.new }
     {
@@ -317,9 +317,9 @@ impl<'source> Tokens<'source> {
         alloc: Global,
         builder: P,
         levels: u32,
-    ) -> Result<P::Made, ReadError>
-        ensures led { GivesWithin result (levels + 1) due.in_braces [] self.old.place self.new.place }
-        ensures tree { IfOk result (IsBuilt (P.is_made builder) self.old.place
+    ) -> Result<P::Built, ReadError>
+        ensures led { GivesWithin result (levels + 1) expectation.in_braces [] self.old.place self.new.place }
+        ensures tree { IfOk result (IsNodeBuilt (P.is_built builder) self.old.place
             (IsParsedBehind lex_class.BraceOpen (levels + 1) self.old.place self.new.place)) }
         ensures asks { AsksFor self.old self.new }
     {
@@ -354,9 +354,9 @@ impl<'source> Tokens<'source> {
         levels: u32,
         start: usize,
         first: NodeType,
-    ) -> Result<P::Made, ReadError>
-        ensures led { GivesWithin result (levels + 1) due.behind_key [] self.old.place self.new.place }
-        ensures tree { IfOk result (IsBuilt (P.is_made builder) self.old.place (IsOfEntries levels start first self.old.place self.new.place)) }
+    ) -> Result<P::Built, ReadError>
+        ensures led { GivesWithin result (levels + 1) expectation.behind_key [] self.old.place self.new.place }
+        ensures tree { IfOk result (IsNodeBuilt (P.is_built builder) self.old.place (IsOfEntries levels start first self.old.place self.new.place)) }
         ensures asks { AsksFor self.old self.new }
     {
         let mut parts = no_parts(alloc, builder, NodeType::TupleSet);
@@ -396,10 +396,10 @@ impl<'source> Tokens<'source> {
         alloc: Global,
         builder: P,
         start: usize,
-    ) -> Result<P::Made, ReadError>
+    ) -> Result<P::Built, ReadError>
         requires { (next : Place) → TakesItem self.old.place (Some (Ok lex_class.Colon)) next → ⊥ }
-        ensures led { GivesAnywhere result (due.behind_word (text_at self.old.place)) self.old.place self.new.place }
-        ensures tree { IfOk result (IsBuilt (P.is_made builder) self.old.place (IsOfFlags start self.old.place self.new.place)) }
+        ensures led { GivesAnywhere result (expectation.behind_word (text_at self.old.place)) self.old.place self.new.place }
+        ensures tree { IfOk result (IsNodeBuilt (P.is_built builder) self.old.place (IsOfFlags start self.old.place self.new.place)) }
         ensures asks { AsksFor self.old self.new }
     {
         let mut flags = BTreeMap::new(alloc);
@@ -437,14 +437,14 @@ impl<'source> Tokens<'source> {
         builder: P,
         start: usize,
         flags: BTreeMap<&'source str, Span>,
-    ) -> Result<P::Made, ReadError>
-        ensures made { let source = self.now.place.lexer.source in
-            IfOk result (λ made. AreFlagsOf source flags.entry
-            → P.is_made builder source (node node_type.Flags (span start self.now.place.lexer.end) (flag_nodes flags.entry)) made) }
+    ) -> Result<P::Built, ReadError>
+        ensures built { let source = self.now.place.lexer.source in
+            IfOk result (λ built. AreFlagsOf source flags.entry
+            → P.is_built builder source (node node_type.Flags (span start self.now.place.lexer.end) (flag_nodes flags.entry)) built) }
         ensures memory { IfErr result (λ e. e.kind ≡ kind.OutOfMemory) }
     {
         match builder.flags(alloc, start..self.span().end, flags) {
-            Ok(made) => Ok(made),
+            Ok(built) => Ok(built),
             Err(_) => Err(self.out_of_memory()),
         }
     }

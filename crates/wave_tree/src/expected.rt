@@ -96,7 +96,7 @@ fn expected_from(
 /// of what it refused; the span of an empty tuple starts at its `(`, that of a value which is too deep
 /// at the token before it. A class is named where some token of that class, after the tokens before, begins a
 /// value within those levels; so none is named where those tokens begin no such value. Which label
-/// may stand there isn't told: as a flag one that wasn't read before, and where a value is due any but
+/// may stand there isn't reported: as a flag one that wasn't read before, and where a value is expected any but
 /// a keyword that begins a payload past the last level.
 pub fn expected_at(
     alloc: Global,

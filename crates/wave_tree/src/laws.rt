@@ -67,7 +67,7 @@ pub fn unexpected_may_not_follow()
 {}
 
 /// The brackets that are open after tokens that begin a value are as many as the open forms, with the
-/// braces in which no value is due.
+/// braces in which no value is expected.
 pub fn open_brackets_are_forms()
     ensures { BracketsAreForms }
 {}

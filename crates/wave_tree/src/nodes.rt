@@ -28,13 +28,13 @@ fn push_token(
 pub struct NodeBuilder;
 
 impl Builder for NodeBuilder {
-    type Made = Node;
+    type Built = Node;
 
     type Parts = Vec<Node>;
 
     ghost use Rattle.std.specs.Prelude.{◌≡◌};
 
-    ghost is_made = { λ builder source n made. made ≡ n };
+    ghost is_built = { λ builder source n built. built ≡ n };
 
     ghost are_parts = { λ builder source ty children parts. parts.items ≡ children };
 
@@ -78,9 +78,14 @@ impl Builder for NodeBuilder {
     }
 
     #[inline(always)]
-    fn push_part(self, alloc: Global, parts: &mut Vec<Node>, made: Node) -> Result<(), AllocError> {
+    fn push_part(
+        self,
+        alloc: Global,
+        parts: &mut Vec<Node>,
+        built: Node,
+    ) -> Result<(), AllocError> {
         parts.reserve(1)?;
-        parts.push_reserved(made);
+        parts.push_reserved(built);
         Ok(())
     }
 

@@ -3,8 +3,8 @@ ghost use Rattle.std.specs.Prelude.{◌≡◌, ◌≢◌, ◌+◌, IfOk, IfErr, 
 ghost use Rattle.wave_wasm.specs.Types.{IsRepresentable};
 ghost use Rattle.wave_lex.specs.declared.error.ParserErrorKind.TheVariants as kind;
 ghost use Rattle.wave_lex.specs.Errors.{LiesInText};
-ghost use Rattle.wave_lex.specs.Labels.{Good};
-ghost use Rattle.wave_grammar.specs.PrefixAutomaton as due;
+ghost use Rattle.wave_lex.specs.Labels.{HasDistinctLabels};
+ghost use Rattle.wave_grammar.specs.PrefixAutomaton as expectation;
 ghost use Rattle.wave_grammar.specs.SyntaxErrors.{Gives};
 ghost use Rattle.wave_read.specs.PlainReading.{IsPlain};
 ghost use Rattle.wave_tree.specs.ParserState.{BeginsRow, HoldsNoBrace, Parsing, IsLimit, asked, Asks, first_at, limited, Finishes, StaysWithout, start_of};
@@ -89,7 +89,7 @@ impl<'source> Parser<'source> {
     /// last token that was taken. `OutOfMemory` stands at the last item before the value, and the
     /// parser stands where it stood.
     pub fn parse_raw_value(&mut self, alloc: Global) -> Result<UntypedValue<'source>, ParserError>
-        ensures value { Gives result self.old.limit due.value [] self.old.place self.new.place [] }
+        ensures value { Gives result self.old.limit expectation.value [] self.old.place self.new.place [] }
         ensures tree { IfOk result (IsUntypedTaken self.old.limit self.old.place self.new.place) }
         ensures within { IfErr result (λ e. LiesInText self.old.place.lexer.source e.span) }
         ensures memory { IfErr result (λ e. StaysWithout e self.old.place self.new.place) }
@@ -117,7 +117,7 @@ impl<'source> Parser<'source> {
         ensures caused { IfErr result (IsCausedBetween self.old.limit self.old.place self.new.place) }
         ensures memory { IfErr result (λ e. StaysWithout e self.old.place self.new.place) }
         ensures twice { let T = V.Type.tree ty.now in
-            Good T → IsRepresentable T → IfOk result (λ v. PrintsWithinTwice T self.old.limit (V.tree v)) }
+            HasDistinctLabels T → IsRepresentable T → IfOk result (λ v. PrintsWithinTwice T self.old.limit (V.tree v)) }
         ensures spares { IsPlain (V.Type.tree ty.now) → BeginsRow self.old.place → HoldsNoBrace self.old.place → IfErr result (λ e. e.kind ≢ kind.OutOfMemory) }
         ensures asks { Asks self.old self.new }
         ensures keeps { self.new.limit ≡ self.old.limit }

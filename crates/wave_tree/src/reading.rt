@@ -13,8 +13,8 @@ ghost use Rattle.wave_grammar.specs.NodeParts.{IsOfParts, TakesKey, TakesPart};
 ghost use Rattle.wave_read.specs.PlainReading.{IsReadSparing};
 ghost use Rattle.wave_read.specs.Reading.{IsReadAs};
 ghost use Rattle.wave_read.specs.Flat.{IsAround, IsCounted, ReadsNoRecord};
-ghost use Rattle.wave_read.specs.KeptParts.{AreKeptWhereDue};
-ghost use Rattle.wave_read.specs.PartsOfKinds.{AreDoomedAtOnce};
+ghost use Rattle.wave_read.specs.KeptParts.{AreKeptWhereExpected};
+ghost use Rattle.wave_read.specs.PartsOfKinds.{AreRefusedAtOnce};
 ghost use Rattle.wave_tree.specs.Private.NodeForms.{IsOfOneToken};
 
 use crate::ast::{Node, NodeType};
@@ -42,7 +42,7 @@ impl Node {
         ensures { IsReadAs V.tree V.is_of V.is_full by_type by_type (V.Type.tree ty.now) src.now self.now result }
     {
         match self.make(alloc, ValueBuilder::<V>::new(ty), src) {
-            Ok(made) => made,
+            Ok(built) => built,
             Err(_) => Err(self.read_error(ParserErrorKind::OutOfMemory)),
         }
     }
@@ -57,14 +57,14 @@ impl Node {
         src: &str,
     ) -> Result<Result<V, ReadError>, AllocError>
         requires { IsValueOf src.now self.now }
-        ensures { IfOk result (IsReadSparing V.tree V.is_of V.is_full by_type by_type (shown V.Type.tree builder.entry.due) src.now self.now) }
+        ensures { IfOk result (IsReadSparing V.tree V.is_of V.is_full by_type by_type (shown V.Type.tree builder.entry.expected) src.now self.now) }
     {
         if self.is_of(NodeType::Flags) {
             return self.make_of_flags(alloc, builder, src);
         }
         if let Some((around, ty)) = builder.record(self.ty()) {
-            let made = self.read_record::<V>(alloc, ty, src);
-            return Ok(wrapped(alloc, around, ty, self.span(), made));
+            let built = self.read_record::<V>(alloc, ty, src);
+            return Ok(wrapped(alloc, around, ty, self.span(), built));
         }
         if self.has_parts() {
             return self.make_of_parts(alloc, builder, src);
@@ -82,12 +82,12 @@ impl Node {
     ) -> Result<V, ReadError>
         requires value { IsValueOf src.now self.now }
         requires form { IsOfOneToken self.now }
-        ensures { IsReadSparing V.tree V.is_of V.is_full by_type by_type (shown V.Type.tree builder.entry.due) src.now self.now result }
+        ensures { IsReadSparing V.tree V.is_of V.is_full by_type by_type (shown V.Type.tree builder.entry.expected) src.now self.now result }
     {
         builder.token(alloc, self.ty(), self.span(), self.slice(src))
     }
 
-    /// What the builder makes of a node of flags. Their names are kept only where flags are due.
+    /// What the builder makes of a node of flags. Their names are kept only where flags are expected.
     #[inline(never)]
     fn make_of_flags<V: WasmValue>(
         &self,
@@ -97,10 +97,10 @@ impl Node {
     ) -> Result<Result<V, ReadError>, AllocError>
         requires value { IsValueOf src.now self.now }
         requires form { type_of self.now ≡ NodeType.Flags }
-        ensures { IfOk result (IsReadSparing V.tree V.is_of V.is_full by_type by_type (shown V.Type.tree builder.entry.due) src.now self.now) }
+        ensures { IfOk result (IsReadSparing V.tree V.is_of V.is_full by_type by_type (shown V.Type.tree builder.entry.expected) src.now self.now) }
     {
-        if let Some(made) = builder.no_flags(alloc, self.span()) {
-            return Ok(made);
+        if let Some(built) = builder.no_flags(alloc, self.span()) {
+            return Ok(built);
         }
         let flags = self.places_by_name(alloc, src)?;
         Ok(builder.names(alloc, self.span(), flags))
@@ -136,8 +136,8 @@ impl Node {
     ) -> Result<Result<V, ReadError>, AllocError>
         requires value { IsValueOf src.now self.now }
         requires form { IsOfParts (type_of self.now) }
-        requires no_record { (T : TypeTree) → shown V.Type.tree builder.due ≡ Some T → ReadsNoRecord T (type_of self.now) }
-        ensures { IfOk result (IsReadSparing V.tree V.is_of V.is_full by_type by_type (shown V.Type.tree builder.entry.due) src.now self.now) }
+        requires no_record { (T : TypeTree) → shown V.Type.tree builder.expected ≡ Some T → ReadsNoRecord T (type_of self.now) }
+        ensures { IfOk result (IsReadSparing V.tree V.is_of V.is_full by_type by_type (shown V.Type.tree builder.entry.expected) src.now self.now) }
     {
         let ty = self.ty();
         let mut parts = builder.begin(alloc, ty);
@@ -151,8 +151,8 @@ impl Node {
                 let key = node.leaf(src);
                 parts.push_key(alloc, key.ty, key.span, key.text)?;
             } else {
-                let made = node.make(alloc, parts.next(), src)?;
-                parts.push_part(alloc, made)?;
+                let built = node.make(alloc, parts.next(), src)?;
+                parts.push_part(alloc, built)?;
             }
         }
         Ok(parts.whole(alloc, self.span()))
@@ -161,13 +161,13 @@ impl Node {
     /// The refusal of a node that has parts before any of them is read: where the type takes no such form,
     /// or tuples of another number of items.
     fn refused_at_once<V: WasmValue>(&self, parts: &Frame<'_, V::Type, V>) -> Option<ReadError>
-        ensures refused { IfSome result (λ error. (w : Order) (due : Option TypeTree) (source : List ℕ) → IsOfParts (type_of self.now)
-            → AreKeptWhereDue V.Type.tree V.tree V.is_of V.is_full w due source (type_of self.now) [] parts.now
-            → ((T : TypeTree) → due ≡ Some T → AreDoomedAtOnce V.Type.tree V.tree V.is_of V.is_full T (type_of self.now) parts.now.parts)
-            → IsReadSparing V.tree V.is_of V.is_full by_type w due source self.now (Err error)) }
+        ensures refused { IfSome result (λ error. (w : Order) (expected : Option TypeTree) (source : List ℕ) → IsOfParts (type_of self.now)
+            → AreKeptWhereExpected V.Type.tree V.tree V.is_of V.is_full w expected source (type_of self.now) [] parts.now
+            → ((T : TypeTree) → expected ≡ Some T → AreRefusedAtOnce V.Type.tree V.tree V.is_of V.is_full T (type_of self.now) parts.now.parts)
+            → IsReadSparing V.tree V.is_of V.is_full by_type w expected source self.now (Err error)) }
         ensures counted { IfNone result ((w : Order) (T : TypeTree) (source : List ℕ) → IsOfParts (type_of self.now)
-            → AreKeptWhereDue V.Type.tree V.tree V.is_of V.is_full w (Some T) source (type_of self.now) [] parts.now
-            → AreDoomedAtOnce V.Type.tree V.tree V.is_of V.is_full T (type_of self.now) parts.now.parts
+            → AreKeptWhereExpected V.Type.tree V.tree V.is_of V.is_full w (Some T) source (type_of self.now) [] parts.now
+            → AreRefusedAtOnce V.Type.tree V.tree V.is_of V.is_full T (type_of self.now) parts.now.parts
             → IsCounted T (type_of self.now) (length (children_of self.now))) }
     {
         parts.refused(self.span(), self.nodes().len())

@@ -1,7 +1,7 @@
 //! The fields of records.
 ghost use Rattle.std.specs.Prelude.{◌≡◌, ◌⊎◌, Some, IfOk, IfErr, MatchResult};
 ghost use Rattle.wave_wasm.specs.Lists.{AllOf};
-ghost use Rattle.wave_lex.specs.Errors.{field_label_due, repeated_name};
+ghost use Rattle.wave_lex.specs.Errors.{field_label_expected, repeated_name};
 ghost use Rattle.wave_lex.specs.declared.error.ParserErrorKind.TheVariants.{InvalidType, DuplicateField, OutOfMemory};
 ghost use Rattle.wave_grammar.specs.LeafTokens.{name_of};
 ghost use Rattle.wave_grammar.specs.NodeTree.{type_of, place_of, children_of};

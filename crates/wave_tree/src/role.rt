@@ -38,7 +38,7 @@ pub(crate) fn value_start(token: Token, text: &str) -> ValueStart
         Token::Char => ValueStart::Alone(NodeType::Char),
         Token::String => ValueStart::Alone(NodeType::String),
         Token::MultilineString => ValueStart::Alone(NodeType::MultilineString),
-        Token::LabelOrKeyword => label_front(text),
+        Token::LabelOrKeyword => label_start(text),
         Token::ParenOpen => ValueStart::Paren,
         Token::BracketOpen => ValueStart::Bracket,
         Token::BraceOpen => ValueStart::Brace,
@@ -47,7 +47,7 @@ pub(crate) fn value_start(token: Token, text: &str) -> ValueStart
 }
 
 /// What a value begins with whose first token is the label of this text.
-fn label_front(text: &str) -> ValueStart
+fn label_start(text: &str) -> ValueStart
     ensures { IsValueStart LabelOrKeyword text.now result }
 {
     if text == "true" {

@@ -5,7 +5,7 @@ ghost use Rattle.wave_lex.specs.declared.error.ParserErrorKind.TheVariants as ki
 ghost use Rattle.std.specs.String.{string_bytes};
 ghost use Rattle.wave_lex.specs.Errors.{class_name, repeated_name};
 ghost use Rattle.wave_grammar.specs.ParserPosition.{Place, TakesItem, IsSomething, span_at, text_at};
-ghost use Rattle.wave_grammar.specs.PrefixAutomaton as due;
+ghost use Rattle.wave_grammar.specs.PrefixAutomaton as expectation;
 ghost use Rattle.wave_grammar.specs.SyntaxErrors.{Gives};
 ghost use Rattle.wave_lex.specs.Errors.{Says};
 ghost use Rattle.wave_lex.specs.Tokenization.{item_of, span};
@@ -251,7 +251,7 @@ impl<'source> Tokens<'source> {
         Err(self.unexpected(token))
     }
 
-    /// Refuses a value that is too deep, where it is due.
+    /// Refuses a value that is too deep, where it is expected.
     #[inline(always)]
     pub(crate) fn refuse_depth<T>(&self) -> Result<T, ReadError>
         ensures never { IfOk result (λ _. ⊥) }
@@ -260,7 +260,7 @@ impl<'source> Tokens<'source> {
         Err(self.too_deep())
     }
 
-    /// The refusal of a value that is too deep, where it is due.
+    /// The refusal of a value that is too deep, where it is expected.
     #[cold]
     #[inline(never)]
     fn too_deep(&self) -> ReadError
@@ -310,9 +310,9 @@ impl<'source> Tokens<'source> {
 
     /// What is made of the last token.
     #[inline(never)]
-    pub(crate) fn leaf<P: Builder>(&self, alloc: Global, builder: P, ty: NodeType) -> P::Made
+    pub(crate) fn leaf<P: Builder>(&self, alloc: Global, builder: P, ty: NodeType) -> P::Built
         requires { IsOneToken ty }
-        ensures { P.is_made builder self.now.place.lexer.source (node ty (span_at self.now.place) no_nodes) result }
+        ensures { P.is_built builder self.now.place.lexer.source (node ty (span_at self.now.place) no_nodes) result }
     {
         builder.leaf(alloc, ty, self.span(), self.slice())
     }
@@ -326,10 +326,10 @@ impl<'source> Tokens<'source> {
         ty: NodeType,
         start: usize,
         parts: P::Parts,
-    ) -> P::Made
+    ) -> P::Built
         requires { ArePartsOfSome (P.are_parts builder) ty parts }
         ensures { (children : List NodeTree) → P.are_parts builder self.now.place.lexer.source ty children parts
-            → P.is_made builder self.now.place.lexer.source (node ty (span start self.now.place.lexer.end) (node_trees children)) result }
+            → P.is_built builder self.now.place.lexer.source (node ty (span start self.now.place.lexer.end) (node_trees children)) result }
     {
         builder.whole(alloc, ty, start..self.span().end, parts)
     }
@@ -342,9 +342,9 @@ impl<'source> Tokens<'source> {
         builder: P,
         ty: NodeType,
         start: usize,
-    ) -> P::Made
+    ) -> P::Built
         requires { IsOfParts ty }
-        ensures { P.is_made builder self.now.place.lexer.source (node ty (span start self.now.place.lexer.end) no_nodes) result }
+        ensures { P.is_built builder self.now.place.lexer.source (node ty (span start self.now.place.lexer.end) no_nodes) result }
     {
         let none = builder.parts(alloc, ty);
         self.whole(alloc, builder, ty, start, none)
@@ -380,17 +380,17 @@ impl<'source> Tokens<'source> {
         alloc: Global,
         builder: P,
         parts: &mut P::Parts,
-        made: P::Made,
+        built: P::Built,
     ) -> Result<(), ReadError>
         ensures kept { IfOk result (λ _. (source : List ℕ) (of : NodeType) (children : List NodeTree) (n : NodeTree)
             → TakesPart of children → P.are_parts builder source of children parts.old
-            → P.is_made (P.next builder parts.old) source n made
+            → P.is_built (P.next builder parts.old) source n built
             → P.are_parts builder source of (children ++ n ∷ []) parts.new) }
         ensures memory { IfErr result (λ e. e.kind ≡ kind.OutOfMemory) }
         ensures takes { IfErr result (λ _. (source : List ℕ) (of : NodeType) (children : List NodeTree)
             → P.are_parts builder source of children parts.old → P.takes_memory builder) }
     {
-        match builder.push_part(alloc, parts, made) {
+        match builder.push_part(alloc, parts, built) {
             Ok(()) => Ok(()),
             Err(_) => Err(self.out_of_memory()),
         }
@@ -514,7 +514,7 @@ impl<'source> Tokens<'source> {
         alloc: Global,
         levels: u32,
     ) -> Result<(Node, Start<'source>), ParserError>
-        ensures value { Gives result levels due.value [] self.old.place self.new.place [] }
+        ensures value { Gives result levels expectation.value [] self.old.place self.new.place [] }
         ensures tree { IfOk result (λ read. IsNodeTaken levels self.old.place self.new.place read.0) }
         ensures start { IfOk result (λ read. read.1 ≡ self.old.place.lexer) }
         ensures within { IfErr result (λ e. LiesInText self.old.place.lexer.source e.span) }

@@ -2,6 +2,6 @@ pub mod Injective
 pub mod Prefixes
 pub mod ReadBack
 pub mod FunctionReadBack
-pub mod Cuts
+pub mod Tokenizes
 pub mod JoinedTexts
 pub mod FunctionParts

@@ -5,7 +5,7 @@ use Rattle.wave_wasm.specs.Types.{TypeTree, fields_of, field_names}
 use Rattle.wave_type.specs.declared.error.TypeErrorKind.{TypeErrorKind}
 use Rattle.wave_type.specs.declared.error.TypeErrorKind.TheVariants.{OutOfMemory}
 use Rattle.wave_type.specs.FunctionType.{FunctionType}
-use Rattle.wave_type.specs.TypeSpelling.{Tokens, IsCutInto, Spells, SpellsFields, levels_of_fields}
+use Rattle.wave_type.specs.TypeSpelling.{Tokens, IsTokenizedTo, Spells, SpellsFields, levels_of_fields}
 
 -- names and types through `)`, or `)` alone; no name stands twice
 abbrev pub SpellsParts : List (List ℕ × TypeTree) → Tokens → Tokens → Type 0
@@ -25,7 +25,7 @@ SpellsFunction f ts =
 
 -- the text spells the type of the function
 abbrev pub IsFunctionOf : List ℕ → FunctionType → Type 0
-IsFunctionOf text f = (ts : Tokens) × IsCutInto text ts × SpellsFunction f ts
+IsFunctionOf text f = (ts : Tokens) × IsTokenizedTo text ts × SpellsFunction f ts
 
 -- how many types stand one inside another in the parameters and results
 abbrev pub levels_of_function : FunctionType → ℕ

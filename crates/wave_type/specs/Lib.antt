@@ -1,6 +1,6 @@
 pub mod TypeModel
 pub mod Private
-pub mod TypeMade
+pub mod TypeConstructors
 pub mod TypeEquality
 pub mod TypeEqualityLaws
 pub mod TypeTexts
@@ -16,4 +16,4 @@ pub mod TypeFaults
 pub mod TypeFaultLaws
 pub mod TypeItems
 pub mod FunctionSpelling
-pub mod GoodNames
+pub mod DistinctLabels

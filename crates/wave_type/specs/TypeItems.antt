@@ -2,11 +2,11 @@
 use Rattle.std.specs.Prelude.{ℕ, ◌≡◌, ◌+◌, ◌⊎◌, Bool, true, false, List, [], ◌∷◌, ◌++◌, map, length, take, drop, Some}
 use Rattle.wave_wasm.specs.Names.{is_one_of}
 use Rattle.wave_lex.specs.declared.lex.Token.{Token}
-use Rattle.wave_lex.specs.Tokenization.{IsGap, IsLongestToken, IsInvalid, span}
+use Rattle.wave_lex.specs.Tokenization.{IsWhitespace, IsLongestToken, IsInvalid, span}
 use Rattle.wave_type.specs.declared.error.TypeErrorKind.{TypeErrorKind}
 use Rattle.wave_type.specs.declared.error.TypeErrorKind.TheVariants.{OutOfMemory, InvalidToken}
 use Rattle.wave_type.specs.TypeErrors.{TypeRefusal}
-use Rattle.wave_type.specs.TypeFaults.{Expectation, due_of_type, due_of_function, refused}
+use Rattle.wave_type.specs.TypeFaults.{Expectation, expected_of_type, expected_of_function, refused}
 use Rattle.wave_type.specs.TypeSpelling.{Tokens}
 use Rattle.wave_type.specs.TypeWords.{marks_of_types}
 
@@ -27,9 +27,9 @@ StandsAs s k false = IsInvalid s k × (is_one_of marks_of_types (take k s) ≡ f
 
 -- s is whitespace, item, whitespace, item, and so on, and whitespace after the last; it begins at the byte `at`
 abbrev pub AreItems : List ℕ → ℕ → List Item → Type 0
-AreItems s at [] = IsGap s (length s)
+AreItems s at [] = IsWhitespace s (length s)
 AreItems s at (i ∷ items) =
-    (g : ℕ) × (k : ℕ) × IsGap s g × StandsAs (drop g s) k i.known × (i.text ≡ take k (drop g s)) × (i.start ≡ at + g)
+    (g : ℕ) × (k : ℕ) × IsWhitespace s g × StandsAs (drop g s) k i.known × (i.text ≡ take k (drop g s)) × (i.start ≡ at + g)
     × AreItems (drop (g + k) s) (at + (g + k)) items
 
 -- the kind of a refusal of an item: `InvalidToken` where it is no token
@@ -42,11 +42,11 @@ abbrev pub StandsAtFirst : List ℕ → List Item → TypeErrorKind → TypeRefu
 StandsAtFirst text [] kind e = (e.kind ≡ kind) × (e.span ≡ span (length text) (length text))
 StandsAtFirst text (i ∷ items) kind e = (e.kind ≡ kind_at i.known kind) × (e.span ≡ span i.start (i.start + length i.text))
 
--- where these are due, the text is refused so
+-- where these are expected, the text is refused so
 abbrev pub IsFaultOf : List Expectation → List ℕ → TypeRefusal → Type 0
-IsFaultOf dues text e =
+IsFaultOf expectations text e =
     (before : List Item) × (left : List Item) × (kind : TypeErrorKind) × AreItems text 0 (before ++ left)
-    × (refused (texts_of_items (before ++ left)) dues ≡ Some (kind, texts_of_items left)) × StandsAtFirst text left kind e
+    × (refused (texts_of_items (before ++ left)) expectations ≡ Some (kind, texts_of_items left)) × StandsAtFirst text left kind e
 
 -- the refusal where there was no memory
 abbrev pub for_memory : TypeRefusal
@@ -54,8 +54,8 @@ for_memory = record { kind = OutOfMemory; span = span 0 0 }
 
 -- the text is refused as no type within a hundred levels, or there was no memory
 abbrev pub IsTypeFault : List ℕ → TypeRefusal → Type 0
-IsTypeFault text e = (e ≡ for_memory) ⊎ IsFaultOf (due_of_type 100) text e
+IsTypeFault text e = (e ≡ for_memory) ⊎ IsFaultOf (expected_of_type 100) text e
 
 -- so as no type of a function
 abbrev pub IsFunctionFault : List ℕ → TypeRefusal → Type 0
-IsFunctionFault text e = (e ≡ for_memory) ⊎ IsFaultOf (due_of_function 100) text e
+IsFunctionFault text e = (e ≡ for_memory) ⊎ IsFaultOf (expected_of_function 100) text e

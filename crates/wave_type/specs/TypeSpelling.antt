@@ -11,7 +11,7 @@ use Rattle.wave_lex.specs.declared.lex.Token.{Token}
 use Rattle.wave_type.specs.declared.error.TypeErrorKind.{TypeErrorKind}
 use Rattle.wave_type.specs.declared.error.TypeErrorKind.TheVariants.{OutOfMemory}
 use Rattle.wave_lex.specs.Labels.{IsLabel}
-use Rattle.wave_lex.specs.Tokenization.{IsGap, IsLongestToken, IsInvalid}
+use Rattle.wave_lex.specs.Tokenization.{IsWhitespace, IsLongestToken, IsInvalid}
 
 -- the texts of tokens, in their order
 abbrev pub Tokens : Type 0
@@ -24,9 +24,9 @@ abbrev pub IsItem : List ℕ → ℕ → Type 0
 IsItem s k = ((class : Token) × IsLongestToken s k class) ⊎ IsInvalid s k
 
 -- the text is whitespace, item, whitespace, item, and so on, and whitespace after the last
-abbrev pub IsCutInto : List ℕ → Tokens → Type 0
-IsCutInto s [] = IsGap s (length s)
-IsCutInto s (t ∷ ts) = (g : ℕ) × (k : ℕ) × IsGap s g × IsItem (drop g s) k × (t ≡ take k (drop g s)) × IsCutInto (drop (g + k) s) ts
+abbrev pub IsTokenizedTo : List ℕ → Tokens → Type 0
+IsTokenizedTo s [] = IsWhitespace s (length s)
+IsTokenizedTo s (t ∷ ts) = (g : ℕ) × (k : ℕ) × IsWhitespace s g × IsItem (drop g s) k × (t ≡ take k (drop g s)) × IsTokenizedTo (drop (g + k) s) ts
 
 -- ---- the tokens of a type: those of ts, up to the rest
 
@@ -105,7 +105,7 @@ abbrev mutual
 
 -- the text spells the type
 abbrev pub IsTypeOf : List ℕ → TypeTree → Type 0
-IsTypeOf text T = (ts : Tokens) × IsCutInto text ts × Spells T ts []
+IsTypeOf text T = (ts : Tokens) × IsTokenizedTo text ts × Spells T ts []
 
 -- ---- levels
 

@@ -12,7 +12,7 @@ use Rattle.wave_wasm.specs.Types as type
 use Rattle.wave_wasm.specs.Types.{TypeTree}
 use Rattle.wave_lex.specs.Derive.{derivative_by, nullable}
 use Rattle.wave_lex.specs.Tokens.{label}
-use Rattle.wave_type.specs.TypeMade.{simple_type}
+use Rattle.wave_type.specs.TypeConstructors.{simple_type}
 
 module _ {A B : Type 0} where
   -- what comes after the first, where there is one

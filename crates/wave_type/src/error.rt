@@ -13,7 +13,7 @@ use wave_lex::lex::Span;
 pub enum TypeErrorKind {
     /// A token that can't stand here.
     UnexpectedToken,
-    /// The end of the text where more is due.
+    /// The end of the text where more is expected.
     UnexpectedEnd,
     /// A place where no token of a type begins.
     InvalidToken,

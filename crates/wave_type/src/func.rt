@@ -50,7 +50,7 @@ impl FuncType {
         params: Vec<(String, Type)>,
         results: Vec<(String, Type)>,
     ) -> Result<FuncType, WasmValueError>
-        ensures made { let f = function_of params.items results.items in
+        ensures built { let f = function_of params.items results.items in
             IfOk result (λ t. (t ≡ f) × (naming_fault f ≡ None)) }
         ensures refused { let f = function_of params.items results.items in
             IfErr result (λ e. RefusesNames f (cause_of e)) }

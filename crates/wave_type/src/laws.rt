@@ -3,11 +3,11 @@ ghost use Rattle.std.specs.Prelude.{◌≡◌, ◌↔◌, ℕ, List, Some, true}
 ghost use Rattle.wave_wasm.specs.Types.{TypeTree, IsRepresentable};
 ghost use Rattle.wave_wasm.specs.TypeText.{type_text, function_text};
 ghost use Rattle.wave_wasm.specs.Lists.{AllOf};
-ghost use Rattle.wave_lex.specs.Labels.{HasLabels, Good};
+ghost use Rattle.wave_lex.specs.Labels.{HasLabels, HasDistinctLabels};
 ghost use Rattle.wave_type.specs.FunctionEquality.{same_function};
 ghost use Rattle.wave_type.specs.FunctionSpelling.{IsFunctionOf};
 ghost use Rattle.wave_type.specs.FunctionType.{FunctionType, types_of, func_of};
-ghost use Rattle.wave_type.specs.GoodNames.{IsGoodFunction};
+ghost use Rattle.wave_type.specs.DistinctLabels.{FunctionHasDistinctLabels};
 ghost use Rattle.wave_type.specs.TypeConversion.{converted_type};
 ghost use Rattle.wave_type.specs.TypeEquality.{same_tree};
 ghost use Rattle.wave_type.specs.TypeFaultLaws.{TakenBegins, NoneBeginsWithRefused, EndsAtEnd};
@@ -43,21 +43,21 @@ pub fn one_type_of_text()
 /// The names of what a text spells are labels, and distinct: within a type, in each record, variant,
 /// enum and flags; of a function also its parameters and its named results.
 pub fn spelled_names_are_labels()
-    ensures types { (text : List ℕ) (T : TypeTree) → IsTypeOf text T → Good T }
-    ensures functions { (text : List ℕ) (f : FunctionType) → IsFunctionOf text f → IsGoodFunction f }
+    ensures types { (text : List ℕ) (T : TypeTree) → IsTypeOf text T → HasDistinctLabels T }
+    ensures functions { (text : List ℕ) (f : FunctionType) → IsFunctionOf text f → FunctionHasDistinctLabels f }
 {}
 
 /// The text of a type spells the type, where `Type` can hold it and its names are distinct labels.
 /// As no text spells two types (`one_type_of_text`), what `Type::parse` answers of that text is the
 /// type itself, and it answers one where the type has at most a hundred levels and memory is there.
 pub fn type_text_spells()
-    ensures { (T : TypeTree) → IsRepresentable T → Good T → IsTypeOf (type_text T) T }
+    ensures { (T : TypeTree) → IsRepresentable T → HasDistinctLabels T → IsTypeOf (type_text T) T }
 {}
 
 /// So does the text of the type of a function whose types `Type` can hold, and where the names within
 /// them, the names of parameters and those of named results are distinct labels.
 pub fn function_text_spells()
-    ensures { (f : FunctionType) → AllOf IsRepresentable (types_of f.params) → AllOf IsRepresentable (types_of f.results) → IsGoodFunction f
+    ensures { (f : FunctionType) → AllOf IsRepresentable (types_of f.params) → AllOf IsRepresentable (types_of f.results) → FunctionHasDistinctLabels f
         → IsFunctionOf (function_text (func_of f)) f }
 {}
 

@@ -2,9 +2,9 @@
 ghost use Rattle.std.specs.Prelude.{ℕ, List, [], ◌∷◌, ◌++◌, ◌≡◌, ◌<◌, IfOk, IfErr, MatchBool, option_map, Some, None, drop, length, codes};
 ghost use Rattle.wave_wasm.specs.declared.wasm.WasmTypeKind.TheVariants as kinds;
 ghost use Rattle.wave_wasm.specs.Borrowed.{texts, named};
-ghost use Rattle.wave_type.specs.TypeFaults.{Part, type_due, key_due, ok_due, part_due, close_due, payloads_due, payload_due, due_behind};
+ghost use Rattle.wave_type.specs.TypeFaults.{Part, type_expected, key_expected, ok_expected, part_expected, close_expected, payloads_expected, payload_expected, expected_behind};
 ghost use Rattle.wave_type.specs.TypeFaults.{no_more, a_length, more_types, more_fields, more_cases, more_names};
-ghost use Rattle.wave_type.specs.TypeMade.{simple_type};
+ghost use Rattle.wave_type.specs.TypeConstructors.{simple_type};
 ghost use Rattle.wave_type.specs.TypeWords.{kind_of_word, key_of_word, without_percent, name_of_token, count_of_token, is_mark};
 ghost use Rattle.wave_type.specs.Private.TypeTokens.{Answers, IsRefused, GoesOn, RefusesName, misplaced, texts_of};
 ghost use Rattle.wave_type.specs.Private.TypeReading.{first_of, after, closed, kind_at, name_at, HasNames, new_name, count_at, key_at};
@@ -135,7 +135,7 @@ impl<'tokens, 'text> Reader<'tokens, 'text> {
         self.rest.len()
     }
 
-    /// Why the next token, or the end, is refused where another is due.
+    /// Why the next token, or the end, is refused where another is expected.
     pub(crate) fn refusal(&self) -> TypeErrorKind
         ensures { result ≡ misplaced self.now }
     {
@@ -191,7 +191,7 @@ impl<'tokens, 'text> Reader<'tokens, 'text> {
     /// Whether parts end here: takes the mark that ends them, perhaps after a comma, or a comma alone.
     pub(crate) fn ends(&mut self, mark: &str) -> Result<bool, TypeErrorKind>
         ensures taken { IfOk result (λ end. MatchBool end (closed mark.now self.old ≡ Some self.new) (GoesOn mark.now self.old self.new)) }
-        ensures refused { IfErr result (λ kind. (part : Part) → IsRefused (close_due mark.now part) self.old kind self.new) }
+        ensures refused { IfErr result (λ kind. (part : Part) → IsRefused (close_expected mark.now part) self.old kind self.new) }
     {
         if self.takes(mark) {
             return Ok(true);
@@ -203,7 +203,7 @@ impl<'tokens, 'text> Reader<'tokens, 'text> {
     /// Takes the mark, which has to stand next, perhaps after a comma.
     fn close(&mut self, mark: &str) -> Result<(), TypeErrorKind>
         ensures taken { IfOk result (λ _. closed mark.now self.old ≡ Some self.new) }
-        ensures refused { IfErr result (λ kind. IsRefused (close_due mark.now no_more) self.old kind self.new) }
+        ensures refused { IfErr result (λ kind. IsRefused (close_expected mark.now no_more) self.old kind self.new) }
     {
         if !self.ends(mark)? {
             return Err(self.refusal());
@@ -214,7 +214,7 @@ impl<'tokens, 'text> Reader<'tokens, 'text> {
     /// Takes the word of a kind, which has to stand next, where a level is left.
     fn kind(&mut self, levels: usize) -> Result<WasmTypeKind, TypeErrorKind>
         ensures taken { IfOk result (λ kind. (kind_at self.old ≡ Some (kind, self.new)) × (0 < levels)) }
-        ensures refused { IfErr result (λ kind. IsRefused (type_due levels) self.old kind self.new) }
+        ensures refused { IfErr result (λ kind. IsRefused (type_expected levels) self.old kind self.new) }
     {
         let Some(word) = self.next() else {
             return Err(TypeErrorKind::UnexpectedEnd);
@@ -232,7 +232,7 @@ impl<'tokens, 'text> Reader<'tokens, 'text> {
     /// Takes the word of a simple type, which has to stand next.
     fn key(&mut self) -> Result<Type, TypeErrorKind>
         ensures taken { IfOk result (λ key. key_at self.old ≡ Some (key, self.new)) }
-        ensures refused { IfErr result (λ kind. IsRefused key_due self.old kind self.new) }
+        ensures refused { IfErr result (λ kind. IsRefused key_expected self.old kind self.new) }
     {
         let Some(word) = self.next() else {
             return Err(TypeErrorKind::UnexpectedEnd);
@@ -250,7 +250,7 @@ impl<'tokens, 'text> Reader<'tokens, 'text> {
     /// Takes the length of a list, which has to stand next.
     fn length(&mut self) -> Result<u32, TypeErrorKind>
         ensures taken { IfOk result (λ count. count_at self.old ≡ Some (count, self.new)) }
-        ensures refused { IfErr result (λ kind. (mark : List ℕ) → IsRefused (part_due mark a_length) self.old kind self.new) }
+        ensures refused { IfErr result (λ kind. (mark : List ℕ) → IsRefused (part_expected mark a_length) self.old kind self.new) }
     {
         let Some(token) = self.next() else {
             return Err(TypeErrorKind::UnexpectedEnd);
@@ -297,7 +297,7 @@ impl<'tokens, 'text> Reader<'tokens, 'text> {
     /// Takes names through the mark.
     fn names(&mut self, alloc: Global, mark: &str) -> Result<Vec<&'text str>, TypeErrorKind>
         ensures { Answers (λ names. texts names.items) result self.old self.new (names_read mark.now self.old)
-            (λ dues. part_due mark.now (more_names []) ∷ dues) }
+            (λ expectations. part_expected mark.now (more_names []) ∷ expectations) }
     {
         let mut taken = BTreeSet::new(alloc);
         let mut names = Vec::new(alloc);
@@ -314,7 +314,7 @@ impl<'tokens, 'text> Reader<'tokens, 'text> {
     /// Takes a type, within `levels` levels.
     #[cycle(types)]
     pub(crate) fn ty(&mut self, alloc: Global, levels: usize) -> Result<Type, TypeErrorKind>
-        ensures { Answers (λ ty. ty) result self.old self.new (type_read levels self.old) (λ dues. type_due levels ∷ dues) }
+        ensures { Answers (λ ty. ty) result self.old self.new (type_read levels self.old) (λ expectations. type_expected levels ∷ expectations) }
     {
         let kind = self.kind(levels)?;
         self.of_kind(alloc, kind, levels - 1)
@@ -328,7 +328,7 @@ impl<'tokens, 'text> Reader<'tokens, 'text> {
         kind: WasmTypeKind,
         levels: usize,
     ) -> Result<Type, TypeErrorKind>
-        ensures { Answers (λ ty. ty) result self.old self.new (kind_read (type_read levels) kind self.old) (λ dues. due_behind levels kind ++ dues) }
+        ensures { Answers (λ ty. ty) result self.old self.new (kind_read (type_read levels) kind self.old) (λ expectations. expected_behind levels kind ++ expectations) }
     {
         match kind {
             WasmTypeKind::List => self.list(alloc, levels),
@@ -347,7 +347,7 @@ impl<'tokens, 'text> Reader<'tokens, 'text> {
     /// The type without parts of this kind.
     fn simple(&self, kind: WasmTypeKind) -> Result<Type, TypeErrorKind>
         ensures taken { IfOk result (λ ty. simple_type kind ≡ Some ty) }
-        ensures refused { IfErr result (λ fault. (simple_type kind ≡ None) × IsRefused (part_due (codes ">") no_more) self.now fault self.now) }
+        ensures refused { IfErr result (λ fault. (simple_type kind ≡ None) × IsRefused (part_expected (codes ">") no_more) self.now fault self.now) }
     {
         match Type::simple(kind) {
             Some(ty) => Ok(ty),
@@ -357,7 +357,7 @@ impl<'tokens, 'text> Reader<'tokens, 'text> {
 
     #[cycle(types)]
     fn list(&mut self, alloc: Global, levels: usize) -> Result<Type, TypeErrorKind>
-        ensures { Answers (λ ty. ty) result self.old self.new (list_read (type_read levels) self.old) (λ dues. due_behind levels kinds.List ++ dues) }
+        ensures { Answers (λ ty. ty) result self.old self.new (list_read (type_read levels) self.old) (λ expectations. expected_behind levels kinds.List ++ expectations) }
     {
         self.expect("<")?;
         let element = self.ty(alloc, levels)?;
@@ -369,7 +369,7 @@ impl<'tokens, 'text> Reader<'tokens, 'text> {
 
     /// Takes the length of a list after its element type and a comma.
     fn fixed(&mut self, alloc: Global, element: Type) -> Result<Type, TypeErrorKind>
-        ensures { Answers (λ ty. ty) result self.old self.new (fixed_behind element self.old) (λ dues. part_due (codes ">") a_length ∷ dues) }
+        ensures { Answers (λ ty. ty) result self.old self.new (fixed_behind element self.old) (λ expectations. part_expected (codes ">") a_length ∷ expectations) }
     {
         let count = self.length()?;
         self.close(">")?;
@@ -378,7 +378,7 @@ impl<'tokens, 'text> Reader<'tokens, 'text> {
 
     #[cycle(types)]
     fn option(&mut self, alloc: Global, levels: usize) -> Result<Type, TypeErrorKind>
-        ensures { Answers (λ ty. ty) result self.old self.new (option_read (type_read levels) self.old) (λ dues. due_behind levels kinds.Option ++ dues) }
+        ensures { Answers (λ ty. ty) result self.old self.new (option_read (type_read levels) self.old) (λ expectations. expected_behind levels kinds.Option ++ expectations) }
     {
         self.expect("<")?;
         let some = self.ty(alloc, levels)?;
@@ -388,7 +388,7 @@ impl<'tokens, 'text> Reader<'tokens, 'text> {
 
     #[cycle(types)]
     fn map(&mut self, alloc: Global, levels: usize) -> Result<Type, TypeErrorKind>
-        ensures { Answers (λ ty. ty) result self.old self.new (map_read (type_read levels) self.old) (λ dues. due_behind levels kinds.Map ++ dues) }
+        ensures { Answers (λ ty. ty) result self.old self.new (map_read (type_read levels) self.old) (λ expectations. expected_behind levels kinds.Map ++ expectations) }
     {
         self.expect("<")?;
         let key = self.key()?;
@@ -401,7 +401,7 @@ impl<'tokens, 'text> Reader<'tokens, 'text> {
     #[cycle(types)]
     fn result(&mut self, alloc: Global, levels: usize) -> Result<Type, TypeErrorKind>
         ensures { Answers (λ ty. ty) result self.old self.new (result_read (type_read levels) self.old (after (codes "<") self.old))
-            (λ dues. payloads_due levels ∷ dues) }
+            (λ expectations. payloads_expected levels ∷ expectations) }
     {
         match self.takes("<") {
             true => self.payloads(alloc, levels),
@@ -413,7 +413,7 @@ impl<'tokens, 'text> Reader<'tokens, 'text> {
     #[cycle(types)]
     fn payloads(&mut self, alloc: Global, levels: usize) -> Result<Type, TypeErrorKind>
         ensures { Answers (λ ty. ty) result self.old self.new (payloads_read (type_read levels) self.old (after (codes "_") self.old))
-            (λ dues. ok_due levels ∷ dues) }
+            (λ expectations. ok_expected levels ∷ expectations) }
     {
         if self.takes("_") {
             self.expect(",")?;
@@ -430,7 +430,7 @@ impl<'tokens, 'text> Reader<'tokens, 'text> {
     #[cycle(types)]
     fn err(&mut self, alloc: Global, levels: usize, ok: Option<Type>) -> Result<Type, TypeErrorKind>
         ensures { Answers (λ ty. ty) result self.old self.new (err_behind (type_read levels) ok self.old)
-            (λ dues. type_due levels ∷ close_due (codes ">") no_more ∷ dues) }
+            (λ expectations. type_expected levels ∷ close_expected (codes ">") no_more ∷ expectations) }
     {
         let err = self.ty(alloc, levels)?;
         self.close(">")?;
@@ -440,7 +440,7 @@ impl<'tokens, 'text> Reader<'tokens, 'text> {
     #[cycle(types)]
     fn tuple(&mut self, alloc: Global, levels: usize) -> Result<Type, TypeErrorKind>
         ensures { Answers (λ ty. ty) result self.old self.new (kind_read (type_read levels) kinds.Tuple self.old)
-            (λ dues. due_behind levels kinds.Tuple ++ dues) }
+            (λ expectations. expected_behind levels kinds.Tuple ++ expectations) }
     {
         self.expect("<")?;
         let types = self.types(alloc, levels)?;
@@ -454,7 +454,7 @@ impl<'tokens, 'text> Reader<'tokens, 'text> {
     #[cycle(types)]
     fn types(&mut self, alloc: Global, levels: usize) -> Result<Vec<Type>, TypeErrorKind>
         ensures { Answers (λ types. types.items) result self.old self.new (types_read (type_read levels) self.old)
-            (λ dues. part_due (codes ">") (more_types levels) ∷ dues) }
+            (λ expectations. part_expected (codes ">") (more_types levels) ∷ expectations) }
     {
         let mut types = Vec::new(alloc);
         for _part in 0..self.rest.len() {
@@ -470,7 +470,7 @@ impl<'tokens, 'text> Reader<'tokens, 'text> {
     #[cycle(types)]
     fn record(&mut self, alloc: Global, levels: usize) -> Result<Type, TypeErrorKind>
         ensures { Answers (λ ty. ty) result self.old self.new (kind_read (type_read levels) kinds.Record self.old)
-            (λ dues. due_behind levels kinds.Record ++ dues) }
+            (λ expectations. expected_behind levels kinds.Record ++ expectations) }
     {
         self.expect("{")?;
         let fields = self.fields(alloc, levels, "}")?;
@@ -489,7 +489,7 @@ impl<'tokens, 'text> Reader<'tokens, 'text> {
         mark: &str,
     ) -> Result<Vec<(&'text str, Type)>, TypeErrorKind>
         ensures { Answers (λ fields. named fields.items) result self.old self.new (fields_read (type_read levels) mark.now self.old)
-            (λ dues. part_due mark.now (more_fields levels []) ∷ dues) }
+            (λ expectations. part_expected mark.now (more_fields levels []) ∷ expectations) }
     {
         let mut taken = BTreeSet::new(alloc);
         let mut fields = Vec::new(alloc);
@@ -508,7 +508,7 @@ impl<'tokens, 'text> Reader<'tokens, 'text> {
     #[cycle(types)]
     fn variant(&mut self, alloc: Global, levels: usize) -> Result<Type, TypeErrorKind>
         ensures { Answers (λ ty. ty) result self.old self.new (kind_read (type_read levels) kinds.Variant self.old)
-            (λ dues. due_behind levels kinds.Variant ++ dues) }
+            (λ expectations. expected_behind levels kinds.Variant ++ expectations) }
     {
         self.expect("{")?;
         let cases = self.cases(alloc, levels)?;
@@ -526,7 +526,7 @@ impl<'tokens, 'text> Reader<'tokens, 'text> {
         levels: usize,
     ) -> Result<Vec<(&'text str, Option<Type>)>, TypeErrorKind>
         ensures { Answers (λ cases. named cases.items) result self.old self.new (cases_read (type_read levels) self.old)
-            (λ dues. part_due (codes "}") (more_cases levels []) ∷ dues) }
+            (λ expectations. part_expected (codes "}") (more_cases levels []) ∷ expectations) }
     {
         let mut taken = BTreeSet::new(alloc);
         let mut cases = Vec::new(alloc);
@@ -545,7 +545,7 @@ impl<'tokens, 'text> Reader<'tokens, 'text> {
     #[cycle(types)]
     fn payload(&mut self, alloc: Global, levels: usize) -> Result<Option<Type>, TypeErrorKind>
         ensures { Answers (λ p. p) result self.old self.new (payload_read (type_read levels) self.old (after (codes "(") self.old))
-            (λ dues. payload_due levels ∷ dues) }
+            (λ expectations. payload_expected levels ∷ expectations) }
     {
         if !self.takes("(") {
             return Ok(None);
@@ -556,7 +556,7 @@ impl<'tokens, 'text> Reader<'tokens, 'text> {
     }
 
     fn enumeration(&mut self, alloc: Global) -> Result<Type, TypeErrorKind>
-        ensures { Answers (λ ty. ty) result self.old self.new (enum_read self.old) (λ dues. due_behind 0 kinds.Enum ++ dues) }
+        ensures { Answers (λ ty. ty) result self.old self.new (enum_read self.old) (λ expectations. expected_behind 0 kinds.Enum ++ expectations) }
     {
         self.expect("{")?;
         let names = self.names(alloc, "}")?;
@@ -567,7 +567,7 @@ impl<'tokens, 'text> Reader<'tokens, 'text> {
     }
 
     fn flags(&mut self, alloc: Global) -> Result<Type, TypeErrorKind>
-        ensures { Answers (λ ty. ty) result self.old self.new (flags_read self.old) (λ dues. due_behind 0 kinds.Flags ++ dues) }
+        ensures { Answers (λ ty. ty) result self.old self.new (flags_read self.old) (λ expectations. expected_behind 0 kinds.Flags ++ expectations) }
     {
         self.expect("{")?;
         let names = self.names(alloc, "}")?;

@@ -2,10 +2,10 @@
 ghost use Rattle.std.specs.Prelude.{◌≡◌, IfOk, Some, map, string_bytes, ◌↔◌, IsTrue, true, ◌≢◌, None};
 ghost use Rattle.wave_wasm.specs.Types as type;
 ghost use Rattle.wave_wasm.specs.Lists.{AllOf};
-ghost use Rattle.wave_wasm.specs.Types.{maybe_type, every_maybe, can_be_made, IsRepresentable};
+ghost use Rattle.wave_wasm.specs.Types.{maybe_type, every_maybe, can_be_built, IsRepresentable};
 ghost use Rattle.wave_wasm.specs.Borrowed.{texts, named};
 ghost use Rattle.wave_type.specs.Private.TypeModel.{IsSimple};
-ghost use Rattle.wave_type.specs.TypeMade.{simple_type, record_type, tuple_type, variant_type, enum_type, flags_type, map_type};
+ghost use Rattle.wave_type.specs.TypeConstructors.{simple_type, record_type, tuple_type, variant_type, enum_type, flags_type, map_type};
 
 use self::distinct::{cases_are_distinct, fields_are_distinct};
 use self::index::first_places;
@@ -368,7 +368,7 @@ fn are_own(types: &Vec<Type>)
 
 // Says nothing at run time: the payload's type, where there is one, has a tree of a type.
 fn payload_is_own(payload: &Option<Type>)
-    ensures { every_maybe can_be_made (maybe_type payload.now) ≡ true }
+    ensures { every_maybe can_be_built (maybe_type payload.now) ≡ true }
 {
     if let Some(ty) = payload {
         let _ = &ty.shape;

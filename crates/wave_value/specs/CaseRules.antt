@@ -12,7 +12,7 @@ use Rattle.wave_wasm.specs.declared.wasm.WasmValueError.{WasmValueError}
 use Rattle.wave_wasm.specs.declared.wasm.WasmValueError.TheVariants as error
 use Rattle.wave_value.specs.TypedValue.{TypedValue}
 use Rattle.wave_value.specs.ValueModel.{first_names}
-use Rattle.wave_value.specs.ConstructorRules.{Made, PayloadOwn, TellsKind, RefusesPayload}
+use Rattle.wave_value.specs.ConstructorRules.{Built, PayloadOwn, TellsKind, RefusesPayload}
 
 -- ---- variants
 
@@ -55,8 +55,8 @@ RefusesFlags T handed e = (kind_of T ≡ kinds.Flags) × RefusesNames (flags_nam
 -- ---- maps
 
 -- the map has the entries as they are handed over, and is a value of the type, its own
-abbrev pub MadeMap : List (TypedValue × TypedValue) → TypeTree → TypedValue → Type 0
-MadeMap handed T v = (all : List (Leaf × Value)) × (map (λ e. (e.0.tree, e.1.tree)) handed ≡ leaf_entries all) × Made (value.map (entries all)) T v
+abbrev pub BuiltMap : List (TypedValue × TypedValue) → TypeTree → TypedValue → Type 0
+BuiltMap handed T v = (all : List (Leaf × Value)) × (map (λ e. (e.0.tree, e.1.tree)) handed ≡ leaf_entries all) × Built (value.map (entries all)) T v
 
 -- each key's own type is the first, each value's the second
 abbrev pub EntriesOwn : TypeTree → TypeTree → List (TypedValue × TypedValue) → Type 0

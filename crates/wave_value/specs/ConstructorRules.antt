@@ -17,7 +17,7 @@ use Rattle.wave_wasm.specs.declared.wasm.WasmValueError.TheVariants as error
 use Rattle.wave_value.specs.TypedValue.{TypedValue}
 
 -- the value means what was asked for, which is a value of the type, its own
-pub record Made (asked : Value) (T : TypeTree) (v : TypedValue) : Type 0 where
+pub record Built (asked : Value) (T : TypeTree) (v : TypedValue) : Type 0 where
   pub own : v.own ≡ T
   pub tree : v.tree ≡ asked
   pub fits : HasType T asked

@@ -13,7 +13,7 @@ use Rattle.wave_wasm.specs.declared.wasm.WasmValueError.{WasmValueError}
 use Rattle.wave_wasm.specs.declared.wasm.WasmValueError.TheVariants as error
 use Rattle.wave_value.specs.TypedValue.{TypedValue}
 use Rattle.wave_value.specs.ValueModel.{first_names, trees, beside}
-use Rattle.wave_value.specs.ConstructorRules.{Made, TellsKind, TellsOther}
+use Rattle.wave_value.specs.ConstructorRules.{Built, TellsKind, TellsOther}
 
 -- the last value under the name
 abbrev pub last_under : {A : Type 0} → List (List ℕ × A) → List ℕ → Option A
@@ -42,10 +42,10 @@ TakesRecord (type.record_type fs) given =
 TakesRecord _ given = ⊥
 
 -- a record of the last value under each name, in the type's order
-pub record MadeRecord (given : List (List ℕ × TypedValue)) (T : TypeTree) (v : TypedValue) : Type 0 where
+pub record BuiltRecord (given : List (List ℕ × TypedValue)) (T : TypeTree) (v : TypedValue) : Type 0 where
   pub last : List TypedValue
   pub are_last : map (λ f. last_under given f.0) (record_parts T) ≡ map Some last
-  pub made : Made (value.record_value (field_values (beside (first_names (record_parts T)) (trees last)))) T v
+  pub built : Built (value.record_value (field_values (beside (first_names (record_parts T)) (trees last)))) T v
 
 -- a field that is missing or repeated in the type, a name that no field has, a value of another type, or out of memory
 abbrev pub RefusesFields : (TypedValue → List ℕ) → List (List ℕ × TypeTree) → (List ℕ → Option TypedValue) → WasmValueError → Type 0

@@ -3,8 +3,8 @@ use crate::value::Value;
 use std::alloc::{AllocError, Global};
 use wave_type::ty::Type;
 
+mod built;
 mod compounds;
-mod made;
 mod scalars;
 mod tuples;
 
@@ -14,7 +14,7 @@ pub trait IntoValue: Sized + Drop {
     ghost use Rattle.std.specs.Prelude.{◌≡◌, IfOk};
     ghost use Rattle.wave_wasm.specs.Types.{TypeTree, IsRepresentable};
     ghost use Rattle.wave_wasm.specs.Values as value;
-    ghost use Rattle.wave_value.specs.ConstructorRules.{Made};
+    ghost use Rattle.wave_value.specs.ConstructorRules.{Built};
 
     /// The type of all the values.
     ghost own: { TypeTree };
@@ -29,7 +29,7 @@ pub trait IntoValue: Sized + Drop {
     /// The value that this one stands for. It is one of the type that `value_type` answers, its own.
     /// The only error is out of memory.
     fn into_value(self, alloc: Global) -> Result<Value, AllocError>
-        ensures { IfOk result (Made (tree self) own) };
+        ensures { IfOk result (Built (tree self) own) };
 
     /// `Type` has that type.
     ghost is_representable: { IsRepresentable own };

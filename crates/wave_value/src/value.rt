@@ -6,7 +6,7 @@ ghost use Rattle.wave_wasm.specs.Values as value;
 ghost use Rattle.wave_wasm.specs.Values.{kind_of, IsSound};
 ghost use Rattle.wave_wasm.specs.ConstructorContracts.{IsMemory};
 ghost use Rattle.wave_value.specs.ValueModel.{scalar_leaf, boxed};
-ghost use Rattle.wave_value.specs.Private.ValueModel.{ScalarFits, IsAsGood};
+ghost use Rattle.wave_value.specs.Private.ValueModel.{ScalarFits, FitsAsWell};
 ghost use Rattle.wave_value.specs.TypedValue.{MakesOnly, IsTyped, typed_leaf};
 
 use std::alloc::{AllocError, Global};
@@ -198,7 +198,7 @@ impl Value {
 
     /// The value of `string`, a copy of this text. It is refused only for lack of memory.
     pub fn make_string(alloc: Global, val: &str) -> Result<Value, WasmValueError>
-        ensures made { IfOk result (λ v. (v ≡ typed_leaf (value.string val.now)) × IsSound (value.string val.now)) }
+        ensures built { IfOk result (λ v. (v ≡ typed_leaf (value.string val.now)) × IsSound (value.string val.now)) }
         ensures refused { IfErr result IsMemory }
     {
         Ok(string_value(String::from_str(alloc, val)?))
@@ -350,7 +350,7 @@ fn string_value(text: String) -> Value
 // A copy of the content.
 #[cycle(clone)]
 fn clone_content(alloc: Global, content: &Content) -> Result<Content, AllocError>
-    ensures { IfOk result (λ c. IsAsGood c content.now) }
+    ensures { IfOk result (λ c. FitsAsWell c content.now) }
 {
     match content {
         Content::Scalar(one) => Ok(Content::Scalar(*one)),

@@ -94,52 +94,52 @@ leaf_entries es = map (λ e. (value.leaf e.0, e.1)) es
 
 module _ {S : Type 0} (tree : S → Value) (of : S → TypeTree → Type 0) where
   -- what was asked for is a value at the type; what was made means it, and is of the type
-  pub record Makes (asked : Value) (T : TypeTree) (made : S) : Type 0 where
-    pub means : tree made ≡ asked
+  pub record Makes (asked : Value) (T : TypeTree) (built : S) : Type 0 where
+    pub means : tree built ≡ asked
     pub fits : HasType T asked
-    pub is_of : of made T
+    pub is_of : of built T
 
   -- a bool, a whole number, a char or a string
   abbrev pub MakesLeaf : Leaf → S → Type 0
-  MakesLeaf one made = Makes (value.leaf one) (type.simple (leaf_type one)) made
+  MakesLeaf one built = Makes (value.leaf one) (type.simple (leaf_type one)) built
 
   abbrev pub MakesList : TypeTree → List S → S → Type 0
-  MakesList T items made = HasDistinctNames T → Makes (list_value T (map tree items)) T made
+  MakesList T items built = HasDistinctNames T → Makes (list_value T (map tree items)) T built
 
   abbrev pub MakesTuple : TypeTree → List S → S → Type 0
-  MakesTuple T items made = HasDistinctNames T → Makes (value.tuple (values (map tree items))) T made
+  MakesTuple T items built = HasDistinctNames T → Makes (value.tuple (values (map tree items))) T built
 
   -- a record of the fields that are handed over, each under another name, in whatever order
   abbrev pub MakesRecord : TypeTree → List (Bor (List ℕ) × S) → S → Type 0
-  MakesRecord T fields made =
+  MakesRecord T fields built =
       HasDistinctNames T → AreDistinct (map (λ f. f.0.now) fields)
-      → (all : FieldValues) × IsPermutation (field_trees tree fields) (value.field_list all) × Makes (value.record_value all) T made
+      → (all : FieldValues) × IsPermutation (field_trees tree fields) (value.field_list all) × Makes (value.record_value all) T built
 
   abbrev pub MakesVariant : TypeTree → List ℕ → Option S → S → Type 0
-  MakesVariant T name payload made =
-      HasDistinctNames T → Makes (value.variant name (maybe_value (option_map tree payload))) T made
+  MakesVariant T name payload built =
+      HasDistinctNames T → Makes (value.variant name (maybe_value (option_map tree payload))) T built
 
   abbrev pub MakesEnum : TypeTree → List ℕ → S → Type 0
-  MakesEnum T name made = HasDistinctNames T → Makes (value.enum name) T made
+  MakesEnum T name built = HasDistinctNames T → Makes (value.enum name) T built
 
   abbrev pub MakesOption : TypeTree → Option S → S → Type 0
-  MakesOption T payload made = HasDistinctNames T → Makes (value.option (maybe_value (option_map tree payload))) T made
+  MakesOption T payload built = HasDistinctNames T → Makes (value.option (maybe_value (option_map tree payload))) T built
 
   abbrev pub MakesResult : TypeTree → Result (Option S) (Option S) → S → Type 0
-  MakesResult T payload made = HasDistinctNames T → Makes (result_value (either_tree tree payload)) T made
+  MakesResult T payload built = HasDistinctNames T → Makes (result_value (either_tree tree payload)) T built
 
   -- flags whose names are handed over without a repetition, those of the type in the type's order
   abbrev pub MakesFlags : TypeTree → List (Bor (List ℕ)) → S → Type 0
-  MakesFlags T names made =
+  MakesFlags T names built =
       HasDistinctNames T → AreDistinct (texts names)
       → ArePicked (type.flags_names T) (filter (is_one_of (type.flags_names T)) (texts names))
-      → Makes (value.flags (texts names)) T made
+      → Makes (value.flags (texts names)) T built
 
   -- a map of the entries as they are handed over
   abbrev pub MakesMap : TypeTree → List (S × S) → S → Type 0
-  MakesMap T handed made =
+  MakesMap T handed built =
       HasDistinctNames T
-      → (all : List (Leaf × Value)) × (entry_trees tree handed ≡ leaf_entries all) × Makes (value.map (entries all)) T made
+      → (all : List (Leaf × Value)) × (entry_trees tree handed ≡ leaf_entries all) × Makes (value.map (entries all)) T built
 
 -- ---- what a refusal says at a full type
 

@@ -292,28 +292,28 @@ has_names [] = false
 has_names (name ∷ more) = true
 
 -- neither unsupported, nor a record, tuple, variant, enum or flags without parts, nor longer than a u32 can say
-abbrev pub can_be_made : TypeTree → Bool
-can_be_made (simple S) = true
-can_be_made (unreadable f32) = true
-can_be_made (unreadable f64) = true
-can_be_made (unreadable unsupported) = false
-can_be_made (list E) = true
-can_be_made (fixed E n) = nat_lt n (2 ^ 32)
-can_be_made (record_type no_fields) = false
-can_be_made (record_type (field name T more)) = true
-can_be_made (tuple no_types) = false
-can_be_made (tuple (type_and T more)) = true
-can_be_made (variant no_cases) = false
-can_be_made (variant (case_of name payload more)) = true
-can_be_made (enum names) = has_names names
-can_be_made (option P) = true
-can_be_made (result A B) = true
-can_be_made (flags names) = has_names names
-can_be_made (map K V) = true
+abbrev pub can_be_built : TypeTree → Bool
+can_be_built (simple S) = true
+can_be_built (unreadable f32) = true
+can_be_built (unreadable f64) = true
+can_be_built (unreadable unsupported) = false
+can_be_built (list E) = true
+can_be_built (fixed E n) = nat_lt n (2 ^ 32)
+can_be_built (record_type no_fields) = false
+can_be_built (record_type (field name T more)) = true
+can_be_built (tuple no_types) = false
+can_be_built (tuple (type_and T more)) = true
+can_be_built (variant no_cases) = false
+can_be_built (variant (case_of name payload more)) = true
+can_be_built (enum names) = has_names names
+can_be_built (option P) = true
+can_be_built (result A B) = true
+can_be_built (flags names) = has_names names
+can_be_built (map K V) = true
 
 -- `Type` can have this tree
 abbrev pub is_representable : TypeTree → Bool
-is_representable T = every can_be_made T
+is_representable T = every can_be_built T
 
 -- T is a tree of `Type`
 abbrev pub IsRepresentable : TypeTree → Type 0

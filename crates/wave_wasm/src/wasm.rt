@@ -125,13 +125,13 @@ pub enum WasmValueError {
     UnknownField(String),
     /// A type of this word has no values here.
     UnsupportedType(String),
-    /// A fixed-length list of `want` elements was due, and `got` were given.
+    /// A fixed-length list of `want` elements was expected, and `got` were given.
     WrongNumberOfElements { want: u32, got: usize },
-    /// `want` items were due, and `got` were given.
+    /// `want` items were expected, and `got` were given.
     WrongNumberOfTupleValues { want: usize, got: usize },
-    /// A type of this kind was due; the type given has the text `ty`.
+    /// A type of this kind was expected; the type given has the text `ty`.
     WrongTypeKind { kind: WasmTypeKind, ty: String },
-    /// A value of the type with the text `ty` was due; the value given has the text `val`.
+    /// A value of the type with the text `ty` was expected; the value given has the text `val`.
     WrongValueType { ty: String, val: String },
     /// Another cause, in these words.
     Other(String),
@@ -324,67 +324,67 @@ pub trait WasmValue: Sized + Drop {
 
     /// The value of `bool`.
     fn make_bool(alloc: Global, val: bool) -> Result<Self, WasmValueError>
-        ensures made { IfOk result (MakesLeaf tree is_of (value.bool val)) }
+        ensures built { IfOk result (MakesLeaf tree is_of (value.bool val)) }
         ensures full { IfErr result (FullLeaf is_full (value.bool val)) };
 
     /// The value of `s8`.
     fn make_s8(alloc: Global, val: i8) -> Result<Self, WasmValueError>
-        ensures made { IfOk result (MakesLeaf tree is_of (value.whole type.s8 val)) }
+        ensures built { IfOk result (MakesLeaf tree is_of (value.whole type.s8 val)) }
         ensures full { IfErr result (FullLeaf is_full (value.whole type.s8 val)) };
 
     /// The value of `s16`.
     fn make_s16(alloc: Global, val: i16) -> Result<Self, WasmValueError>
-        ensures made { IfOk result (MakesLeaf tree is_of (value.whole type.s16 val)) }
+        ensures built { IfOk result (MakesLeaf tree is_of (value.whole type.s16 val)) }
         ensures full { IfErr result (FullLeaf is_full (value.whole type.s16 val)) };
 
     /// The value of `s32`.
     fn make_s32(alloc: Global, val: i32) -> Result<Self, WasmValueError>
-        ensures made { IfOk result (MakesLeaf tree is_of (value.whole type.s32 val)) }
+        ensures built { IfOk result (MakesLeaf tree is_of (value.whole type.s32 val)) }
         ensures full { IfErr result (FullLeaf is_full (value.whole type.s32 val)) };
 
     /// The value of `s64`.
     fn make_s64(alloc: Global, val: i64) -> Result<Self, WasmValueError>
-        ensures made { IfOk result (MakesLeaf tree is_of (value.whole type.s64 val)) }
+        ensures built { IfOk result (MakesLeaf tree is_of (value.whole type.s64 val)) }
         ensures full { IfErr result (FullLeaf is_full (value.whole type.s64 val)) };
 
     /// The value of `u8`.
     fn make_u8(alloc: Global, val: u8) -> Result<Self, WasmValueError>
-        ensures made { IfOk result (MakesLeaf tree is_of (value.whole type.u8 (pos val))) }
+        ensures built { IfOk result (MakesLeaf tree is_of (value.whole type.u8 (pos val))) }
         ensures full { IfErr result (FullLeaf is_full (value.whole type.u8 (pos val))) };
 
     /// The value of `u16`.
     fn make_u16(alloc: Global, val: u16) -> Result<Self, WasmValueError>
-        ensures made { IfOk result (MakesLeaf tree is_of (value.whole type.u16 (pos val))) }
+        ensures built { IfOk result (MakesLeaf tree is_of (value.whole type.u16 (pos val))) }
         ensures full { IfErr result (FullLeaf is_full (value.whole type.u16 (pos val))) };
 
     /// The value of `u32`.
     fn make_u32(alloc: Global, val: u32) -> Result<Self, WasmValueError>
-        ensures made { IfOk result (MakesLeaf tree is_of (value.whole type.u32 (pos val))) }
+        ensures built { IfOk result (MakesLeaf tree is_of (value.whole type.u32 (pos val))) }
         ensures full { IfErr result (FullLeaf is_full (value.whole type.u32 (pos val))) };
 
     /// The value of `u64`.
     fn make_u64(alloc: Global, val: u64) -> Result<Self, WasmValueError>
-        ensures made { IfOk result (MakesLeaf tree is_of (value.whole type.u64 (pos val))) }
+        ensures built { IfOk result (MakesLeaf tree is_of (value.whole type.u64 (pos val))) }
         ensures full { IfErr result (FullLeaf is_full (value.whole type.u64 (pos val))) };
 
     /// The value of `char`.
     fn make_char(alloc: Global, val: char) -> Result<Self, WasmValueError>
-        ensures made { IfOk result (MakesLeaf tree is_of (value.char val)) }
+        ensures built { IfOk result (MakesLeaf tree is_of (value.char val)) }
         ensures full { IfErr result (FullLeaf is_full (value.char val)) };
 
     /// The value of `string`.
     fn make_string(alloc: Global, val: &str) -> Result<Self, WasmValueError>
-        ensures made { IfOk result (MakesLeaf tree is_of (value.string val.now)) }
+        ensures built { IfOk result (MakesLeaf tree is_of (value.string val.now)) }
         ensures full { IfErr result (FullLeaf is_full (value.string val.now)) };
 
     /// The list or fixed-length list of these items.
     fn make_list(alloc: Global, ty: &Self::Type, vals: Vec<Self>) -> Result<Self, WasmValueError>
-        ensures made { IfOk result (MakesList tree is_of (Self.Type.tree ty.now) vals.items) }
+        ensures built { IfOk result (MakesList tree is_of (Self.Type.tree ty.now) vals.items) }
         ensures full { IfErr result (FullList is_of is_full (Self.Type.tree ty.now) vals.items) };
 
     /// The tuple of these items.
     fn make_tuple(alloc: Global, ty: &Self::Type, vals: Vec<Self>) -> Result<Self, WasmValueError>
-        ensures made { IfOk result (MakesTuple tree is_of (Self.Type.tree ty.now) vals.items) }
+        ensures built { IfOk result (MakesTuple tree is_of (Self.Type.tree ty.now) vals.items) }
         ensures full { IfErr result (FullTuple is_of is_full (Self.Type.tree ty.now) vals.items) };
 
     /// The record of these fields, whose names are distinct, in whatever order.
@@ -393,7 +393,7 @@ pub trait WasmValue: Sized + Drop {
         ty: &Self::Type,
         fields: Vec<(&str, Self)>,
     ) -> Result<Self, WasmValueError>
-        ensures made { IfOk result (MakesRecord tree is_of (Self.Type.tree ty.now) fields.entry.items) }
+        ensures built { IfOk result (MakesRecord tree is_of (Self.Type.tree ty.now) fields.entry.items) }
         ensures full { IfErr result (FullRecord is_of is_full (Self.Type.tree ty.now) fields.entry.items) };
 
     /// The case with its payload.
@@ -403,12 +403,12 @@ pub trait WasmValue: Sized + Drop {
         case: &str,
         val: Option<Self>,
     ) -> Result<Self, WasmValueError>
-        ensures made { IfOk result (MakesVariant tree is_of (Self.Type.tree ty.now) case.now val) }
+        ensures built { IfOk result (MakesVariant tree is_of (Self.Type.tree ty.now) case.now val) }
         ensures full { IfErr result (FullVariant is_of is_full (Self.Type.tree ty.now) case.now val) };
 
     /// The case.
     fn make_enum(alloc: Global, ty: &Self::Type, case: &str) -> Result<Self, WasmValueError>
-        ensures made { IfOk result (MakesEnum tree is_of (Self.Type.tree ty.now) case.now) }
+        ensures built { IfOk result (MakesEnum tree is_of (Self.Type.tree ty.now) case.now) }
         ensures full { IfErr result (FullEnum is_of is_full (Self.Type.tree ty.now) case.now) };
 
     /// `some` of the payload, or `none`.
@@ -417,7 +417,7 @@ pub trait WasmValue: Sized + Drop {
         ty: &Self::Type,
         val: Option<Self>,
     ) -> Result<Self, WasmValueError>
-        ensures made { IfOk result (MakesOption tree is_of (Self.Type.tree ty.now) val) }
+        ensures built { IfOk result (MakesOption tree is_of (Self.Type.tree ty.now) val) }
         ensures full { IfErr result (FullOption is_of is_full (Self.Type.tree ty.now) val) };
 
     /// `ok` or `err` with its payload.
@@ -426,12 +426,12 @@ pub trait WasmValue: Sized + Drop {
         ty: &Self::Type,
         val: Result<Option<Self>, Option<Self>>,
     ) -> Result<Self, WasmValueError>
-        ensures made { IfOk result (MakesResult tree is_of (Self.Type.tree ty.now) val) }
+        ensures built { IfOk result (MakesResult tree is_of (Self.Type.tree ty.now) val) }
         ensures full { IfErr result (FullResult is_of is_full (Self.Type.tree ty.now) val) };
 
     /// The flags of these names, distinct and in the type's order.
     fn make_flags(alloc: Global, ty: &Self::Type, names: &[&str]) -> Result<Self, WasmValueError>
-        ensures made { IfOk result (MakesFlags tree is_of (Self.Type.tree ty.now) names.now) }
+        ensures built { IfOk result (MakesFlags tree is_of (Self.Type.tree ty.now) names.now) }
         ensures full { IfErr result (FullFlags is_of is_full (Self.Type.tree ty.now) names.now) };
 
     /// The map of these entries, as they are handed over.
@@ -440,7 +440,7 @@ pub trait WasmValue: Sized + Drop {
         ty: &Self::Type,
         entries: Vec<(Self, Self)>,
     ) -> Result<Self, WasmValueError>
-        ensures made { IfOk result (MakesMap tree is_of (Self.Type.tree ty.now) entries.items) }
+        ensures built { IfOk result (MakesMap tree is_of (Self.Type.tree ty.now) entries.items) }
         ensures full { IfErr result (FullMap is_of is_full (Self.Type.tree ty.now) entries.items) };
 
     /// The same as `make_list`, of items that a list of the type has; they are taken out of `vals`.
@@ -452,7 +452,7 @@ pub trait WasmValue: Sized + Drop {
         vals: &mut Vec<Self>,
     ) -> Result<Self, WasmValueError>
         requires { HasDistinctNames (Self.Type.tree ty.now) → TypedList is_of (Self.Type.tree ty.now) vals.now.items }
-        ensures made { IfOk result (MakesList tree is_of (Self.Type.tree ty.now) vals.old.items) }
+        ensures built { IfOk result (MakesList tree is_of (Self.Type.tree ty.now) vals.old.items) }
         ensures full { IfErr result (FullList is_of is_full (Self.Type.tree ty.now) vals.old.items) }
     {
         Self::make_list(alloc, ty, replace(vals, Vec::new(alloc)))
@@ -467,7 +467,7 @@ pub trait WasmValue: Sized + Drop {
         vals: &mut Vec<Self>,
     ) -> Result<Self, WasmValueError>
         requires { HasDistinctNames (Self.Type.tree ty.now) → TypedTuple is_of (Self.Type.tree ty.now) vals.now.items }
-        ensures made { IfOk result (MakesTuple tree is_of (Self.Type.tree ty.now) vals.old.items) }
+        ensures built { IfOk result (MakesTuple tree is_of (Self.Type.tree ty.now) vals.old.items) }
         ensures full { IfErr result (FullTuple is_of is_full (Self.Type.tree ty.now) vals.old.items) }
     {
         Self::make_tuple(alloc, ty, replace(vals, Vec::new(alloc)))
@@ -482,7 +482,7 @@ pub trait WasmValue: Sized + Drop {
         fields: &mut Vec<(&str, Self)>,
     ) -> Result<Self, WasmValueError>
         requires { HasDistinctNames (Self.Type.tree ty.now) → TypedRecord is_of (Self.Type.tree ty.now) fields.now.items }
-        ensures made { IfOk result (MakesRecord tree is_of (Self.Type.tree ty.now) fields.old.items) }
+        ensures built { IfOk result (MakesRecord tree is_of (Self.Type.tree ty.now) fields.old.items) }
         ensures full { IfErr result (FullRecord is_of is_full (Self.Type.tree ty.now) fields.old.items) }
     {
         Self::make_record(alloc, ty, replace(fields, Vec::new(alloc)))
@@ -498,7 +498,7 @@ pub trait WasmValue: Sized + Drop {
         val: &mut Option<Self>,
     ) -> Result<Self, WasmValueError>
         requires { HasDistinctNames (Self.Type.tree ty.now) → TypedVariant is_of (Self.Type.tree ty.now) case.now val.now }
-        ensures made { IfOk result (MakesVariant tree is_of (Self.Type.tree ty.now) case.now val.old) }
+        ensures built { IfOk result (MakesVariant tree is_of (Self.Type.tree ty.now) case.now val.old) }
         ensures full { IfErr result (FullVariant is_of is_full (Self.Type.tree ty.now) case.now val.old) }
     {
         Self::make_variant(alloc, ty, case, val.take())
@@ -513,7 +513,7 @@ pub trait WasmValue: Sized + Drop {
         val: &mut Option<Self>,
     ) -> Result<Self, WasmValueError>
         requires { HasDistinctNames (Self.Type.tree ty.now) → TypedOption is_of (Self.Type.tree ty.now) val.now }
-        ensures made { IfOk result (MakesOption tree is_of (Self.Type.tree ty.now) val.old) }
+        ensures built { IfOk result (MakesOption tree is_of (Self.Type.tree ty.now) val.old) }
         ensures full { IfErr result (FullOption is_of is_full (Self.Type.tree ty.now) val.old) }
     {
         Self::make_option(alloc, ty, val.take())
@@ -528,7 +528,7 @@ pub trait WasmValue: Sized + Drop {
         val: &mut Result<Option<Self>, Option<Self>>,
     ) -> Result<Self, WasmValueError>
         requires { HasDistinctNames (Self.Type.tree ty.now) → TypedResult is_of (Self.Type.tree ty.now) val.now }
-        ensures made { IfOk result (MakesResult tree is_of (Self.Type.tree ty.now) val.old) }
+        ensures built { IfOk result (MakesResult tree is_of (Self.Type.tree ty.now) val.old) }
         ensures full { IfErr result (FullResult is_of is_full (Self.Type.tree ty.now) val.old) }
     {
         Self::make_result(alloc, ty, replace(val, Ok(None)))
@@ -543,7 +543,7 @@ pub trait WasmValue: Sized + Drop {
         entries: &mut Vec<(Self, Self)>,
     ) -> Result<Self, WasmValueError>
         requires { HasDistinctNames (Self.Type.tree ty.now) → TypedMap is_of (Self.Type.tree ty.now) entries.now.items }
-        ensures made { IfOk result (MakesMap tree is_of (Self.Type.tree ty.now) entries.old.items) }
+        ensures built { IfOk result (MakesMap tree is_of (Self.Type.tree ty.now) entries.old.items) }
         ensures full { IfErr result (FullMap is_of is_full (Self.Type.tree ty.now) entries.old.items) }
     {
         Self::make_map(alloc, ty, replace(entries, Vec::new(alloc)))

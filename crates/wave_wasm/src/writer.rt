@@ -217,9 +217,9 @@ impl<W: TextWrite> Writer<W> {
         let Some(last) = items.pop() else {
             return self.write_text(closing);
         };
-        let front = items.as_slice();
-        let written = self.write_rows(front)?;
-        for item in &front[written..] {
+        let others = items.as_slice();
+        let written = self.write_rows(others)?;
+        for item in &others[written..] {
             self.write_value(alloc, *item)?;
             self.write_text(", ")?;
         }

@@ -14,13 +14,13 @@ returns-clause-refused g c =
     writing_refused v r c.to_string.ensures.err (refused_so v r c.to_string.ensures.err)
 
 pub returns-clause-equal : goal.returns-clause-equal
-returns-clause-equal g c = λ T good of other also. equal_texts T good _ other of also
+returns-clause-equal g c = λ T labelled of other also. equal_texts T labelled _ other of also
 
 pub returns-clause-back : goal.returns-clause-back
-returns-clause-back g c = λ T good own of. reads_back T good own _ of
+returns-clause-back g c = λ T labelled own of. reads_back T labelled own _ of
 
 pub returns-clause-again : goal.returns-clause-again
 returns-clause-again g c = λ T n back low. text_means T n _ back low
 
 pub returns-clause-twice : goal.returns-clause-twice
-returns-clause-twice g c = λ T good own. reads_back_within_twice T good own
+returns-clause-twice g c = λ T labelled own. reads_back_within_twice T labelled own

@@ -10,13 +10,13 @@ ghost use Rattle.wave_grammar.specs.TypedReading.{IsValueOf};
 ghost use Rattle.wave_tree.specs.UntypedCall.{IsCalledOf, IsNoCall};
 ghost use Rattle.wasm_wave.specs.EscapeMarks.{IsSyntaxMark};
 ghost use Rattle.wasm_wave.specs.ValueExplained.{is_of_type, IsPartMark, IsUnexpected};
-ghost use Rattle.wasm_wave.specs.CallExplained.{Gives, parameter_text, TellsParameter, HasNoParameter, TellsExpectedInCall, IsCallExplained, IsUntypedCallExplained};
+ghost use Rattle.wasm_wave.specs.CallExplained.{Gives, parameter_text, ReportsParameter, HasNoParameter, ReportsExpectedInCall, IsCallExplained, IsUntypedCallExplained};
 
 use super::open::open_line_in_call;
 use super::params::params_lines;
 use super::path::item_at;
 use super::syntax::Reading;
-use super::value::{block, explain_syntax, first_refused, is_of_type, tell_part};
+use super::value::{block, explain_syntax, first_refused, is_of_type, report_part};
 use crate::ast::Node;
 use crate::untyped::UntypedFuncCall;
 use crate::wasm::WasmFunc;
@@ -27,7 +27,7 @@ use wave_lex::lex::Span;
 
 /// The refusal of a whole text as a call of the function, by `UntypedFuncCall::parse` or by
 /// `to_wasm_params`: what `explain` shows, and beside it the path to the part of a parameter that is
-/// wrong, the type that is due there, and hints how to mend it, on at most three lines that begin with
+/// wrong, the type that is expected there, and hints how to mend it, on at most three lines that begin with
 /// `=`:
 ///
 /// ```text
@@ -97,7 +97,7 @@ fn explain_params<F: WasmFunc>(
 {
     let mut path = String::new(alloc);
     let mut lines = String::new(alloc);
-    let mark = tell_params(alloc, error, source, call, func, &mut path, &mut lines)?;
+    let mark = report_params(alloc, error, source, call, func, &mut path, &mut lines)?;
     let message = error.to_string(alloc)?;
     block(
         alloc,
@@ -124,7 +124,7 @@ fn explain_call_alone<F: WasmFunc>(
     explain_syntax(alloc, error, source, Reading::Call, more.as_str())
 }
 
-/// The call that the source is, read without types, where the refusal tells a fault of its parameters.
+/// The call that the source is, read without types, where the refusal is of a fault of its parameters.
 fn called(
     alloc: Global,
     kind: ParserErrorKind,
@@ -146,7 +146,7 @@ fn called(
     }
 }
 
-/// Whether the kind tells a fault of the parameters of a call.
+/// Whether the kind is that of a fault of the parameters of a call.
 fn is_of_params(kind: ParserErrorKind) -> bool
     ensures other { result ≡ false → is_of_type kind ≡ false }
     ensures typed { result ≡ true → IsUnexpected kind → ⊥ }
@@ -156,7 +156,7 @@ fn is_of_params(kind: ParserErrorKind) -> bool
 
 /// Adds the path to the part of a parameter that is wrong, where there is one, and the lines; what is to
 /// be marked.
-fn tell_params<F: WasmFunc>(
+fn report_params<F: WasmFunc>(
     alloc: Global,
     error: &ParserError,
     source: &str,
@@ -169,9 +169,9 @@ fn tell_params<F: WasmFunc>(
     requires lines { string_bytes lines.old ≡ [] }
     requires call { IsCalledOf source.now call.now }
     requires kind { IsUnexpected error.now.kind → ⊥ }
-    ensures { IfOk result (λ mark. TellsParameter source.now (F.func func.now) error.now.span (string_bytes path.new) (string_bytes lines.new) × IsPartMark source.now error.now.span mark
+    ensures { IfOk result (λ mark. ReportsParameter source.now (F.func func.now) error.now.span (string_bytes path.new) (string_bytes lines.new) × IsPartMark source.now error.now.span mark
         ⊎ (string_bytes path.new ≡ []) × HasNoParameter error.now.kind source.now (F.func func.now).params error.now.span × IsSyntaxMark source.now error.now mark
-        × (IsUnexpected error.now.kind → TellsExpectedInCall source.now error.now.span.start (string_bytes lines.new))) }
+        × (IsUnexpected error.now.kind → ReportsExpectedInCall source.now error.now.span.start (string_bytes lines.new))) }
 {
     let types = func.params(alloc)?;
     let names = func.param_names(alloc)?;
@@ -179,7 +179,7 @@ fn tell_params<F: WasmFunc>(
     match value_at(error.kind(), call, types.len(), &span) {
         Some((i, value)) => {
             push_parameter(path, &names, i)?;
-            tell_part(alloc, error, source, value, types[i], path, lines)
+            report_part(alloc, error, source, value, types[i], path, lines)
         }
         None => {
             let hints = params_lines(alloc, error, call, &types, &names)?;

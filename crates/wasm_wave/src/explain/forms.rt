@@ -7,7 +7,7 @@ use std::alloc::{AllocError, Global};
 use wave_lex::error::ParserError;
 use wave_wasm::keyword::Keyword;
 
-/// What helps where a value of another form is due.
+/// What helps where a value of another form is expected.
 pub(crate) fn form_hint<T: WasmType>(
     alloc: Global,
     error: &ParserError,
@@ -29,7 +29,7 @@ pub(crate) fn form_hint<T: WasmType>(
     }
 }
 
-/// What helps where a case is due: a keyword that is the name of one takes a `%`.
+/// What helps where a case is expected: a keyword that is the name of one takes a `%`.
 fn case_hint<T: WasmType>(
     alloc: Global,
     text: &str,
@@ -105,7 +105,7 @@ fn push_payload(
     Ok(())
 }
 
-/// What helps where a record is due, and this stands in place of a key.
+/// What helps where a record is expected, and this stands in place of a key.
 fn record_hint(alloc: Global, key: &str, form: NodeType) -> Result<String, AllocError> {
     match form {
         NodeType::EmptySet => line(alloc, "an empty record is written {:}"),
@@ -121,7 +121,7 @@ fn record_hint(alloc: Global, key: &str, form: NodeType) -> Result<String, Alloc
     }
 }
 
-/// What helps where flags are due.
+/// What helps where flags are expected.
 fn flags_hint(alloc: Global, source: &str, node: &Node) -> Result<String, AllocError> {
     let text = text_of(source, node);
     match node.ty() {

@@ -23,7 +23,7 @@ pub(crate) struct Hints {
     pub(crate) mark: Option<Span>,
 }
 
-/// What helps against the refusal at the node, where a value of the type is due.
+/// What helps against the refusal at the node, where a value of the type is expected.
 pub(crate) fn hints_of<T: WasmType>(
     alloc: Global,
     error: &ParserError,
@@ -85,12 +85,12 @@ pub(crate) fn line(alloc: Global, hint: &str) -> Result<String, AllocError> {
 /// Adds a line of these three.
 pub(crate) fn push_hint(
     lines: &mut String,
-    front: &str,
+    prefix: &str,
     name: &str,
     back: &str,
 ) -> Result<(), AllocError> {
     lines.push_str("  = ")?;
-    lines.push_str(front)?;
+    lines.push_str(prefix)?;
     push_first(lines, name, SHOWN)?;
     lines.push_str(back)?;
     lines.push_str("\n")

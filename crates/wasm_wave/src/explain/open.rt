@@ -13,7 +13,7 @@ use wave_lex::lex::{Lexer, Span, Token};
 /// How many scalars of a type are shown.
 const TYPE_SHOWN: usize = 60;
 
-/// The line that says where in the value at the type the place is that was refused, and which type is due
+/// The line that says where in the value at the type the place is that was refused, and which type is expected
 /// there; none where that is the whole value.
 pub(crate) fn open_line<T: WasmType>(
     alloc: Global,
@@ -22,14 +22,14 @@ pub(crate) fn open_line<T: WasmType>(
     at: usize,
     ty: &T,
 ) -> Result<String, AllocError> {
-    if !is_told(kind) {
+    if !is_reported(kind) {
         return Ok(String::new(alloc));
     }
     let expected = expected_at(alloc, source, at, MAX_LEVELS)?;
     let mut path = String::new(alloc);
     let brackets = expected.open_brackets.as_slice();
-    let due = open_part(alloc, source, brackets, 0, at, ty, &mut path)?;
-    type_line(alloc, path.as_str(), due)
+    let expected_type = open_part(alloc, source, brackets, 0, at, ty, &mut path)?;
+    type_line(alloc, path.as_str(), expected_type)
 }
 
 /// The line that says so of a call: the path begins with the parameter.
@@ -41,7 +41,7 @@ pub(crate) fn open_line_in_call<F: WasmFunc>(
     func: &F,
 ) -> Result<String, AllocError> {
     let mut path = String::new(alloc);
-    if !is_told(kind) {
+    if !is_reported(kind) {
         return Ok(path);
     }
     let Some(expected) = expected_in_call_at(alloc, source, at)? else {
@@ -56,17 +56,17 @@ pub(crate) fn open_line_in_call<F: WasmFunc>(
     };
     let place = Passed::between(source, first.end, end);
     let types = func.params(alloc)?;
-    if place.commas >= types.len() || inner.is_empty() && !place.is_due {
+    if place.commas >= types.len() || inner.is_empty() && !place.is_needed {
         return Ok(path);
     }
     push_parameter(&mut path, &func.param_names(alloc)?, place.commas)?;
     let ty = types[place.commas];
-    let due = open_part(alloc, source, inner, first.end, at, ty, &mut path)?;
-    type_line(alloc, path.as_str(), due)
+    let expected_type = open_part(alloc, source, inner, first.end, at, ty, &mut path)?;
+    type_line(alloc, path.as_str(), expected_type)
 }
 
 /// Whether a refusal of the kind stands in a part that is open.
-fn is_told(kind: ParserErrorKind) -> bool {
+fn is_reported(kind: ParserErrorKind) -> bool {
     matches!(
         kind,
         ParserErrorKind::InvalidToken
@@ -75,7 +75,7 @@ fn is_told(kind: ParserErrorKind) -> bool {
     )
 }
 
-/// The line that says which type is due at the path; none where that is empty.
+/// The line that says which type is expected at the path; none where that is empty.
 fn type_line<T: WasmType>(alloc: Global, path: &str, ty: &T) -> Result<String, AllocError> {
     let mut lines = String::new(alloc);
     if !path.is_empty() {
@@ -104,7 +104,7 @@ enum Around {
     Payload,
 }
 
-/// The innermost part at the place that can be told, of the type's value that begins at `start`, and its
+/// The innermost part at the place that can be determined, of the type's value that begins at `start`, and its
 /// type; the path to it is added. These brackets are open at the place.
 fn open_part<'a, T: WasmType>(
     alloc: Global,
@@ -132,7 +132,7 @@ fn open_part<'a, T: WasmType>(
         from = bracket.end;
     }
     let place = Passed::between(source, from, at);
-    if !place.is_due {
+    if !place.is_needed {
         return Ok(part);
     }
     match value_at(alloc, source, around, part, &place, path)? {
@@ -141,7 +141,7 @@ fn open_part<'a, T: WasmType>(
     }
 }
 
-/// The type of the value at the place within a part of the type, where that can be told; the step to it is
+/// The type of the value at the place within a part of the type, where that can be determined; the step to it is
 /// added.
 fn value_at<'a, T: WasmType>(
     alloc: Global,
@@ -256,8 +256,8 @@ struct Passed {
     last: Option<Span>,
     /// The last token before a colon there.
     key: Option<Span>,
-    /// Whether a value is due at the place: no token stands behind the last comma or colon.
-    is_due: bool,
+    /// Whether a value is expected at the place: no token stands behind the last comma or colon.
+    is_needed: bool,
 }
 
 impl Passed {
@@ -267,7 +267,7 @@ impl Passed {
             commas: 0,
             last: None,
             key: None,
-            is_due: true,
+            is_needed: true,
         };
         let mut depth = 0_usize;
         let mut lexer = Lexer::new(source.get(from..to).unwrap_or(""));
@@ -294,20 +294,20 @@ impl Passed {
                 self.commas = self.commas.saturating_add(1);
                 self.last = None;
                 self.key = None;
-                self.is_due = true;
+                self.is_needed = true;
             }
             Token::Colon => {
                 self.key = self.last.take();
-                self.is_due = true;
+                self.is_needed = true;
             }
             _ => {
                 self.last = Some(span);
-                self.is_due = false;
+                self.is_needed = false;
             }
         }
     }
 
-    /// The text of the key before the place, where a value is due behind it or stands there.
+    /// The text of the key before the place, where a value is expected behind it or stands there.
     fn key<'source>(&self, source: &'source str) -> Option<&'source str> {
         let span = self.key.as_ref()?;
         source.get(span.start..span.end)

@@ -42,7 +42,7 @@ pub(crate) fn own_or_line(
 /// Adds the author's text: of its first line at most so many scalars, and `…` where there is more.
 pub(crate) fn push_own(lines: &mut String, text: &str) -> Result<(), AllocError> {
     let first = match text.split_once('\n') {
-        Some((front, _)) => front.trim_end(),
+        Some((prefix, _)) => prefix.trim_end(),
         None => text,
     };
     push_first(lines, first, OWN_SHOWN)?;

@@ -1,4 +1,4 @@
-//! The part of a value where a span lies, the type that is due there, and the path to it.
+//! The part of a value where a span lies, the type that is expected there, and the path to it.
 ghost use Rattle.std.specs.Prelude.{ℕ, ◌≡◌, ◌≢◌, ◌<◌, ◌++◌, List, Some, codes, option_map, slice_get, IfOk, IfSome, IfNone, IsTrue, ◌↔◌};
 ghost use Rattle.std.specs.String.{string_bytes};
 ghost use Rattle.std.specs.Fmt.{decimal};
@@ -27,7 +27,7 @@ use wave_lex::lex::Span;
 /// How many scalars of a key are shown in a path.
 const KEY_SHOWN: usize = 24;
 
-/// The deepest part of the value that holds the span, and the type that is due there; the path to it
+/// The deepest part of the value that holds the span, and the type that is expected there; the path to it
 /// is added. The node was parsed from `source`, as a value.
 pub(crate) fn part_at<'a, T: WasmType>(
     alloc: Global,

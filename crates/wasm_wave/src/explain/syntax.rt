@@ -1,11 +1,11 @@
 //! How a fault of syntax may be mended.
 ghost use Rattle.std.specs.Prelude.{IfOk};
 ghost use Rattle.std.specs.String.{string_bytes};
-ghost use Rattle.wasm_wave.specs.ValueExplained.{IsUnexpected, TellsExpected};
+ghost use Rattle.wasm_wave.specs.ValueExplained.{IsUnexpected, ReportsExpected};
 ghost use Rattle.wasm_wave.specs.Private.Readings.{MayStandAs, TellsAs};
 
-use super::due::push_line;
 use super::escape::unknown_escape;
+use super::expected::push_line;
 use super::hints::{ESCAPES, line, push_hint};
 use super::is_invisible;
 use super::word::word_hint;
@@ -80,7 +80,7 @@ fn expected_line(
 
 /// The line that says what may stand there, where anything may.
 fn line_of(alloc: Global, expected: &Expected) -> Result<String, AllocError>
-    ensures { IfOk result (λ lines. TellsExpected expected.now (string_bytes lines)) }
+    ensures { IfOk result (λ lines. ReportsExpected expected.now (string_bytes lines)) }
 {
     let mut lines = String::new(alloc);
     if !expected.classes.is_empty() || expected.may_end {
@@ -154,7 +154,7 @@ fn name_end(source: &str) -> Option<usize> {
 /// Whether nothing but blanks stands before the place on its line, which isn't the first.
 fn begins_line(source: &str, at: usize) -> bool {
     let place = place_of(source, at);
-    place.line > 1 && place.front.trim().is_empty()
+    place.line > 1 && place.prefix.trim().is_empty()
 }
 
 // ---- the end

@@ -4,11 +4,11 @@ ghost use Rattle.std.specs.String.{string_bytes};
 ghost use Rattle.wave_wasm.specs.Types.{TypeTree};
 ghost use Rattle.wave_lex.specs.Errors.{error_text};
 ghost use Rattle.wave_grammar.specs.TypedReading.{IsValueOf};
-ghost use Rattle.wasm_wave.specs.ValueExplained.{is_of_type, HasNoPart, IsFront, TellsPart, IsPartMark, IsBlock, IsUntypedExplained, IsSyntaxExplained, IsValueExplained, heading_with_path, before_path};
+ghost use Rattle.wasm_wave.specs.ValueExplained.{is_of_type, HasNoPart, IsPrefix, ReportsPart, IsPartMark, IsBlock, IsUntypedExplained, IsSyntaxExplained, IsValueExplained, heading_with_path, before_path};
 ghost use Rattle.wasm_wave.specs.Private.Readings.{TellsAs};
 
-use super::due::push_expected;
 use super::escape::syntax_mark;
+use super::expected::push_expected;
 use super::hints::hints_of;
 use super::open::open_line;
 use super::path::part_at;
@@ -25,7 +25,7 @@ use wave_lex::error::{ParserError, ParserErrorKind};
 use wave_lex::lex::Span;
 
 /// The refusal of a whole text at the type, by `from_str`, or by `Parser::parse_value` and `finish`: what
-/// `explain` shows, and beside it the path to the part of the value that is wrong, the type that is due
+/// `explain` shows, and beside it the path to the part of the value that is wrong, the type that is expected
 /// there, and hints how to mend it, on at most three lines that begin with `=`:
 ///
 /// ```text
@@ -67,13 +67,13 @@ fn explain_part<T: WasmType>(
     value: &UntypedValue<'_>,
     ty: &T,
 ) -> Result<String, AllocError>
-    requires { IsFront source.now value.now }
+    requires { IsPrefix source.now value.now }
     ensures { IfOk result (λ text. IsValueExplained source.now (T.tree ty.now) error.now (string_bytes text)) }
 {
     let mut path = String::new(alloc);
     let mut lines = String::new(alloc);
     let node = value.node();
-    let mark = tell_part(alloc, error, source, node, ty, &mut path, &mut lines)?;
+    let mark = report_part(alloc, error, source, node, ty, &mut path, &mut lines)?;
     let message = error.to_string(alloc)?;
     block(
         alloc,
@@ -157,13 +157,13 @@ pub(crate) fn first_refused(error: &ParserError, source: &str) -> usize {
     }
 }
 
-/// The value that begins the source, read without a type, where the refusal tells a fault of type.
+/// The value that begins the source, read without a type, where the refusal is of a fault of type.
 fn untyped(
     alloc: Global,
     kind: ParserErrorKind,
     source: &str,
 ) -> Result<Option<UntypedValue<'_>>, AllocError>
-    ensures value { IfOk result (λ r. IfSome r (IsFront source.now)) }
+    ensures value { IfOk result (λ r. IfSome r (IsPrefix source.now)) }
     ensures none { IfOk result (λ r. IfNone r (HasNoPart kind source.now)) }
 {
     if !is_of_type(kind) {
@@ -179,7 +179,7 @@ fn untyped(
     }
 }
 
-/// Whether the kind tells a fault of a value at its type.
+/// Whether the kind is that of a fault of a value at its type.
 pub(crate) fn is_of_type(kind: ParserErrorKind) -> bool
     ensures { result ≡ is_of_type kind }
 {
@@ -194,9 +194,9 @@ pub(crate) fn is_of_type(kind: ParserErrorKind) -> bool
     )
 }
 
-/// Adds the path from the node to the part of it that is wrong, and the lines that say what is due there;
+/// Adds the path from the node to the part of it that is wrong, and the lines that say what is expected there;
 /// what is to be marked.
-pub(crate) fn tell_part<T: WasmType>(
+pub(crate) fn report_part<T: WasmType>(
     alloc: Global,
     error: &ParserError,
     source: &str,
@@ -207,8 +207,8 @@ pub(crate) fn tell_part<T: WasmType>(
 ) -> Result<Span, AllocError>
     requires lines { string_bytes lines.old ≡ [] }
     requires value { IsValueOf source.now node.now }
-    ensures told { IfOk result (λ _. (way : List ℕ) × (string_bytes path.new ≡ string_bytes path.old ++ way)
-        × TellsPart source.now error.now.span node.now (T.tree ty.now) way (string_bytes lines.new)) }
+    ensures reported { IfOk result (λ _. (way : List ℕ) × (string_bytes path.new ≡ string_bytes path.old ++ way)
+        × ReportsPart source.now error.now.span node.now (T.tree ty.now) way (string_bytes lines.new)) }
     ensures mark { IfOk result (λ mark. IsPartMark source.now error.now.span mark) }
 {
     let span = error.span();
@@ -248,7 +248,7 @@ pub(crate) fn block(
     let place = place_of(source, mark.start);
     let mut text = heading_with_path(alloc, message, &place, path)?;
     let marked = marked_of(place.rest, mark.end.saturating_sub(place.at));
-    let shown = shown_lines(alloc, place.front, place.rest, marked)?;
+    let shown = shown_lines(alloc, place.prefix, place.rest, marked)?;
     text.push_str(shown.as_str())?;
     text.push_str(lines)?;
     Ok(text)

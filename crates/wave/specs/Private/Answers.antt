@@ -55,8 +55,8 @@ module _ {R : Type 0} where
 
 module _ {W : Type 0} (contents : W → Option (List ℕ)) where
   -- the refusal's text was printed at status 1, which isn't out of memory; or out of memory at status 3
-  abbrev pub TellsRefusal : Output W → Output W → Diagnostic → ℕ → Type 0
-  TellsRefusal old new e result =
+  abbrev pub ReportsRefusal : Output W → Output W → Diagnostic → ℕ → Type 0
+  ReportsRefusal old new e result =
       (e.kind ≢ kind.OutOfMemory) × Prints contents old new (line (error_text e)) 1 result
       ⊎ Prints contents old new (line (words_of_fault OutOfMemory)) 3 result
 

@@ -27,4 +27,4 @@ ShowsLast held old new is_shown last = MatchBool is_shown (WritesWhole held old 
 
 -- a beginning of the text that was held was written, and the rest is held
 abbrev pub Releases : {W : Type 0} → (W → Option (List ℕ)) → Output W → Output W → List ℕ → List ℕ → Type 0
-Releases contents before after held rest = (front : List ℕ) × (held ≡ front ++ rest) × WritesWhole contents before after front
+Releases contents before after held rest = (prefix : List ℕ) × (held ≡ prefix ++ rest) × WritesWhole contents before after prefix

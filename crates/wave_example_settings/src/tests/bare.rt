@@ -71,7 +71,7 @@ fn has_text(rt: HostRuntime, val: &Bare, text: &str) -> Result<bool, Fail> {
 }
 
 /// What the answer is: the text of the value, or the refusal's words and place.
-fn told(rt: HostRuntime, answer: Result<Bare, ParserError>) -> Result<String, Fail> {
+fn reported(rt: HostRuntime, answer: Result<Bare, ParserError>) -> Result<String, Fail> {
     match answer {
         Ok(val) => Ok(to_string(rt.alloc(), &val)?),
         Err(error) => Ok(format!(in rt.alloc(); "{error}")?),
@@ -86,8 +86,8 @@ fn read_late(rt: HostRuntime, ty: &Type, text: &str) -> Result<Bare, ParserError
 /// What the text answers at the type, or both answers where it is read otherwise without the type
 /// first.
 fn answer(rt: HostRuntime, ty: &Type, text: &str) -> Result<String, Fail> {
-    let found = told(rt, from_str(rt.alloc(), ty, text))?;
-    let late = told(rt, read_late(rt, ty, text))?;
+    let found = reported(rt, from_str(rt.alloc(), ty, text))?;
+    let late = reported(rt, read_late(rt, ty, text))?;
     match found == late {
         true => Ok(found),
         false => Ok(format!(in rt.alloc(); "{found} or {late}")?),

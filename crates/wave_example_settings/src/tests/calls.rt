@@ -14,7 +14,7 @@ fn types(rt: HostRuntime) -> Result<Vec<NameSet>, AllocError> {
 }
 
 /// What the call answers, or the words of its refusal.
-fn told(rt: HostRuntime, text: &str) -> Result<String, Fail> {
+fn reported(rt: HostRuntime, text: &str) -> Result<String, Fail> {
     let types = types(rt)?;
     let result = NameSet::new(rt.alloc(), &["read", "write", "exec"])?;
     match answer(rt.alloc(), types.as_slice(), &result, text) {
@@ -26,16 +26,16 @@ fn told(rt: HostRuntime, text: &str) -> Result<String, Fail> {
 #[test]
 fn calls_are_answered(rt: HostRuntime) -> Result<(), Fail> {
     assert_eq!(rt;
-        told(rt, "join({exec, read}, {write, exec})")?.as_str(),
+        reported(rt, "join({exec, read}, {write, exec})")?.as_str(),
         "{read, exec, write}"
     );
-    assert_eq!(rt; told(rt, "meet({}, {})")?.as_str(), "no such function");
+    assert_eq!(rt; reported(rt, "meet({}, {})")?.as_str(), "no such function");
     Ok(())
 }
 
 #[test]
 fn calls_are_refused(rt: HostRuntime) -> Result<(), Fail> {
-    let refusal = told(rt, "join({exec}, {run})")?;
+    let refusal = reported(rt, "join({exec}, {run})")?;
     assert_eq!(rt;
         refusal.as_str(),
         "error converting Wasm value: unknown case \"run\" at 13..18"

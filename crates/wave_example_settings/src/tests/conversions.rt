@@ -5,7 +5,7 @@ use wasm_wave::wasm::WasmType;
 use wave_example_flags::name_set::NameSet;
 
 /// The text of the type that is made of this one, or `none`.
-fn made<T: WasmType>(rt: HostRuntime, ty: &T) -> Result<String, Fail> {
+fn built<T: WasmType>(rt: HostRuntime, ty: &T) -> Result<String, Fail> {
     match Type::from_wasm_type(rt.alloc(), ty)? {
         Some(ty) => Ok(format!(in rt.alloc(); "{ty}")?),
         None => Ok(String::from_str(rt.alloc(), "none")?),
@@ -15,8 +15,8 @@ fn made<T: WasmType>(rt: HostRuntime, ty: &T) -> Result<String, Fail> {
 #[test]
 fn of_names(rt: HostRuntime) -> Result<(), Fail> {
     let names = NameSet::new(rt.alloc(), &["read", "write", "exec"])?;
-    assert_eq!(rt; made(rt, &names)?.as_str(), "flags { read, write, exec }");
+    assert_eq!(rt; built(rt, &names)?.as_str(), "flags { read, write, exec }");
     let names = NameSet::new(rt.alloc(), &[])?;
-    assert_eq!(rt; made(rt, &names)?.as_str(), "none");
+    assert_eq!(rt; built(rt, &names)?.as_str(), "none");
     Ok(())
 }

@@ -26,7 +26,7 @@ fn shown(rt: HostRuntime, value: &OrderedFlags) -> Result<String, Fail> {
 }
 
 /// What was read, or how it was refused.
-fn told(rt: HostRuntime, answer: Result<OrderedFlags, ParserError>) -> Result<String, Fail> {
+fn reported(rt: HostRuntime, answer: Result<OrderedFlags, ParserError>) -> Result<String, Fail> {
     match answer {
         Ok(value) => shown(rt, &value),
         Err(error) => Ok(format!(in rt.alloc(); "{error}")?),
@@ -34,7 +34,7 @@ fn told(rt: HostRuntime, answer: Result<OrderedFlags, ParserError>) -> Result<St
 }
 
 /// What was made, or how it was refused.
-fn made(rt: HostRuntime, answer: Result<OrderedFlags, WasmValueError>) -> Result<String, Fail> {
+fn built(rt: HostRuntime, answer: Result<OrderedFlags, WasmValueError>) -> Result<String, Fail> {
     match answer {
         Ok(value) => shown(rt, &value),
         Err(error) => Ok(format!(in rt.alloc(); "{error}")?),
@@ -50,8 +50,8 @@ fn permissions(rt: HostRuntime) -> Result<NameSet, Fail> {
 fn wrong(rt: HostRuntime, ty: &NameSet, rows: &[(&str, &str)]) -> Result<String, Fail> {
     for row in rows {
         let (text, expected) = *row;
-        let early = told(rt, read_flags(rt.alloc(), ty, text))?;
-        let late = told(rt, read_late(rt.alloc(), ty, text))?;
+        let early = reported(rt, read_flags(rt.alloc(), ty, text))?;
+        let late = reported(rt, read_late(rt.alloc(), ty, text))?;
         if early.as_str() != expected || late.as_str() != expected {
             return Ok(format!(in rt.alloc(); "{text} gives {early} and {late}")?);
         }
@@ -83,14 +83,14 @@ fn read_in_the_order_of_the_type(rt: HostRuntime) -> Result<(), Fail> {
 
 /// What is made of the names.
 fn flags(rt: HostRuntime, names: &[&str]) -> Result<String, Fail> {
-    made(
+    built(
         rt,
         OrderedFlags::make_flags(rt.alloc(), &permissions(rt)?, names),
     )
 }
 
 #[test]
-fn made_in_the_order_of_the_names(rt: HostRuntime) -> Result<(), Fail> {
+fn built_in_the_order_of_the_names(rt: HostRuntime) -> Result<(), Fail> {
     for (first, second, expected) in [
         ("exec", "write", "exec write {exec, write}"),
         ("exec", "exec", "a name stands twice"),
@@ -104,7 +104,7 @@ fn made_in_the_order_of_the_names(rt: HostRuntime) -> Result<(), Fail> {
 
 #[test]
 fn a_value_of_another_kind(rt: HostRuntime) -> Result<(), Fail> {
-    let number = made(rt, OrderedFlags::make_u8(rt.alloc(), 1))?;
+    let number = built(rt, OrderedFlags::make_u8(rt.alloc(), 1))?;
     assert_eq!(rt; number.as_str(), "unsupported type u8");
     Ok(())
 }

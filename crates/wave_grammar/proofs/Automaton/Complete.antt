@@ -1,4 +1,4 @@
--- Tokens that lead from where a value is due to its end are those of a tree.
+-- Tokens that lead from where a value is expected to its end are those of a tree.
 use Rattle.std.proofs.Common.{ℕ, zero, suc, ◌≡◌, ◌≢◌, ◌<◌, ◌≤◌, ◌+◌, inl, inr, List, [], ◌∷◌, ◌++◌, length, Bool, true, false, refl, sym, ap, subst, ◌∙◌, arith}
 use Rattle.std.specs.Prelude.{◌⊎◌, nat_lt, if◌then◌else◌, map}
 use Rattle.std.specs.Str.{bytes_eq}
@@ -12,25 +12,25 @@ use Rattle.wave_grammar.specs.TypedGrammar.{InParens}
 use Rattle.wave_grammar.specs.Tree as tree
 use Rattle.wave_grammar.specs.Tree.{Tree, MaybeTree, trees, tree_entries, in_order, ATree, Takes, KeyAnd, Label, MaybeInParens, InBraces, BehindWord, IsKey, Word, word_of, leaf_word, none_word, some_word, ok_word, err_word, case_word}
 use Rattle.wave_grammar.specs.PrefixLaws.{EndsBefore, AcceptedTokensHaveATree}
-use Rattle.wave_grammar.specs.PrefixAutomaton as due
+use Rattle.wave_grammar.specs.PrefixAutomaton as expectation
 use Rattle.wave_grammar.specs.PrefixAutomaton.{Expectation, StackSymbol, value, first_item, next_item, behind_value, behind_label, Step, too_deep, unexpected, reads, step, Shifts, closes, level_step, value_step, behind_step, key_step, behind_flag_step, flag_step}
 use Rattle.wave_grammar.proofs.Automaton.Sound.{IsEnd, end_step, item_step, HasItems, close_of, close_token, next_closes, on_level, AllNew}
 
--- what is due when these forms are, where the same token leads
+-- what is expected where these forms are open, where the same token leads
 after : (n : ℕ) (x : Step) (d f e : Expectation) (s q r : List StackSymbol) (ts : List Token) → x ≡ reads d s → x ≡ reads f q → Shifts n f q ts e r → Shifts n d s ts e r
 after n x d f e s q r ts h k leads =
     let same : reads f q ≡ reads d s = sym k ∙ h in
     let forms : q ≡ s = cc in
-    let dues : f ≡ d = cc in
-    subst (λ z. Shifts n d z ts e r) forms (subst (λ z. Shifts n z q ts e r) dues leads)
+    let expectations : f ≡ d = cc in
+    subst (λ z. Shifts n d z ts e r) forms (subst (λ z. Shifts n z q ts e r) expectations leads)
 
--- more is due of a value, or a form is open
+-- more is expected of a value, or a form is open
 abbrev IsWithin : Expectation → Type 0
 IsWithin behind_value = ⊥
 IsWithin behind_label = ⊥
 IsWithin _ = Unit {0}
 
--- where more is due no tree has ended
+-- where more is expected no tree has ended
 not_end : (d e : Expectation) (x : List Token) → IsWithin d → IsEnd e x → d ≡ e → ⊥
 not_end d e x w (inl k) h = subst IsWithin (h ∙ k) w
 not_end d e x w (inr (k, apart)) h = subst IsWithin (h ∙ k) w
@@ -43,7 +43,7 @@ IsTaken {A} n s P ts x e = (a : A) × (d : Expectation) × (rest : List Token) �
 abbrev pub IsClosed : {A : Type 0} → ℕ → List StackSymbol → Spelling A → List Token → List Token → Expectation → Type 0
 IsClosed {A} n s P ts x e = (a : A) × (rest : List Token) × P (ts ++ x) a (rest ++ x) × Shifts n behind_value s rest e [] × (length rest < length ts)
 
--- P takes a prefix of all tokens that lead from where a value is due within s to the end of all
+-- P takes a prefix of all tokens that lead from where a value is expected within s to the end of all
 abbrev pub AreTaken : ℕ → List StackSymbol → Spelling Tree → Type 0
 AreTaken n s P = (ts x : List Token) (e : Expectation) → IsEnd e x → Shifts n value s ts e [] → IsTaken n s P ts x e
 
@@ -51,30 +51,30 @@ AreTaken n s P = (ts x : List Token) (e : Expectation) → IsEnd e x → Shifts 
 
 -- a comma after a value
 abbrev after_comma : StackSymbol → List StackSymbol → Step
-after_comma due.tuple s = reads next_item (due.tuple ∷ s)
-after_comma due.list s = reads next_item (due.list ∷ s)
-after_comma due.payload s = unexpected
-after_comma due.entries s = reads due.key s
+after_comma expectation.tuple s = reads next_item (expectation.tuple ∷ s)
+after_comma expectation.list s = reads next_item (expectation.list ∷ s)
+after_comma expectation.payload s = unexpected
+after_comma expectation.entries s = reads expectation.key s
 
 -- after a value within a form stands its close or a comma
 behind_reads : (f : StackSymbol) (s : List StackSymbol) (t : Token) (d : Expectation) (r : List StackSymbol) → behind_step (f ∷ s) t ≡ reads d r → (t ≡ close_of f) × (reads behind_value s ≡ reads d r) ⊎ (t ≡ comma) × (after_comma f s ≡ reads d r)
-behind_reads due.tuple s comma d r h = inr (refl, h)
-behind_reads due.tuple s paren_close d r h = inl (refl, h)
-behind_reads due.list s comma d r h = inr (refl, h)
-behind_reads due.list s bracket_close d r h = inl (refl, h)
-behind_reads due.payload s paren_close d r h = inl (refl, h)
-behind_reads due.entries s comma d r h = inr (refl, h)
-behind_reads due.entries s brace_close d r h = inl (refl, h)
+behind_reads expectation.tuple s comma d r h = inr (refl, h)
+behind_reads expectation.tuple s paren_close d r h = inl (refl, h)
+behind_reads expectation.list s comma d r h = inr (refl, h)
+behind_reads expectation.list s bracket_close d r h = inl (refl, h)
+behind_reads expectation.payload s paren_close d r h = inl (refl, h)
+behind_reads expectation.entries s comma d r h = inr (refl, h)
+behind_reads expectation.entries s brace_close d r h = inl (refl, h)
 behind_reads f s t d r h = let k : unexpected ≡ reads d r = h in cc
 
--- after an item and a comma a further item is due
+-- after an item and a comma a further item is expected
 comma_items : (f : StackSymbol) (s : List StackSymbol) → HasItems f → after_comma f s ≡ reads next_item (f ∷ s)
-comma_items due.tuple s i = refl
-comma_items due.list s i = refl
+comma_items expectation.tuple s i = refl
+comma_items expectation.list s i = refl
 comma_items f s i = absurd i
 
 -- a key or the close of its braces
-key_reads : (s : List StackSymbol) (t : Token) (d : Expectation) (r : List StackSymbol) → key_step s t ≡ reads d r → (t ≡ brace_close) × (reads behind_value s ≡ reads d r) ⊎ IsKey t × (reads due.behind_key s ≡ reads d r)
+key_reads : (s : List StackSymbol) (t : Token) (d : Expectation) (r : List StackSymbol) → key_step s t ≡ reads d r → (t ≡ brace_close) × (reads behind_value s ≡ reads d r) ⊎ IsKey t × (reads expectation.behind_key s ≡ reads d r)
 key_reads s brace_close d r h = inl (refl, h)
 key_reads s (number text) d r h = inr (tt, h)
 key_reads s (label text) d r h = inr (tt, h)
@@ -84,23 +84,23 @@ key_reads s (multiline text) d r h = inr (tt, h)
 key_reads s t d r h = let k : unexpected ≡ reads d r = h in cc
 
 -- the colon of a key
-colon_reads : (n : ℕ) (s : List StackSymbol) (t : Token) (d : Expectation) (r : List StackSymbol) → step n due.behind_key s t ≡ reads d r → (t ≡ colon) × (reads value (due.entries ∷ s) ≡ reads d r)
+colon_reads : (n : ℕ) (s : List StackSymbol) (t : Token) (d : Expectation) (r : List StackSymbol) → step n expectation.behind_key s t ≡ reads d r → (t ≡ colon) × (reads value (expectation.entries ∷ s) ≡ reads d r)
 colon_reads n s colon d r h = (refl, h)
 colon_reads n s t d r h = let k : unexpected ≡ reads d r = h in cc
 
 -- the close of `{:`
-brace_reads : (n : ℕ) (s : List StackSymbol) (t : Token) (d : Expectation) (r : List StackSymbol) → step n due.no_fields s t ≡ reads d r → (t ≡ brace_close) × (reads behind_value s ≡ reads d r)
+brace_reads : (n : ℕ) (s : List StackSymbol) (t : Token) (d : Expectation) (r : List StackSymbol) → step n expectation.no_fields s t ≡ reads d r → (t ≡ brace_close) × (reads behind_value s ≡ reads d r)
 brace_reads n s brace_close d r h = (refl, h)
 brace_reads n s t d r h = let k : unexpected ≡ reads d r = h in cc
 
 -- the open parenthesis of a payload
-paren_reads : (n : ℕ) (s : List StackSymbol) (t : Token) (d : Expectation) (r : List StackSymbol) → step n due.paren s t ≡ reads d r → (t ≡ paren_open) × (reads value (due.payload ∷ s) ≡ reads d r)
+paren_reads : (n : ℕ) (s : List StackSymbol) (t : Token) (d : Expectation) (r : List StackSymbol) → step n expectation.paren s t ≡ reads d r → (t ≡ paren_open) × (reads value (expectation.payload ∷ s) ≡ reads d r)
 paren_reads n s paren_open d r h = (refl, h)
 paren_reads n s t d r h = let k : unexpected ≡ reads d r = h in cc
 
 -- a comma or the close after a flag
 behind_flag_reads : (names : List (List ℕ)) (s : List StackSymbol) (t : Token) (d : Expectation) (r : List StackSymbol) → behind_flag_step names s t ≡ reads d r →
-    (t ≡ brace_close) × (reads behind_value s ≡ reads d r) ⊎ (t ≡ comma) × (reads (due.flag names) s ≡ reads d r)
+    (t ≡ brace_close) × (reads behind_value s ≡ reads d r) ⊎ (t ≡ comma) × (reads (expectation.flag names) s ≡ reads d r)
 behind_flag_reads names s brace_close d r h = inl (refl, h)
 behind_flag_reads names s comma d r h = inr (refl, h)
 behind_flag_reads names s t d r h = let k : unexpected ≡ reads d r = h in cc
@@ -112,12 +112,12 @@ passed false x y d r apart h = (refl, h)
 
 -- a new flag or the close
 flag_reads : (names : List (List ℕ)) (s : List StackSymbol) (t : Token) (d : Expectation) (r : List StackSymbol) → flag_step names s t ≡ reads d r →
-    (t ≡ brace_close) × (reads behind_value s ≡ reads d r) ⊎ ((text : List ℕ) × (t ≡ label text) × (is_one_of names (name_of text) ≡ false) × (reads (due.behind_flag (names ++ name_of text ∷ [])) s ≡ reads d r))
+    (t ≡ brace_close) × (reads behind_value s ≡ reads d r) ⊎ ((text : List ℕ) × (t ≡ label text) × (is_one_of names (name_of text) ≡ false) × (reads (expectation.behind_flag (names ++ name_of text ∷ [])) s ≡ reads d r))
 flag_reads names s brace_close d r h = inl (refl, h)
-flag_reads names s (label text) d r h = let (a, b) = passed (is_one_of names (name_of text)) due.repeated_flag _ d r (λ k. cc) h in inr (text, refl, a, b)
+flag_reads names s (label text) d r h = let (a, b) = passed (is_one_of names (name_of text)) expectation.repeated_flag _ d r (λ k. cc) h in inr (text, refl, a, b)
 flag_reads names s t d r h = let k : unexpected ≡ reads d r = h in cc
 
--- the close or an item, where an item is due
+-- the close or an item, where an item is expected
 item_or_close : (n : ℕ) (d : Expectation) (f : StackSymbol) (s : List StackSymbol) (t : Token) (e : Expectation) (r : List StackSymbol) → (d ≡ first_item) ⊎ (d ≡ next_item) → step n d (f ∷ s) t ≡ reads e r → (t ≡ close_of f) ⊎ (step n value (f ∷ s) t ≡ reads e r)
 item_or_close n d f s t e r at h = which (closes (f ∷ s) t) refl
   where
@@ -158,14 +158,14 @@ further_taken (suc m) n f s P x e i end taken (t ∷ ts) d l start (d', s', h, l
     which next (inr (same, k)) = subst (λ z. IsClosed n s (FurtherItems (close_of f) P) (z ∷ ts) x e) (sym same) (next (after n _ next_item d' e (f ∷ s) s' [] ts (comma_items f s i) k leads))
 
 -- only a list may close before its first item
-first_closes : (n : ℕ) (f : StackSymbol) (s : List StackSymbol) (d : Expectation) (r : List StackSymbol) → HasItems f → step n first_item (f ∷ s) (close_of f) ≡ reads d r → (f ≡ due.list) × (reads behind_value s ≡ reads d r)
-first_closes n due.tuple s d r i h = let k : due.empty_tuple ≡ reads d r = h in cc
-first_closes n due.list s d r i h = (refl, h)
+first_closes : (n : ℕ) (f : StackSymbol) (s : List StackSymbol) (d : Expectation) (r : List StackSymbol) → HasItems f → step n first_item (f ∷ s) (close_of f) ≡ reads d r → (f ≡ expectation.list) × (reads behind_value s ≡ reads d r)
+first_closes n expectation.tuple s d r i h = let k : expectation.empty_tuple ≡ reads d r = h in cc
+first_closes n expectation.list s d r i h = (refl, h)
 first_closes n f s d r i h = absurd i
 
 -- the items and the close, at least one item in a tuple
 abbrev ItemsOf : StackSymbol → Spelling Tree → Spelling (List Tree)
-ItemsOf f P tokens items rest = (f ≡ due.tuple → 0 < length items) × Items (close_of f) P tokens items rest
+ItemsOf f P tokens items rest = (f ≡ expectation.tuple → 0 < length items) × Items (close_of f) P tokens items rest
 
 -- the items of a tuple or a list
 items_taken : (n : ℕ) (f : StackSymbol) (s : List StackSymbol) (P : Spelling Tree) (x : List Token) (e : Expectation) → HasItems f → IsEnd e x → AreTaken n (f ∷ s) P → (ts : List Token) → Shifts n first_item (f ∷ s) ts e [] → IsClosed n s (ItemsOf f P) ts x e
@@ -175,7 +175,7 @@ items_taken n f s P x e i end taken (u ∷ us) (d, r, h, more) = which (item_or_
     which : (u ≡ close_of f) ⊎ (step n value (f ∷ s) u ≡ reads d r) → IsClosed n s (ItemsOf f P) (u ∷ us) x e
     which (inl same) =
         let (a_list, k) = first_closes n f s d r i (subst (λ z. step n first_item (f ∷ s) z ≡ reads d r) same h) in
-        ([], us, (λ z. let w : due.tuple ≡ due.list = sym z ∙ a_list in cc, ap (λ z. z ∷ us ++ x) same), after n _ behind_value d e s r [] us refl k more, omega arith)
+        ([], us, (λ z. let w : expectation.tuple ≡ expectation.list = sym z ∙ a_list in cc, ap (λ z. z ∷ us ++ x) same), after n _ behind_value d e s r [] us refl k more, omega arith)
     which (inr same) =
         let (a, b, rest, p, ends, on, less) = taken (u ∷ us) x e end (d, r, same, more) in
         let (items, rest', q, on', less') = further_taken (length rest) n f s P x e i end taken rest b (omega arith) ends on in
@@ -184,49 +184,49 @@ items_taken n f s P x e i end taken (u ∷ us) (d, r, h, more) = which (item_or_
 -- ---- entries
 
 -- a colon, and a value within its entry
-colon_taken : (n : ℕ) (s : List StackSymbol) (P : Spelling Tree) (x : List Token) (e : Expectation) → IsEnd e x → AreTaken n (due.entries ∷ s) P → (ts : List Token) → Shifts n due.behind_key s ts e [] →
-    IsTaken n (due.entries ∷ s) (λ tokens t rest. (front : List Token) × (tokens ≡ colon ∷ front) × P front t rest) ts x e
-colon_taken n s P x e end taken [] (same, no_forms) = absurd (not_end due.behind_key e x tt end same)
+colon_taken : (n : ℕ) (s : List StackSymbol) (P : Spelling Tree) (x : List Token) (e : Expectation) → IsEnd e x → AreTaken n (expectation.entries ∷ s) P → (ts : List Token) → Shifts n expectation.behind_key s ts e [] →
+    IsTaken n (expectation.entries ∷ s) (λ tokens t rest. (prefix : List Token) × (tokens ≡ colon ∷ prefix) × P prefix t rest) ts x e
+colon_taken n s P x e end taken [] (same, no_forms) = absurd (not_end expectation.behind_key e x tt end same)
 colon_taken n s P x e end taken (u ∷ us) (d, r, h, more) =
     let (same, k) = colon_reads n s u d r h in
-    let (a, b, rest, p, ends, on, less) = taken us x e end (after n _ value d e (due.entries ∷ s) r [] us refl k more) in
+    let (a, b, rest, p, ends, on, less) = taken us x e end (after n _ value d e (expectation.entries ∷ s) r [] us refl k more) in
     (a, b, rest, (us ++ x, ap (λ z. z ∷ us ++ x) same, p), ends, on, omega arith)
 
 -- up to m tokens after a value of an entry are further entries and the close
 abbrev TakesEntries : ℕ → ℕ → List StackSymbol → Spelling Tree → List Token → Expectation → Type 0
-TakesEntries m n s P x e = (ts : List Token) (d : Expectation) → length ts ≤ m → IsEnd d (ts ++ x) → Shifts n d (due.entries ∷ s) ts e [] → IsClosed n s (FurtherItems brace_close (KeyAnd P)) ts x e
+TakesEntries m n s P x e = (ts : List Token) (d : Expectation) → length ts ≤ m → IsEnd d (ts ++ x) → Shifts n d (expectation.entries ∷ s) ts e [] → IsClosed n s (FurtherItems brace_close (KeyAnd P)) ts x e
 
 -- the entries after a comma, or the close
-key_taken : (m n : ℕ) (s : List StackSymbol) (P : Spelling Tree) (x : List Token) (e : Expectation) → IsEnd e x → AreTaken n (due.entries ∷ s) P → TakesEntries m n s P x e →
-    (us : List Token) → length us ≤ m → Shifts n due.key s us e [] → IsClosed n s (FurtherItems brace_close (KeyAnd P)) (comma ∷ us) x e
-key_taken m n s P x e end taken further [] l (same, no_forms) = absurd (not_end due.key e x tt end same)
+key_taken : (m n : ℕ) (s : List StackSymbol) (P : Spelling Tree) (x : List Token) (e : Expectation) → IsEnd e x → AreTaken n (expectation.entries ∷ s) P → TakesEntries m n s P x e →
+    (us : List Token) → length us ≤ m → Shifts n expectation.key s us e [] → IsClosed n s (FurtherItems brace_close (KeyAnd P)) (comma ∷ us) x e
+key_taken m n s P x e end taken further [] l (same, no_forms) = absurd (not_end expectation.key e x tt end same)
 key_taken m n s P x e end taken further (u ∷ us) l (d, r, h, more) = which (key_reads s u d r h)
   where
-    which : (u ≡ brace_close) × (reads behind_value s ≡ reads d r) ⊎ IsKey u × (reads due.behind_key s ≡ reads d r) → IsClosed n s (FurtherItems brace_close (KeyAnd P)) (comma ∷ u ∷ us) x e
+    which : (u ≡ brace_close) × (reads behind_value s ≡ reads d r) ⊎ IsKey u × (reads expectation.behind_key s ≡ reads d r) → IsClosed n s (FurtherItems brace_close (KeyAnd P)) (comma ∷ u ∷ us) x e
     which (inl (same, k)) = ([], us, inr (ap (λ z. comma ∷ z ∷ us ++ x) same), after n _ behind_value d e s r [] us refl k more, omega arith)
     which (inr (key, k)) =
-        let (a, b, rest, (front, same, p), ends, on, less) = colon_taken n s P x e end taken us (after n _ due.behind_key d e s r [] us refl k more) in
+        let (a, b, rest, (prefix, same, p), ends, on, less) = colon_taken n s P x e end taken us (after n _ expectation.behind_key d e s r [] us refl k more) in
         let (all, rest', q, on', less') = further rest b (omega arith) ends on in
-        ((u, a) ∷ all, rest', (u ∷ us ++ x, rest ++ x, refl, (front, ap (λ z. u ∷ z) same, key, p), q), on', omega arith)
+        ((u, a) ∷ all, rest', (u ∷ us ++ x, rest ++ x, refl, (prefix, ap (λ z. u ∷ z) same, key, p), q), on', omega arith)
 
 -- the further entries
-entries_taken : (m n : ℕ) (s : List StackSymbol) (P : Spelling Tree) (x : List Token) (e : Expectation) → IsEnd e x → AreTaken n (due.entries ∷ s) P → TakesEntries m n s P x e
+entries_taken : (m n : ℕ) (s : List StackSymbol) (P : Spelling Tree) (x : List Token) (e : Expectation) → IsEnd e x → AreTaken n (expectation.entries ∷ s) P → TakesEntries m n s P x e
 entries_taken m n s P x e end taken [] d l start (same, no_forms) = cc
 entries_taken zero n s P x e end taken (t ∷ ts) d l start leads = absurd (omega arith)
 entries_taken (suc m) n s P x e end taken (t ∷ ts) d l start (d', s', h, leads) =
-    which (key_taken m n s P x e end taken (entries_taken m n s P x e end taken) ts (omega arith)) (behind_reads due.entries s t d' s' (sym (end_step n d (due.entries ∷ s) t (ts ++ x) start) ∙ h))
+    which (key_taken m n s P x e end taken (entries_taken m n s P x e end taken) ts (omega arith)) (behind_reads expectation.entries s t d' s' (sym (end_step n d (expectation.entries ∷ s) t (ts ++ x) start) ∙ h))
   where
-    which : (Shifts n due.key s ts e [] → IsClosed n s (FurtherItems brace_close (KeyAnd P)) (comma ∷ ts) x e) →
-        (t ≡ brace_close) × (reads behind_value s ≡ reads d' s') ⊎ (t ≡ comma) × (reads due.key s ≡ reads d' s') → IsClosed n s (FurtherItems brace_close (KeyAnd P)) (t ∷ ts) x e
+    which : (Shifts n expectation.key s ts e [] → IsClosed n s (FurtherItems brace_close (KeyAnd P)) (comma ∷ ts) x e) →
+        (t ≡ brace_close) × (reads behind_value s ≡ reads d' s') ⊎ (t ≡ comma) × (reads expectation.key s ≡ reads d' s') → IsClosed n s (FurtherItems brace_close (KeyAnd P)) (t ∷ ts) x e
     which next (inl (same, k)) = ([], ts, inl (ap (λ z. z ∷ ts ++ x) same), after n _ behind_value d' e s s' [] ts refl k leads, omega arith)
-    which next (inr (same, k)) = subst (λ z. IsClosed n s (FurtherItems brace_close (KeyAnd P)) (z ∷ ts) x e) (sym same) (next (after n _ due.key d' e s s' [] ts refl k leads))
+    which next (inr (same, k)) = subst (λ z. IsClosed n s (FurtherItems brace_close (KeyAnd P)) (z ∷ ts) x e) (sym same) (next (after n _ expectation.key d' e s s' [] ts refl k leads))
 
 -- a key, its colon and value, and the further entries
-first_taken : (n : ℕ) (s : List StackSymbol) (P : Spelling Tree) (x : List Token) (e : Expectation) → IsEnd e x → AreTaken n (due.entries ∷ s) P → (t : Token) (ts : List Token) → IsKey t → Shifts n due.behind_key s ts e [] → IsClosed n s (InBraces P) (t ∷ ts) x e
+first_taken : (n : ℕ) (s : List StackSymbol) (P : Spelling Tree) (x : List Token) (e : Expectation) → IsEnd e x → AreTaken n (expectation.entries ∷ s) P → (t : Token) (ts : List Token) → IsKey t → Shifts n expectation.behind_key s ts e [] → IsClosed n s (InBraces P) (t ∷ ts) x e
 first_taken n s P x e end taken t ts key leads =
-    let (a, b, rest, (front, same, p), ends, on, less) = colon_taken n s P x e end taken ts leads in
+    let (a, b, rest, (prefix, same, p), ends, on, less) = colon_taken n s P x e end taken ts leads in
     let (all, rest', q, on', less') = entries_taken (length rest) n s P x e end taken rest b (omega arith) ends on in
-    (tree.entries (tree_entries ((t, a) ∷ all)), rest', inr (inr (inl ((t, a) ∷ all, omega arith, (rest ++ x, (front, ap (λ z. t ∷ z) same, key, p), q), refl))), on', omega arith)
+    (tree.entries (tree_entries ((t, a) ∷ all)), rest', inr (inr (inl ((t, a) ∷ all, omega arith, (rest ++ x, (prefix, ap (λ z. t ∷ z) same, key, p), q), refl))), on', omega arith)
 
 -- ---- flags
 
@@ -235,30 +235,30 @@ abbrev NewFlags : List (List ℕ) → Spelling (List (List ℕ))
 NewFlags names tokens texts rest = FurtherItems brace_close Label tokens texts rest × AllNew names (map name_of texts)
 
 -- the further flags
-flags_taken : (n : ℕ) (s : List StackSymbol) (x : List Token) (e : Expectation) → IsEnd e x → (names : List (List ℕ)) (ts : List Token) → Shifts n (due.behind_flag names) s ts e [] → IsClosed n s (NewFlags names) ts x e
-flags_taken n s x e end names [] (same, no_forms) = absurd (not_end (due.behind_flag names) e x tt end same)
+flags_taken : (n : ℕ) (s : List StackSymbol) (x : List Token) (e : Expectation) → IsEnd e x → (names : List (List ℕ)) (ts : List Token) → Shifts n (expectation.behind_flag names) s ts e [] → IsClosed n s (NewFlags names) ts x e
+flags_taken n s x e end names [] (same, no_forms) = absurd (not_end (expectation.behind_flag names) e x tt end same)
 flags_taken n s x e end names (t ∷ []) (d, r, h, (same, no_forms)) = which (behind_flag_reads names s t d r h)
   where
-    which : (t ≡ brace_close) × (reads behind_value s ≡ reads d r) ⊎ (t ≡ comma) × (reads (due.flag names) s ≡ reads d r) → IsClosed n s (NewFlags names) (t ∷ []) x e
+    which : (t ≡ brace_close) × (reads behind_value s ≡ reads d r) ⊎ (t ≡ comma) × (reads (expectation.flag names) s ≡ reads d r) → IsClosed n s (NewFlags names) (t ∷ []) x e
     which (inl (close, k)) = ([], [], (inl (ap (λ z. z ∷ x) close), tt), after n _ behind_value d e s r [] [] refl k (same, no_forms), omega arith)
-    which (inr (a_comma, k)) = let due_there : due.flag names ≡ d = cc in absurd (not_end (due.flag names) e x tt end (due_there ∙ same))
+    which (inr (a_comma, k)) = let expected_there : expectation.flag names ≡ d = cc in absurd (not_end (expectation.flag names) e x tt end (expected_there ∙ same))
 flags_taken n s x e end names (t ∷ u ∷ us) (d, r, h, (d', r', h', leads)) = which (λ more l. flags_taken n s x e end more us l) (behind_flag_reads names s t d r h)
   where
-    next : ((more : List (List ℕ)) → Shifts n (due.behind_flag more) s us e [] → IsClosed n s (NewFlags more) us x e) →
-        (u ≡ brace_close) × (reads behind_value s ≡ reads d' r') ⊎ ((text : List ℕ) × (u ≡ label text) × (is_one_of names (name_of text) ≡ false) × (reads (due.behind_flag (names ++ name_of text ∷ [])) s ≡ reads d' r')) →
+    next : ((more : List (List ℕ)) → Shifts n (expectation.behind_flag more) s us e [] → IsClosed n s (NewFlags more) us x e) →
+        (u ≡ brace_close) × (reads behind_value s ≡ reads d' r') ⊎ ((text : List ℕ) × (u ≡ label text) × (is_one_of names (name_of text) ≡ false) × (reads (expectation.behind_flag (names ++ name_of text ∷ [])) s ≡ reads d' r')) →
         IsClosed n s (NewFlags names) (comma ∷ u ∷ us) x e
     next flags (inl (close, k)) = ([], us, (inr (ap (λ z. comma ∷ z ∷ us ++ x) close), tt), after n _ behind_value d' e s r' [] us refl k leads, omega arith)
     next flags (inr (text, a_label, new, k)) =
-        let (texts, rest, (q, all), on, less) = flags (names ++ name_of text ∷ []) (after n _ (due.behind_flag (names ++ name_of text ∷ [])) d' e s r' [] us refl k leads) in
+        let (texts, rest, (q, all), on, less) = flags (names ++ name_of text ∷ []) (after n _ (expectation.behind_flag (names ++ name_of text ∷ [])) d' e s r' [] us refl k leads) in
         (text ∷ texts, rest, ((u ∷ us ++ x, us ++ x, refl, ap (λ z. z ∷ us ++ x) a_label, q), (new, all)), on, omega arith)
 
-    which : ((more : List (List ℕ)) → Shifts n (due.behind_flag more) s us e [] → IsClosed n s (NewFlags more) us x e) →
-        (t ≡ brace_close) × (reads behind_value s ≡ reads d r) ⊎ (t ≡ comma) × (reads (due.flag names) s ≡ reads d r) → IsClosed n s (NewFlags names) (t ∷ u ∷ us) x e
+    which : ((more : List (List ℕ)) → Shifts n (expectation.behind_flag more) s us e [] → IsClosed n s (NewFlags more) us x e) →
+        (t ≡ brace_close) × (reads behind_value s ≡ reads d r) ⊎ (t ≡ comma) × (reads (expectation.flag names) s ≡ reads d r) → IsClosed n s (NewFlags names) (t ∷ u ∷ us) x e
     which flags (inl (close, k)) = ([], u ∷ us, (inl (ap (λ z. z ∷ u ∷ us ++ x) close), tt), after n _ behind_value d e s r [] (u ∷ us) refl k (d', r', h', leads), omega arith)
     which flags (inr (a_comma, k)) =
-        let dues : d ≡ due.flag names = cc in
+        let expectations : d ≡ expectation.flag names = cc in
         let forms : r ≡ s = cc in
-        let there : step n (due.flag names) s u ≡ reads d' r' = subst (λ z. step n z s u ≡ reads d' r') dues (subst (λ z. step n d z u ≡ reads d' r') forms h') in
+        let there : step n (expectation.flag names) s u ≡ reads d' r' = subst (λ z. step n z s u ≡ reads d' r') expectations (subst (λ z. step n d z u ≡ reads d' r') forms h') in
         subst (λ z. IsClosed n s (NewFlags names) (z ∷ u ∷ us) x e) (sym a_comma) (next flags (flag_reads names s u d' r' there))
 
 -- one of the names is no new one
@@ -294,17 +294,17 @@ new_distinct names (y ∷ more) (new, all) = (none_of_new (names ++ y ∷ []) mo
 -- ---- braces
 
 -- after the first label in braces a colon, or what may stand after a flag
-word_reads : (text : List ℕ) (s : List StackSymbol) (t : Token) (d : Expectation) (r : List StackSymbol) → due.word_behind_step text s t ≡ reads d r → (t ≡ colon) × (reads value (due.entries ∷ s) ≡ reads d r) ⊎ (behind_flag_step (name_of text ∷ []) s t ≡ reads d r)
+word_reads : (text : List ℕ) (s : List StackSymbol) (t : Token) (d : Expectation) (r : List StackSymbol) → expectation.word_behind_step text s t ≡ reads d r → (t ≡ colon) × (reads value (expectation.entries ∷ s) ≡ reads d r) ⊎ (behind_flag_step (name_of text ∷ []) s t ≡ reads d r)
 word_reads text s colon d r h = inl (refl, h)
 word_reads text s t d r h = inr h
 
 -- what stands after the first label in braces
-word_taken : (n : ℕ) (s : List StackSymbol) (P : Spelling Tree) (x : List Token) (e : Expectation) → IsEnd e x → AreTaken n (due.entries ∷ s) P → (text : List ℕ) (ts : List Token) → Shifts n (due.behind_word text) s ts e [] →
+word_taken : (n : ℕ) (s : List StackSymbol) (P : Spelling Tree) (x : List Token) (e : Expectation) → IsEnd e x → AreTaken n (expectation.entries ∷ s) P → (text : List ℕ) (ts : List Token) → Shifts n (expectation.behind_word text) s ts e [] →
     IsClosed n s (InBraces P) (label text ∷ ts) x e
-word_taken n s P x e end taken text [] (same, no_forms) = absurd (not_end (due.behind_word text) e x tt end same)
+word_taken n s P x e end taken text [] (same, no_forms) = absurd (not_end (expectation.behind_word text) e x tt end same)
 word_taken n s P x e end taken text (t ∷ ts) (d, r, h, leads) = which (word_reads text s t d r h)
   where
-    which : (t ≡ colon) × (reads value (due.entries ∷ s) ≡ reads d r) ⊎ (behind_flag_step (name_of text ∷ []) s t ≡ reads d r) → IsClosed n s (InBraces P) (label text ∷ t ∷ ts) x e
+    which : (t ≡ colon) × (reads value (expectation.entries ∷ s) ≡ reads d r) ⊎ (behind_flag_step (name_of text ∷ []) s t ≡ reads d r) → IsClosed n s (InBraces P) (label text ∷ t ∷ ts) x e
     which (inl (a_colon, k)) =
         subst (λ z. IsClosed n s (InBraces P) (label text ∷ z ∷ ts) x e) (sym a_colon) (first_taken n s P x e end taken (label text) (colon ∷ ts) tt (d, r, k, leads))
     which (inr k) =
@@ -313,32 +313,32 @@ word_taken n s P x e end taken text (t ∷ ts) (d, r, h, leads) = which (word_re
         (tree.flags (in_order (text ∷ texts)), rest, inr (inr (inr (text ∷ texts, omega arith, (t ∷ ts ++ x, refl, q), apart, refl))), on, omega arith)
 
 -- what stands after an open brace
-braces_taken : (n : ℕ) (s : List StackSymbol) (P : Spelling Tree) (x : List Token) (e : Expectation) → IsEnd e x → AreTaken n (due.entries ∷ s) P → (ts : List Token) → Shifts n due.in_braces s ts e [] → IsClosed n s (InBraces P) ts x e
-braces_taken n s P x e end taken [] (same, no_forms) = absurd (not_end due.in_braces e x tt end same)
+braces_taken : (n : ℕ) (s : List StackSymbol) (P : Spelling Tree) (x : List Token) (e : Expectation) → IsEnd e x → AreTaken n (expectation.entries ∷ s) P → (ts : List Token) → Shifts n expectation.in_braces s ts e [] → IsClosed n s (InBraces P) ts x e
+braces_taken n s P x e end taken [] (same, no_forms) = absurd (not_end expectation.in_braces e x tt end same)
 braces_taken n s P x e end taken (brace_close ∷ ts) (d, r, h, leads) = (tree.empty_braces, ts, inl (refl, refl), after n _ behind_value d e s r [] ts refl h leads, omega arith)
 braces_taken n s P x e end taken (colon ∷ []) (d, r, h, (same, no_forms)) =
-    let k : reads due.no_fields s ≡ reads d r = h in let due_there : due.no_fields ≡ d = cc in absurd (not_end due.no_fields e x tt end (due_there ∙ same))
+    let k : reads expectation.no_fields s ≡ reads d r = h in let expected_there : expectation.no_fields ≡ d = cc in absurd (not_end expectation.no_fields e x tt end (expected_there ∙ same))
 braces_taken n s P x e end taken (colon ∷ t ∷ ts) (d, r, h, leads) =
-    let (d', r', h', more) = after n _ due.no_fields d e s r [] (t ∷ ts) refl h leads in
+    let (d', r', h', more) = after n _ expectation.no_fields d e s r [] (t ∷ ts) refl h leads in
     let (close, k) = brace_reads n s t d' r' h' in
     (tree.no_fields, ts, inr (inl (ap (λ z. colon ∷ z ∷ ts ++ x) close, refl)), after n _ behind_value d' e s r' [] ts refl k more, omega arith)
-braces_taken n s P x e end taken (label text ∷ ts) (d, r, h, leads) = word_taken n s P x e end taken text ts (after n _ (due.behind_word text) d e s r [] ts refl h leads)
-braces_taken n s P x e end taken (number text ∷ ts) (d, r, h, leads) = first_taken n s P x e end taken (number text) ts tt (after n _ due.behind_key d e s r [] ts refl h leads)
-braces_taken n s P x e end taken (char text ∷ ts) (d, r, h, leads) = first_taken n s P x e end taken (char text) ts tt (after n _ due.behind_key d e s r [] ts refl h leads)
-braces_taken n s P x e end taken (string text ∷ ts) (d, r, h, leads) = first_taken n s P x e end taken (string text) ts tt (after n _ due.behind_key d e s r [] ts refl h leads)
-braces_taken n s P x e end taken (multiline text ∷ ts) (d, r, h, leads) = first_taken n s P x e end taken (multiline text) ts tt (after n _ due.behind_key d e s r [] ts refl h leads)
+braces_taken n s P x e end taken (label text ∷ ts) (d, r, h, leads) = word_taken n s P x e end taken text ts (after n _ (expectation.behind_word text) d e s r [] ts refl h leads)
+braces_taken n s P x e end taken (number text ∷ ts) (d, r, h, leads) = first_taken n s P x e end taken (number text) ts tt (after n _ expectation.behind_key d e s r [] ts refl h leads)
+braces_taken n s P x e end taken (char text ∷ ts) (d, r, h, leads) = first_taken n s P x e end taken (char text) ts tt (after n _ expectation.behind_key d e s r [] ts refl h leads)
+braces_taken n s P x e end taken (string text ∷ ts) (d, r, h, leads) = first_taken n s P x e end taken (string text) ts tt (after n _ expectation.behind_key d e s r [] ts refl h leads)
+braces_taken n s P x e end taken (multiline text ∷ ts) (d, r, h, leads) = first_taken n s P x e end taken (multiline text) ts tt (after n _ expectation.behind_key d e s r [] ts refl h leads)
 braces_taken n s P x e end taken (t ∷ ts) (d, r, h, leads) = let k : unexpected ≡ reads d r = h in cc
 
 -- ---- payloads and labels
 
 -- a value within its payload, and the close
-payload_taken : (n : ℕ) (s : List StackSymbol) (P : Spelling Tree) (x : List Token) (e : Expectation) → IsEnd e x → AreTaken n (due.payload ∷ s) P → (ts : List Token) → Shifts n value (due.payload ∷ s) ts e [] →
+payload_taken : (n : ℕ) (s : List StackSymbol) (P : Spelling Tree) (x : List Token) (e : Expectation) → IsEnd e x → AreTaken n (expectation.payload ∷ s) P → (ts : List Token) → Shifts n value (expectation.payload ∷ s) ts e [] →
     IsClosed n s (λ tokens t rest. InParens P tokens t rest) (paren_open ∷ ts) x e
 payload_taken n s P x e end taken ts leads = close (taken ts x e end leads)
   where
-    close : IsTaken n (due.payload ∷ s) P ts x e → IsClosed n s (λ tokens t rest. InParens P tokens t rest) (paren_open ∷ ts) x e
+    close : IsTaken n (expectation.payload ∷ s) P ts x e → IsClosed n s (λ tokens t rest. InParens P tokens t rest) (paren_open ∷ ts) x e
     close (t, b, [], p, ends, (same, no_forms), less) = cc
-    close (t, b, u ∷ rest, p, ends, (d, r, h, more), less) = which (behind_reads due.payload s u d r (sym (end_step n b (due.payload ∷ s) u (rest ++ x) ends) ∙ h))
+    close (t, b, u ∷ rest, p, ends, (d, r, h, more), less) = which (behind_reads expectation.payload s u d r (sym (end_step n b (expectation.payload ∷ s) u (rest ++ x) ends) ∙ h))
       where
         which : (u ≡ paren_close) × (reads behind_value s ≡ reads d r) ⊎ (u ≡ comma) × (unexpected ≡ reads d r) → IsClosed n s (λ tokens t rest. InParens P tokens t rest) (paren_open ∷ ts) x e
         which (inl (same, k)) = (t, rest, (ts ++ x, refl, subst (λ z. P (ts ++ x) t (z ∷ rest ++ x)) same p), after n _ behind_value d e s r [] rest refl k more, omega arith)
@@ -350,26 +350,26 @@ label_end x (inl e) = cc
 label_end x (inr (e, apart)) = apart
 
 -- a label's payload, or none where no parenthesis stands
-maybe_taken : (n : ℕ) (s : List StackSymbol) (P : Spelling Tree) (x : List Token) (e : Expectation) → IsEnd e x → AreTaken n (due.payload ∷ s) P → (t : Token) (ts : List Token) → Shifts n behind_label s ts e [] →
+maybe_taken : (n : ℕ) (s : List StackSymbol) (P : Spelling Tree) (x : List Token) (e : Expectation) → IsEnd e x → AreTaken n (expectation.payload ∷ s) P → (t : Token) (ts : List Token) → Shifts n behind_label s ts e [] →
     (payload : MaybeTree) × (d : Expectation) × (rest : List Token) × MaybeInParens P (ts ++ x) payload (rest ++ x) × IsEnd d (rest ++ x) × Shifts n d s rest e [] × (length rest < length (t ∷ ts))
 maybe_taken n s P x e end taken t [] (same, no_forms) =
     let here : IsEnd behind_label x = subst (λ z. IsEnd z x) (sym same) end in
     (tree.no_tree, behind_label, [], inl (refl, label_end x here, refl), here, (same, no_forms), omega arith)
 maybe_taken n s P x e end taken t (paren_open ∷ ts) (d, r, h, leads) =
-    let (u, rest, p, on, less) = payload_taken n s P x e end taken ts (after n _ value d e (due.payload ∷ s) r [] ts refl h leads) in
+    let (u, rest, p, on, less) = payload_taken n s P x e end taken ts (after n _ value d e (expectation.payload ∷ s) r [] ts refl h leads) in
     (tree.a_tree u, behind_value, rest, inr (u, p, refl), inl refl, on, omega arith)
 maybe_taken n s P x e end taken t (u ∷ ts) leads = (tree.no_tree, behind_label, u ∷ ts, inl (refl, λ more f. cc, refl), inr (refl, λ more f. cc), leads, omega arith)
 
 -- what stands after a label
-label_taken : (n : ℕ) (s : List StackSymbol) (P : Spelling Tree) (x : List Token) (e : Expectation) → IsEnd e x → AreTaken n (due.payload ∷ s) P → (w : Word) (text : List ℕ) (t : Token) (ts : List Token) → Shifts n (due.due_behind w) s ts e [] →
+label_taken : (n : ℕ) (s : List StackSymbol) (P : Spelling Tree) (x : List Token) (e : Expectation) → IsEnd e x → AreTaken n (expectation.payload ∷ s) P → (w : Word) (text : List ℕ) (t : Token) (ts : List Token) → Shifts n (expectation.expected_behind w) s ts e [] →
     (u : Tree) × (d : Expectation) × (rest : List Token) × BehindWord w text P (ts ++ x) u (rest ++ x) × IsEnd d (rest ++ x) × Shifts n d s rest e [] × (length rest < length (t ∷ ts))
 label_taken n s P x e end taken leaf_word text t ts leads = (tree.one (label text), behind_value, ts, (refl, refl), inl refl, leads, omega arith)
 label_taken n s P x e end taken none_word text t ts leads = (tree.none, behind_value, ts, (refl, refl), inl refl, leads, omega arith)
-label_taken n s P x e end taken some_word text t [] (same, no_forms) = absurd (not_end due.paren e x tt end same)
+label_taken n s P x e end taken some_word text t [] (same, no_forms) = absurd (not_end expectation.paren e x tt end same)
 label_taken n s P x e end taken some_word text t (u ∷ ts) (d, r, h, leads) =
     let (a_paren, k) = paren_reads n s u d r h in
-    let (v, rest, (front, same, p), on, less) = payload_taken n s P x e end taken ts (after n _ value d e (due.payload ∷ s) r [] ts refl k leads) in
-    (tree.some v, behind_value, rest, (v, (front, ap (λ z. z ∷ ts ++ x) a_paren ∙ same, p), refl), inl refl, on, omega arith)
+    let (v, rest, (prefix, same, p), on, less) = payload_taken n s P x e end taken ts (after n _ value d e (expectation.payload ∷ s) r [] ts refl k leads) in
+    (tree.some v, behind_value, rest, (v, (prefix, ap (λ z. z ∷ ts ++ x) a_paren ∙ same, p), refl), inl refl, on, omega arith)
 label_taken n s P x e end taken ok_word text t ts leads = let (payload, d, rest, p, ends, on, less) = maybe_taken n s P x e end taken t ts leads in (tree.ok payload, d, rest, (payload, p, refl), ends, on, less)
 label_taken n s P x e end taken err_word text t ts leads = let (payload, d, rest, p, ends, on, less) = maybe_taken n s P x e end taken t ts leads in (tree.err payload, d, rest, (payload, p, refl), ends, on, less)
 label_taken n s P x e end taken case_word text t ts leads = let (payload, d, rest, p, ends, on, less) = maybe_taken n s P x e end taken t ts leads in (tree.label text payload, d, rest, (payload, p, refl), ends, on, less)
@@ -383,15 +383,15 @@ tree_taken n s P taken (t ∷ ts) x e end (d, r, h, leads) = which t (on_level (
   where
     which : (t : Token) → value_step s t ≡ reads d r → IsTaken n s (ATree P) (t ∷ ts) x e
     which paren_open k =
-        let (items, rest, (some, p), on, less) = items_taken n due.tuple s P x e tt end (taken due.tuple) ts (after n _ first_item d e (due.tuple ∷ s) r [] ts refl k leads) in
+        let (items, rest, (some, p), on, less) = items_taken n expectation.tuple s P x e tt end (taken expectation.tuple) ts (after n _ first_item d e (expectation.tuple ∷ s) r [] ts refl k leads) in
         (tree.tuple (trees items), behind_value, rest, (items, some refl, p, refl), inl refl, on, omega arith)
     which bracket_open k =
-        let (items, rest, (some, p), on, less) = items_taken n due.list s P x e tt end (taken due.list) ts (after n _ first_item d e (due.list ∷ s) r [] ts refl k leads) in
+        let (items, rest, (some, p), on, less) = items_taken n expectation.list s P x e tt end (taken expectation.list) ts (after n _ first_item d e (expectation.list ∷ s) r [] ts refl k leads) in
         (tree.list (trees items), behind_value, rest, (items, p, refl), inl refl, on, omega arith)
     which brace_open k =
-        let (u, rest, p, on, less) = braces_taken n s P x e end (taken due.entries) ts (after n _ due.in_braces d e s r [] ts refl k leads) in
+        let (u, rest, p, on, less) = braces_taken n s P x e end (taken expectation.entries) ts (after n _ expectation.in_braces d e s r [] ts refl k leads) in
         (u, behind_value, rest, p, inl refl, on, omega arith)
-    which (label text) k = label_taken n s P x e end (taken due.payload) (word_of text) text (label text) ts (after n _ (due.due_behind (word_of text)) d e s r [] ts refl k leads)
+    which (label text) k = label_taken n s P x e end (taken expectation.payload) (word_of text) text (label text) ts (after n _ (expectation.expected_behind (word_of text)) d e s r [] ts refl k leads)
     which (number text) k = (tree.one (number text), behind_value, ts, (refl, refl), inl refl, after n _ behind_value d e s r [] ts refl k leads, omega arith)
     which (char text) k = (tree.one (char text), behind_value, ts, (refl, refl), inl refl, after n _ behind_value d e s r [] ts refl k leads, omega arith)
     which (string text) k = (tree.one (string text), behind_value, ts, (refl, refl), inl refl, after n _ behind_value d e s r [] ts refl k leads, omega arith)
@@ -416,7 +416,7 @@ nothing_behind : (n : ℕ) (d e : Expectation) (ts x : List Token) → IsEnd d (
 nothing_behind n d e [] x start leads = refl
 nothing_behind n d e (t ∷ ts) x start (d', r, h, leads) = let k : unexpected ≡ reads d' r = sym (end_step n d [] t (ts ++ x) start) ∙ h in cc
 
--- where no more is due
+-- where no more is expected
 at_end : (d : Expectation) (rest : List Token) → EndsBefore d rest → IsEnd d rest
 at_end behind_value rest h = inl refl
 at_end behind_label rest h = inr (refl, h)
@@ -424,6 +424,6 @@ at_end d rest h = absurd h
 
 -- tokens that lead to the end of a value are a tree
 pub led_is_tree : AcceptedTokensHaveATree
-led_is_tree n front rest d ends leads =
-    let (t, b, left, p, end, on, less) = leads_taken n n [] (omega arith) front rest d (at_end d rest ends) leads in
-    (t, subst (λ z. Takes n (front ++ rest) t (z ++ rest)) (nothing_behind n b d left rest end on) p)
+led_is_tree n prefix rest d ends leads =
+    let (t, b, left, p, end, on, less) = leads_taken n n [] (omega arith) prefix rest d (at_end d rest ends) leads in
+    (t, subst (λ z. Takes n (prefix ++ rest) t (z ++ rest)) (nothing_behind n b d left rest end on) p)

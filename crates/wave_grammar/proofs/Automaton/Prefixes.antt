@@ -7,7 +7,7 @@ use Rattle.wave_grammar.specs.Token.{Token, brace_open, brace_close, paren_open,
 use Rattle.wave_grammar.specs.LeafTokens.{name_of}
 use Rattle.wave_grammar.specs.Tree.{Tree, Takes, Word, word_of, leaf_word, none_word, some_word, ok_word, err_word, case_word}
 use Rattle.wave_grammar.specs.PrefixLaws.{PrefixesAreViable, ViableTokensBeginATree, RefusedTokensBeginNone}
-use Rattle.wave_grammar.specs.PrefixAutomaton as due
+use Rattle.wave_grammar.specs.PrefixAutomaton as expectation
 use Rattle.wave_grammar.specs.PrefixAutomaton.{Expectation, StackSymbol, value, first_item, next_item, behind_value, behind_label, Step, too_deep, unexpected, reads, step, Shifts, closes, closed, closed_empty, level_step, value_step, behind_step, key_step, behind_flag_step, flag_step}
 use Rattle.wave_grammar.proofs.Automaton.Sound.{IsEnd, leads_join, close_of, close_token, close_reads, item_step, level_open, end_before, trees_are_accepted}
 use Rattle.wave_grammar.proofs.Automaton.Complete.{led_is_tree}
@@ -25,8 +25,8 @@ leads_one n d e f s r q [] (a, b) (a', b') = (sym a ∙ a', sym b ∙ b')
 leads_one n d e f s r q (t ∷ ts) (d', s', x, more) (d'', s'', y, others) =
     let same : reads d'' s'' ≡ reads d' s' = sym y ∙ x in
     let forms : s'' ≡ s' = cc in
-    let dues : d'' ≡ d' = cc in
-    leads_one n d' e f s' r q ts more (subst (λ z. Shifts n d' z ts f q) forms (subst (λ z. Shifts n z s'' ts f q) dues others))
+    let expectations : d'' ≡ d' = cc in
+    leads_one n d' e f s' r q ts more (subst (λ z. Shifts n d' z ts f q) forms (subst (λ z. Shifts n z s'' ts f q) expectations others))
 
 -- ---- more levels
 
@@ -64,23 +64,23 @@ leads_more n m d e s r (t ∷ ts) l (d', s', x, more) = (d', s', step_more n m d
 -- the tokens of a tree are led to its end
 whole_led : (n : ℕ) (tokens : List Token) (t : Tree) → Takes n tokens t [] → (d : Expectation) × Shifts n value [] tokens d []
 whole_led n tokens t h =
-    let (front, d, same, ends, leads) = trees_are_accepted n tokens [] t h in
-    (d, subst (λ z. Shifts n value [] z d []) (sym (same ∙ append-nil front)) leads)
+    let (prefix, d, same, ends, leads) = trees_are_accepted n tokens [] t h in
+    (d, subst (λ z. Shifts n value [] z d []) (sym (same ∙ append-nil prefix)) leads)
 
 -- each prefix of a tree is led
 pub prefixes_are_viable : PrefixesAreViable
-prefixes_are_viable n front more t h =
-    let (d, leads) = whole_led n (front ++ more) t h in
-    let (f, q, one, others) = leads_split n value d [] [] front more leads in
+prefixes_are_viable n prefix more t h =
+    let (d, leads) = whole_led n (prefix ++ more) t h in
+    let (f, q, one, others) = leads_split n value d [] [] prefix more leads in
     (f, q, one)
 
 -- with a token that is not read tokens begin no tree
 pub refused_begin_none : RefusedTokensBeginNone
-refused_begin_none n front d s t led refused m more u levels h =
-    let (e, leads) = whole_led m (front ++ t ∷ more) u h in
-    let (f, q, one, (d', s', x, others)) = leads_split m value e [] [] front (t ∷ more) leads in
-    let (dues, forms) = leads_one (n + m) value f d [] q s front (leads_more m (n + m) value f [] q front (omega arith) one) (leads_more n (n + m) value d [] s front (omega arith) led) in
-    let there : step m d s t ≡ reads d' s' = subst (λ z. step m z s t ≡ reads d' s') dues (subst (λ z. step m f z t ≡ reads d' s') forms x) in
+refused_begin_none n prefix d s t led refused m more u levels h =
+    let (e, leads) = whole_led m (prefix ++ t ∷ more) u h in
+    let (f, q, one, (d', s', x, others)) = leads_split m value e [] [] prefix (t ∷ more) leads in
+    let (expectations, forms) = leads_one (n + m) value f d [] q s prefix (leads_more m (n + m) value f [] q prefix (omega arith) one) (leads_more n (n + m) value d [] s prefix (omega arith) led) in
+    let there : step m d s t ≡ reads d' s' = subst (λ z. step m z s t ≡ reads d' s') expectations (subst (λ z. step m f z t ≡ reads d' s') forms x) in
     which there levels
   where
     which : {d' : Expectation} {s' : List StackSymbol} → step m d s t ≡ reads d' s' → (m ≤ n) ⊎ (step n d s t ≢ too_deep) → ⊥
@@ -90,7 +90,7 @@ refused_begin_none n front d s t led refused m more u levels h =
 
 -- ---- more tokens for any prefix
 
--- how many forms may be open where this is due
+-- how many forms may be open where this is expected
 abbrev pub Fits : ℕ → Expectation → List StackSymbol → Type 0
 Fits n value s = length s ≤ n
 Fits n first_item s = length s ≤ n
@@ -98,14 +98,14 @@ Fits n next_item s = length s ≤ n
 Fits n behind_value s = length s ≤ n
 Fits n d s = length s < n
 
--- what is due where a token was read
+-- what is expected where a token was read
 fits_there : (n : ℕ) (d e : Expectation) (s r : List StackSymbol) → reads d s ≡ reads e r → Fits n d s → Fits n e r
 fits_there n d e s r h fits =
     let forms : s ≡ r = cc in
-    let dues : d ≡ e = cc in
-    subst (λ z. Fits n z r) dues (subst (Fits n d) forms fits)
+    let expectations : d ≡ e = cc in
+    subst (λ z. Fits n z r) expectations (subst (Fits n d) forms fits)
 
--- a token that is read where a value is due is on a level
+-- a token that is read where a value is expected is on a level
 pub level_there : (n : ℕ) (s : List StackSymbol) (t : Token) (e : Expectation) (r : List StackSymbol) → level_step n s t ≡ reads e r → (length s < n) × (value_step s t ≡ reads e r)
 level_there n s t e r h = which (nat_lt (length s) n) refl
   where
@@ -114,7 +114,7 @@ level_there n s t e r h = which (nat_lt (length s) n) refl
     which false k = let w : too_deep ≡ reads e r = ap (λ b. if b then value_step s t else too_deep) (sym k) ∙ h in cc
 
 -- after a label that stands for a value
-word_fits : (n : ℕ) (w : Word) (s : List StackSymbol) → length s < n → Fits n (due.due_behind w) s
+word_fits : (n : ℕ) (w : Word) (s : List StackSymbol) → length s < n → Fits n (expectation.expected_behind w) s
 word_fits n leaf_word s l = omega arith
 word_fits n none_word s l = omega arith
 word_fits n some_word s l = l
@@ -124,26 +124,26 @@ word_fits n case_word s l = l
 
 -- after the first token of a value
 value_fits : (n : ℕ) (s : List StackSymbol) (t : Token) (e : Expectation) (r : List StackSymbol) → length s < n → value_step s t ≡ reads e r → Fits n e r
-value_fits n s paren_open e r l h = fits_there n first_item e (due.tuple ∷ s) r h (omega arith)
-value_fits n s bracket_open e r l h = fits_there n first_item e (due.list ∷ s) r h (omega arith)
-value_fits n s brace_open e r l h = fits_there n due.in_braces e s r h l
+value_fits n s paren_open e r l h = fits_there n first_item e (expectation.tuple ∷ s) r h (omega arith)
+value_fits n s bracket_open e r l h = fits_there n first_item e (expectation.list ∷ s) r h (omega arith)
+value_fits n s brace_open e r l h = fits_there n expectation.in_braces e s r h l
 value_fits n s (number text) e r l h = fits_there n behind_value e s r h (omega arith)
 value_fits n s (char text) e r l h = fits_there n behind_value e s r h (omega arith)
 value_fits n s (string text) e r l h = fits_there n behind_value e s r h (omega arith)
 value_fits n s (multiline text) e r l h = fits_there n behind_value e s r h (omega arith)
-value_fits n s (label text) e r l h = fits_there n (due.due_behind (word_of text)) e s r h (word_fits n (word_of text) s l)
+value_fits n s (label text) e r l h = fits_there n (expectation.expected_behind (word_of text)) e s r h (word_fits n (word_of text) s l)
 value_fits n s t e r l h = let k : unexpected ≡ reads e r = h in cc
 
 -- after what follows a value
 behind_fits : (n : ℕ) (s : List StackSymbol) (t : Token) (e : Expectation) (r : List StackSymbol) → length s ≤ n → behind_step s t ≡ reads e r → Fits n e r
 behind_fits n [] t e r l h = let k : unexpected ≡ reads e r = h in cc
-behind_fits n (due.tuple ∷ s) comma e r l h = fits_there n next_item e (due.tuple ∷ s) r h l
-behind_fits n (due.tuple ∷ s) paren_close e r l h = fits_there n behind_value e s r h (omega arith)
-behind_fits n (due.list ∷ s) comma e r l h = fits_there n next_item e (due.list ∷ s) r h l
-behind_fits n (due.list ∷ s) bracket_close e r l h = fits_there n behind_value e s r h (omega arith)
-behind_fits n (due.payload ∷ s) paren_close e r l h = fits_there n behind_value e s r h (omega arith)
-behind_fits n (due.entries ∷ s) comma e r l h = fits_there n due.key e s r h (omega arith)
-behind_fits n (due.entries ∷ s) brace_close e r l h = fits_there n behind_value e s r h (omega arith)
+behind_fits n (expectation.tuple ∷ s) comma e r l h = fits_there n next_item e (expectation.tuple ∷ s) r h l
+behind_fits n (expectation.tuple ∷ s) paren_close e r l h = fits_there n behind_value e s r h (omega arith)
+behind_fits n (expectation.list ∷ s) comma e r l h = fits_there n next_item e (expectation.list ∷ s) r h l
+behind_fits n (expectation.list ∷ s) bracket_close e r l h = fits_there n behind_value e s r h (omega arith)
+behind_fits n (expectation.payload ∷ s) paren_close e r l h = fits_there n behind_value e s r h (omega arith)
+behind_fits n (expectation.entries ∷ s) comma e r l h = fits_there n expectation.key e s r h (omega arith)
+behind_fits n (expectation.entries ∷ s) brace_close e r l h = fits_there n behind_value e s r h (omega arith)
 behind_fits n (f ∷ s) t e r l h = let k : unexpected ≡ reads e r = h in cc
 
 -- after a close
@@ -154,7 +154,7 @@ closed_fits n (f ∷ s) e r l h = fits_there n behind_value e s r h (omega arith
 -- the same before the first item
 closed_empty_fits : (n : ℕ) (s : List StackSymbol) (e : Expectation) (r : List StackSymbol) → length s ≤ n → closed_empty s ≡ reads e r → Fits n e r
 closed_empty_fits n [] e r l h = let k : unexpected ≡ reads e r = h in cc
-closed_empty_fits n (due.tuple ∷ s) e r l h = let k : due.empty_tuple ≡ reads e r = h in cc
+closed_empty_fits n (expectation.tuple ∷ s) e r l h = let k : expectation.empty_tuple ≡ reads e r = h in cc
 closed_empty_fits n (f ∷ s) e r l h = closed_fits n (f ∷ s) e r l h
 
 -- either of two answers
@@ -169,35 +169,35 @@ unexpected_fits n e r h = cc
 -- after a key or the close of its braces
 key_fits : (n : ℕ) (s : List StackSymbol) (t : Token) (e : Expectation) (r : List StackSymbol) → length s < n → key_step s t ≡ reads e r → Fits n e r
 key_fits n s brace_close e r l h = fits_there n behind_value e s r h (omega arith)
-key_fits n s (number text) e r l h = fits_there n due.behind_key e s r h l
-key_fits n s (label text) e r l h = fits_there n due.behind_key e s r h l
-key_fits n s (char text) e r l h = fits_there n due.behind_key e s r h l
-key_fits n s (string text) e r l h = fits_there n due.behind_key e s r h l
-key_fits n s (multiline text) e r l h = fits_there n due.behind_key e s r h l
+key_fits n s (number text) e r l h = fits_there n expectation.behind_key e s r h l
+key_fits n s (label text) e r l h = fits_there n expectation.behind_key e s r h l
+key_fits n s (char text) e r l h = fits_there n expectation.behind_key e s r h l
+key_fits n s (string text) e r l h = fits_there n expectation.behind_key e s r h l
+key_fits n s (multiline text) e r l h = fits_there n expectation.behind_key e s r h l
 key_fits n s t e r l h = let k : unexpected ≡ reads e r = h in cc
 
 -- after what follows a flag
 behind_flag_fits : (n : ℕ) (names : List (List ℕ)) (s : List StackSymbol) (t : Token) (e : Expectation) (r : List StackSymbol) → length s < n → behind_flag_step names s t ≡ reads e r → Fits n e r
 behind_flag_fits n names s brace_close e r l h = fits_there n behind_value e s r h (omega arith)
-behind_flag_fits n names s comma e r l h = fits_there n (due.flag names) e s r h l
+behind_flag_fits n names s comma e r l h = fits_there n (expectation.flag names) e s r h l
 behind_flag_fits n names s t e r l h = let k : unexpected ≡ reads e r = h in cc
 
 -- after a flag or the close of its braces
 flag_fits : (n : ℕ) (names : List (List ℕ)) (s : List StackSymbol) (t : Token) (e : Expectation) (r : List StackSymbol) → length s < n → flag_step names s t ≡ reads e r → Fits n e r
 flag_fits n names s brace_close e r l h = fits_there n behind_value e s r h (omega arith)
 flag_fits n names s (label text) e r l h =
-    either_fits n (is_one_of names (name_of text)) due.repeated_flag _ e r (λ k. cc) (λ k. fits_there n (due.behind_flag (names ++ name_of text ∷ [])) e s r k l) h
+    either_fits n (is_one_of names (name_of text)) expectation.repeated_flag _ e r (λ k. cc) (λ k. fits_there n (expectation.behind_flag (names ++ name_of text ∷ [])) e s r k l) h
 flag_fits n names s t e r l h = let k : unexpected ≡ reads e r = h in cc
 
 -- after the first token in braces
-brace_fits : (n : ℕ) (s : List StackSymbol) (t : Token) (e : Expectation) (r : List StackSymbol) → length s < n → due.brace_step s t ≡ reads e r → Fits n e r
-brace_fits n s (label text) e r l h = fits_there n (due.behind_word text) e s r h l
-brace_fits n s colon e r l h = fits_there n due.no_fields e s r h l
+brace_fits : (n : ℕ) (s : List StackSymbol) (t : Token) (e : Expectation) (r : List StackSymbol) → length s < n → expectation.brace_step s t ≡ reads e r → Fits n e r
+brace_fits n s (label text) e r l h = fits_there n (expectation.behind_word text) e s r h l
+brace_fits n s colon e r l h = fits_there n expectation.no_fields e s r h l
 brace_fits n s t e r l h = key_fits n s t e r l h
 
 -- after what follows the first label in braces
-word_behind_fits : (n : ℕ) (text : List ℕ) (s : List StackSymbol) (t : Token) (e : Expectation) (r : List StackSymbol) → length s < n → due.word_behind_step text s t ≡ reads e r → Fits n e r
-word_behind_fits n text s colon e r l h = fits_there n value e (due.entries ∷ s) r h (omega arith)
+word_behind_fits : (n : ℕ) (text : List ℕ) (s : List StackSymbol) (t : Token) (e : Expectation) (r : List StackSymbol) → length s < n → expectation.word_behind_step text s t ≡ reads e r → Fits n e r
+word_behind_fits n text s colon e r l h = fits_there n value e (expectation.entries ∷ s) r h (omega arith)
 word_behind_fits n text s t e r l h = behind_flag_fits n (name_of text ∷ []) s t e r l h
 
 -- a token that is read leaves no more forms open than may be
@@ -209,24 +209,24 @@ step_fits n next_item s t e r fits h =
     either_fits n (closes s t) (closed s) (level_step n s t) e r (closed_fits n s e r fits) (λ g. let (room, k) = level_there n s t e r g in value_fits n s t e r room k) h
 step_fits n behind_value s t e r fits h = behind_fits n s t e r fits h
 step_fits n behind_label s t e r fits h =
-    either_fits n (due.is_paren t) (reads value (due.payload ∷ s)) (behind_step s t) e r (λ g. fits_there n value e (due.payload ∷ s) r g (omega arith)) (behind_fits n s t e r (omega arith)) h
-step_fits n due.paren s t e r fits h =
-    either_fits n (due.is_paren t) (reads value (due.payload ∷ s)) unexpected e r (λ g. fits_there n value e (due.payload ∷ s) r g (omega arith)) (unexpected_fits n e r) h
-step_fits n due.in_braces s t e r fits h = brace_fits n s t e r fits h
-step_fits n due.no_fields s t e r fits h = either_fits n (due.is_brace_close t) (reads behind_value s) unexpected e r (λ g. fits_there n behind_value e s r g (omega arith)) (unexpected_fits n e r) h
-step_fits n (due.behind_word text) s t e r fits h = word_behind_fits n text s t e r fits h
-step_fits n due.key s t e r fits h = key_fits n s t e r fits h
-step_fits n due.behind_key s t e r fits h =
-    either_fits n (due.is_colon t) (reads value (due.entries ∷ s)) unexpected e r (λ g. fits_there n value e (due.entries ∷ s) r g (omega arith)) (unexpected_fits n e r) h
-step_fits n (due.flag names) s t e r fits h = flag_fits n names s t e r fits h
-step_fits n (due.behind_flag names) s t e r fits h = behind_flag_fits n names s t e r fits h
+    either_fits n (expectation.is_paren t) (reads value (expectation.payload ∷ s)) (behind_step s t) e r (λ g. fits_there n value e (expectation.payload ∷ s) r g (omega arith)) (behind_fits n s t e r (omega arith)) h
+step_fits n expectation.paren s t e r fits h =
+    either_fits n (expectation.is_paren t) (reads value (expectation.payload ∷ s)) unexpected e r (λ g. fits_there n value e (expectation.payload ∷ s) r g (omega arith)) (unexpected_fits n e r) h
+step_fits n expectation.in_braces s t e r fits h = brace_fits n s t e r fits h
+step_fits n expectation.no_fields s t e r fits h = either_fits n (expectation.is_brace_close t) (reads behind_value s) unexpected e r (λ g. fits_there n behind_value e s r g (omega arith)) (unexpected_fits n e r) h
+step_fits n (expectation.behind_word text) s t e r fits h = word_behind_fits n text s t e r fits h
+step_fits n expectation.key s t e r fits h = key_fits n s t e r fits h
+step_fits n expectation.behind_key s t e r fits h =
+    either_fits n (expectation.is_colon t) (reads value (expectation.entries ∷ s)) unexpected e r (λ g. fits_there n value e (expectation.entries ∷ s) r g (omega arith)) (unexpected_fits n e r) h
+step_fits n (expectation.flag names) s t e r fits h = flag_fits n names s t e r fits h
+step_fits n (expectation.behind_flag names) s t e r fits h = behind_flag_fits n names s t e r fits h
 
 -- tokens that are read leave no more forms open than may be
 pub leads_fit : (n : ℕ) (d : Expectation) (s : List StackSymbol) (ts : List Token) (e : Expectation) (r : List StackSymbol) → Fits n d s → Shifts n d s ts e r → Fits n e r
 leads_fit n d s [] e r fits (a, b) = subst (λ z. Fits n z r) a (subst (Fits n d) b fits)
 leads_fit n d s (t ∷ ts) e r fits (d', s', x, more) = leads_fit n d' s' ts e r (step_fits n d s t d' s' fits x) more
 
--- tokens that lead to where no more is due of any value
+-- tokens that lead to where no more is expected of any value
 abbrev Completion : ℕ → Expectation → List StackSymbol → Type 0
 Completion m d s = (more : List Token) × (e : Expectation) × IsEnd e [] × Shifts m d s more e []
 
@@ -249,26 +249,26 @@ zero_closes [] e = let w : false ≡ true = e in cc
 zero_closes (f ∷ s) e = let w : zero_token ≡ close_of f = close_token f s zero_token e in not_close f w
   where
     not_close : (g : StackSymbol) → zero_token ≡ close_of g → ⊥
-    not_close due.tuple w = cc
-    not_close due.list w = cc
-    not_close due.payload w = cc
-    not_close due.entries w = cc
+    not_close expectation.tuple w = cc
+    not_close expectation.list w = cc
+    not_close expectation.payload w = cc
+    not_close expectation.entries w = cc
 
 -- a number, and the closes of all forms
 zero_value : (m : ℕ) (s : List StackSymbol) → length s < m → Completion m value s
 zero_value m s room = with_token m value behind_value s s zero_token (level_open m s zero_token room) (closing m s)
 
--- the same where an item is due
+-- the same where an item is expected
 zero_item : (m : ℕ) (d : Expectation) (s : List StackSymbol) → (d ≡ first_item) ⊎ (d ≡ next_item) → length s < m → Completion m d s
 zero_item m d s at room = with_token m d behind_value s s zero_token (sym (item_step m d s zero_token at (zero_closes s)) ∙ level_open m s zero_token room) (closing m s)
 
 -- after a label the closes of all forms
 label_closing : (m : ℕ) (s : List StackSymbol) → Completion m behind_label s
 label_closing m [] = ([], behind_label, inr (refl, λ more f. cc), (refl, refl))
-label_closing m (due.tuple ∷ s) = with_token m behind_label behind_value (due.tuple ∷ s) s paren_close refl (closing m s)
-label_closing m (due.list ∷ s) = with_token m behind_label behind_value (due.list ∷ s) s bracket_close refl (closing m s)
-label_closing m (due.payload ∷ s) = with_token m behind_label behind_value (due.payload ∷ s) s paren_close refl (closing m s)
-label_closing m (due.entries ∷ s) = with_token m behind_label behind_value (due.entries ∷ s) s brace_close refl (closing m s)
+label_closing m (expectation.tuple ∷ s) = with_token m behind_label behind_value (expectation.tuple ∷ s) s paren_close refl (closing m s)
+label_closing m (expectation.list ∷ s) = with_token m behind_label behind_value (expectation.list ∷ s) s bracket_close refl (closing m s)
+label_closing m (expectation.payload ∷ s) = with_token m behind_label behind_value (expectation.payload ∷ s) s paren_close refl (closing m s)
+label_closing m (expectation.entries ∷ s) = with_token m behind_label behind_value (expectation.entries ∷ s) s brace_close refl (closing m s)
 
 -- from wherever tokens lead, others lead on to the end, with one level more at most
 completes : (n : ℕ) (d : Expectation) (s : List StackSymbol) → Fits n d s → Completion (n + 1) d s
@@ -277,19 +277,19 @@ completes n first_item s fits = zero_item (n + 1) first_item s (inl refl) (omega
 completes n next_item s fits = zero_item (n + 1) next_item s (inr refl) (omega arith)
 completes n behind_value s fits = closing (n + 1) s
 completes n behind_label s fits = label_closing (n + 1) s
-completes n due.paren s fits = with_token (n + 1) due.paren value s (due.payload ∷ s) paren_open refl (zero_value (n + 1) (due.payload ∷ s) (omega arith))
-completes n due.in_braces s fits = with_token (n + 1) due.in_braces behind_value s s brace_close refl (closing (n + 1) s)
-completes n due.no_fields s fits = with_token (n + 1) due.no_fields behind_value s s brace_close refl (closing (n + 1) s)
-completes n (due.behind_word text) s fits = with_token (n + 1) (due.behind_word text) behind_value s s brace_close refl (closing (n + 1) s)
-completes n due.key s fits = with_token (n + 1) due.key behind_value s s brace_close refl (closing (n + 1) s)
-completes n due.behind_key s fits = with_token (n + 1) due.behind_key value s (due.entries ∷ s) colon refl (zero_value (n + 1) (due.entries ∷ s) (omega arith))
-completes n (due.flag names) s fits = with_token (n + 1) (due.flag names) behind_value s s brace_close refl (closing (n + 1) s)
-completes n (due.behind_flag names) s fits = with_token (n + 1) (due.behind_flag names) behind_value s s brace_close refl (closing (n + 1) s)
+completes n expectation.paren s fits = with_token (n + 1) expectation.paren value s (expectation.payload ∷ s) paren_open refl (zero_value (n + 1) (expectation.payload ∷ s) (omega arith))
+completes n expectation.in_braces s fits = with_token (n + 1) expectation.in_braces behind_value s s brace_close refl (closing (n + 1) s)
+completes n expectation.no_fields s fits = with_token (n + 1) expectation.no_fields behind_value s s brace_close refl (closing (n + 1) s)
+completes n (expectation.behind_word text) s fits = with_token (n + 1) (expectation.behind_word text) behind_value s s brace_close refl (closing (n + 1) s)
+completes n expectation.key s fits = with_token (n + 1) expectation.key behind_value s s brace_close refl (closing (n + 1) s)
+completes n expectation.behind_key s fits = with_token (n + 1) expectation.behind_key value s (expectation.entries ∷ s) colon refl (zero_value (n + 1) (expectation.entries ∷ s) (omega arith))
+completes n (expectation.flag names) s fits = with_token (n + 1) (expectation.flag names) behind_value s s brace_close refl (closing (n + 1) s)
+completes n (expectation.behind_flag names) s fits = with_token (n + 1) (expectation.behind_flag names) behind_value s s brace_close refl (closing (n + 1) s)
 
 -- each prefix that is led begins a tree
 pub led_begin_tree : ViableTokensBeginATree
-led_begin_tree n front d s leads =
-    let (more, e, ends, on) = completes n d s (leads_fit n value [] front d s (omega arith) leads) in
-    let all = leads_join (n + 1) value d e [] s [] front more (leads_more n (n + 1) value d [] s front (omega arith) leads) on in
-    let (t, h) = led_is_tree (n + 1) (front ++ more) [] e (end_before e [] ends) all in
-    (more, t, subst (λ z. Takes (n + 1) z t []) (append-nil (front ++ more)) h)
+led_begin_tree n prefix d s leads =
+    let (more, e, ends, on) = completes n d s (leads_fit n value [] prefix d s (omega arith) leads) in
+    let all = leads_join (n + 1) value d e [] s [] prefix more (leads_more n (n + 1) value d [] s prefix (omega arith) leads) on in
+    let (t, h) = led_is_tree (n + 1) (prefix ++ more) [] e (end_before e [] ends) all in
+    (more, t, subst (λ z. Takes (n + 1) z t []) (append-nil (prefix ++ more)) h)

@@ -1,4 +1,4 @@
--- The tokens of a tree lead from where a value is due to where no more is due of it.
+-- The tokens of a tree lead from where a value is expected to where no more is expected of it.
 use Rattle.std.proofs.Common.{ℕ, zero, suc, ◌≡◌, ◌≢◌, ◌<◌, ◌≤◌, ◌+◌, inl, inr, List, [], ◌∷◌, ◌++◌, length, Bool, true, false, refl, sym, ap, subst, ◌∙◌, arith, append_assoc}
 use Rattle.std.specs.Prelude.{◌⊎◌, nat_lt, if◌then◌else◌, map, ◌||◌}
 use Rattle.std.specs.List.{list_any}
@@ -11,7 +11,7 @@ use Rattle.wave_grammar.specs.TypedGrammar.{InParens}
 use Rattle.wave_grammar.specs.Tree as tree
 use Rattle.wave_grammar.specs.Tree.{Tree, ATree, Takes, KeyAnd, Label, MaybeInParens, InBraces, BehindWord, IsKey, Word, word_of, leaf_word, none_word, some_word, ok_word, err_word, case_word}
 use Rattle.wave_grammar.specs.PrefixLaws.{EndsBefore, TreesAreAccepted}
-use Rattle.wave_grammar.specs.PrefixAutomaton as due
+use Rattle.wave_grammar.specs.PrefixAutomaton as expectation
 use Rattle.wave_grammar.specs.PrefixAutomaton.{Expectation, StackSymbol, value, first_item, next_item, behind_value, behind_label, Step, too_deep, reads, step, Shifts, closes, level_step, value_step, behind_step}
 use Rattle.wave_grammar.proofs.Elaboration.GrammarToTree.{differ}
 
@@ -22,11 +22,11 @@ leads_join n d e f s r q (t ∷ ts) us (d', s', x, more) h = (d', s', x, leads_j
 
 -- tokens that lead from one place to another, and what is left after them
 abbrev pub LeadsTo : ℕ → Expectation → List StackSymbol → List Token → Expectation → List StackSymbol → List Token → Type 0
-LeadsTo n d s tokens e r rest = (front : List Token) × (tokens ≡ front ++ rest) × Shifts n d s front e r
+LeadsTo n d s tokens e r rest = (prefix : List Token) × (tokens ≡ prefix ++ rest) × Shifts n d s prefix e r
 
 -- a token that is read, before others
 one : (n : ℕ) (d e f : Expectation) (s r v : List StackSymbol) (t : Token) (behind rest : List Token) → step n d s t ≡ reads e r → LeadsTo n e r behind f v rest → LeadsTo n d s (t ∷ behind) f v rest
-one n d e f s r v t behind rest x (front, same, leads) = (t ∷ front, ap (λ z. t ∷ z) same, (e, r, x, leads))
+one n d e f s r v t behind rest x (prefix, same, leads) = (t ∷ prefix, ap (λ z. t ∷ z) same, (e, r, x, leads))
 
 -- no token
 none : (n : ℕ) (d : Expectation) (s : List StackSymbol) (tokens rest : List Token) → tokens ≡ rest → LeadsTo n d s tokens d s rest
@@ -34,8 +34,8 @@ none n d s tokens rest e = ([], e, (refl, refl))
 
 -- tokens and then those after them
 joined : (n : ℕ) (d e f : Expectation) (s r v : List StackSymbol) (tokens behind rest : List Token) → LeadsTo n d s tokens e r behind → LeadsTo n e r behind f v rest → LeadsTo n d s tokens f v rest
-joined n d e f s r v tokens behind rest (front, same, leads) (front', same', leads') =
-    (front ++ front', same ∙ (ap (λ z. front ++ z) same' ∙ sym (append_assoc front front' rest)), leads_join n d e f s r v front front' leads leads')
+joined n d e f s r v tokens behind rest (prefix, same, leads) (prefix', same', leads') =
+    (prefix ++ prefix', same ∙ (ap (λ z. prefix ++ z) same' ∙ sym (append_assoc prefix prefix' rest)), leads_join n d e f s r v prefix prefix' leads leads')
 
 -- after a value; where a payload might follow, no parenthesis stands
 abbrev pub IsEnd : Expectation → List Token → Type 0
@@ -64,7 +64,7 @@ if_false false x y h = refl
 pub level_open : (n : ℕ) (s : List StackSymbol) (t : Token) → length s < n → level_step n s t ≡ value_step s t
 level_open n s t l = let k : nat_lt (length s) n ≡ true = grind arith in ap (λ b. if b then value_step s t else too_deep) k
 
--- where an item is due and no close stands, a token does what it does where a value is due
+-- where an item is expected and no close stands, a token does what it does where a value is expected
 pub item_step : (n : ℕ) (d : Expectation) (s : List StackSymbol) (t : Token) → (d ≡ first_item) ⊎ (d ≡ next_item) → (closes s t ≡ true → ⊥) → step n value s t ≡ step n d s t
 item_step n d s t (inl e) h = sym (ap (λ z. step n z s t) e ∙ if_false (closes s t) _ _ h)
 item_step n d s t (inr e) h = sym (ap (λ z. step n z s t) e ∙ if_false (closes s t) _ _ h)
@@ -73,62 +73,62 @@ item_step n d s t (inr e) h = sym (ap (λ z. step n z s t) e ∙ if_false (close
 
 -- the form of items
 abbrev pub HasItems : StackSymbol → Type 0
-HasItems due.tuple = Unit {0}
-HasItems due.list = Unit {0}
+HasItems expectation.tuple = Unit {0}
+HasItems expectation.list = Unit {0}
 HasItems _ = ⊥
 
 -- the mark that closes a form
 abbrev pub close_of : StackSymbol → Token
-close_of due.tuple = paren_close
-close_of due.list = bracket_close
-close_of due.payload = paren_close
-close_of due.entries = brace_close
+close_of expectation.tuple = paren_close
+close_of expectation.list = bracket_close
+close_of expectation.payload = paren_close
+close_of expectation.entries = brace_close
 
 -- what closes the innermost form is its close
 pub close_token : (f : StackSymbol) (s : List StackSymbol) (t : Token) → closes (f ∷ s) t ≡ true → t ≡ close_of f
-close_token due.tuple s paren_close e = refl
-close_token due.list s bracket_close e = refl
+close_token expectation.tuple s paren_close e = refl
+close_token expectation.list s bracket_close e = refl
 close_token f s t e = let w : false ≡ true = e in cc
 
--- a token that is read where a value is due is on a level
+-- a token that is read where a value is expected is on a level
 pub on_level : (b : Bool) (x : Step) (d : Expectation) (r : List StackSymbol) → if b then x else too_deep ≡ reads d r → x ≡ reads d r
 on_level true x d r e = e
 on_level false x d r e = cc
 
 -- no close begins a value
 no_close_reads : (n : ℕ) (f : StackSymbol) (s : List StackSymbol) (d : Expectation) (r : List StackSymbol) → HasItems f → step n value s (close_of f) ≡ reads d r → ⊥
-no_close_reads n due.tuple s d r i h = let k : value_step s paren_close ≡ reads d r = on_level (nat_lt (length s) n) _ d r h in cc
-no_close_reads n due.list s d r i h = let k : value_step s bracket_close ≡ reads d r = on_level (nat_lt (length s) n) _ d r h in cc
+no_close_reads n expectation.tuple s d r i h = let k : value_step s paren_close ≡ reads d r = on_level (nat_lt (length s) n) _ d r h in cc
+no_close_reads n expectation.list s d r i h = let k : value_step s bracket_close ≡ reads d r = on_level (nat_lt (length s) n) _ d r h in cc
 no_close_reads n f s d r i h = absurd i
 
 -- what begins with a value may stand where an item or the close may
 item_leads : (n : ℕ) (d : Expectation) (f : StackSymbol) (s : List StackSymbol) (tokens : List Token) (e : Expectation) (r : List StackSymbol) (rest : List Token) → HasItems f → (d ≡ first_item) ⊎ (d ≡ next_item) → (value ≡ e → ⊥) → LeadsTo n value (f ∷ s) tokens e r rest → LeadsTo n d (f ∷ s) tokens e r rest
 item_leads n d f s tokens e r rest i at apart ([], same, (x, y)) = absurd (apart x)
-item_leads n d f s tokens e r rest i at apart (t ∷ front, same, (d', s', x, leads)) =
-    (t ∷ front, same, (d', s', sym (item_step n d (f ∷ s) t at (λ k. no_close_reads n f (f ∷ s) d' s' i (subst (λ z. step n value (f ∷ s) z ≡ reads d' s') (close_token f s t k) x))) ∙ x, leads))
+item_leads n d f s tokens e r rest i at apart (t ∷ prefix, same, (d', s', x, leads)) =
+    (t ∷ prefix, same, (d', s', sym (item_step n d (f ∷ s) t at (λ k. no_close_reads n f (f ∷ s) d' s' i (subst (λ z. step n value (f ∷ s) z ≡ reads d' s') (close_token f s t k) x))) ∙ x, leads))
 
--- after a value no value is due
+-- after a value no value is expected
 pub end_not_value : (d : Expectation) (rest : List Token) → IsEnd d rest → value ≡ d → ⊥
 end_not_value d rest (inl e) h = let k : value ≡ behind_value = h ∙ e in cc
 end_not_value d rest (inr (e, k)) h = let m : value ≡ behind_label = h ∙ e in cc
 
 -- after a value a comma or the close of its items
 pub comma_reads : (f : StackSymbol) (s : List StackSymbol) → HasItems f → behind_step (f ∷ s) comma ≡ reads next_item (f ∷ s)
-comma_reads due.tuple s i = refl
-comma_reads due.list s i = refl
+comma_reads expectation.tuple s i = refl
+comma_reads expectation.list s i = refl
 comma_reads f s i = absurd i
 
 -- the close after a value
 pub close_reads : (f : StackSymbol) (s : List StackSymbol) → behind_step (f ∷ s) (close_of f) ≡ reads behind_value s
-close_reads due.tuple s = refl
-close_reads due.list s = refl
-close_reads due.payload s = refl
-close_reads due.entries s = refl
+close_reads expectation.tuple s = refl
+close_reads expectation.list s = refl
+close_reads expectation.payload s = refl
+close_reads expectation.entries s = refl
 
 -- the close after a comma
 pub next_closes : (n : ℕ) (f : StackSymbol) (s : List StackSymbol) → HasItems f → step n next_item (f ∷ s) (close_of f) ≡ reads behind_value s
-next_closes n due.tuple s i = refl
-next_closes n due.list s i = refl
+next_closes n expectation.tuple s i = refl
+next_closes n expectation.list s i = refl
 next_closes n f s i = absurd i
 
 -- a form is closed after its value
@@ -141,11 +141,11 @@ further_led n f s P i led tokens [] rest d h (inl e) = subst (λ z. LeadsTo n d 
 further_led n f s P i led tokens [] rest d h (inr e) = subst (λ z. LeadsTo n d (f ∷ s) z behind_value s rest) (sym e)
     (one n d next_item behind_value (f ∷ s) (f ∷ s) s comma (close_of f ∷ rest) rest (end_step n d (f ∷ s) comma (close_of f ∷ rest) (subst (IsEnd d) e h) ∙ comma_reads f s i)
     (one n next_item behind_value behind_value (f ∷ s) s s (close_of f) rest rest (next_closes n f s i) (none n behind_value s rest rest refl)))
-further_led n f s P i led tokens (a ∷ more) rest d h (front, behind, e, p, k) =
-    let (d', h', leads) = led front a behind p in
+further_led n f s P i led tokens (a ∷ more) rest d h (prefix, behind, e, p, k) =
+    let (d', h', leads) = led prefix a behind p in
     subst (λ z. LeadsTo n d (f ∷ s) z behind_value s rest) (sym e)
-    (one n d next_item behind_value (f ∷ s) (f ∷ s) s comma front rest (end_step n d (f ∷ s) comma front (subst (IsEnd d) e h) ∙ comma_reads f s i)
-    (joined n next_item d' behind_value (f ∷ s) (f ∷ s) s front behind rest (item_leads n next_item f s front d' (f ∷ s) behind i (inr refl) (end_not_value d' behind h') leads)
+    (one n d next_item behind_value (f ∷ s) (f ∷ s) s comma prefix rest (end_step n d (f ∷ s) comma prefix (subst (IsEnd d) e h) ∙ comma_reads f s i)
+    (joined n next_item d' behind_value (f ∷ s) (f ∷ s) s prefix behind rest (item_leads n next_item f s prefix d' (f ∷ s) behind i (inr refl) (end_not_value d' behind h') leads)
     (further_led n f s P i led behind more rest d' h' k)))
 
 -- the items of a tuple or a list
@@ -158,32 +158,32 @@ items_led n f s P i led tokens a more rest (behind, p, k) =
 -- ---- payloads and labels
 
 -- a payload in its parentheses
-in_parens : (n : ℕ) (s : List StackSymbol) (P : Spelling Tree) → AreLed n (due.payload ∷ s) P → (d : Expectation) → step n d s paren_open ≡ reads value (due.payload ∷ s) → (tokens : List Token) (t : Tree) (rest : List Token) → InParens P tokens t rest →
+in_parens : (n : ℕ) (s : List StackSymbol) (P : Spelling Tree) → AreLed n (expectation.payload ∷ s) P → (d : Expectation) → step n d s paren_open ≡ reads value (expectation.payload ∷ s) → (tokens : List Token) (t : Tree) (rest : List Token) → InParens P tokens t rest →
     LeadsTo n d s tokens behind_value s rest
-in_parens n s P led d x tokens t rest (front, e, p) =
-    let (d', h', leads) = led front t (paren_close ∷ rest) p in
-    subst (λ z. LeadsTo n d s z behind_value s rest) (sym e) (one n d value behind_value s (due.payload ∷ s) s paren_open front rest x
-    (joined n value d' behind_value (due.payload ∷ s) (due.payload ∷ s) s front (paren_close ∷ rest) rest leads (form_closes n d' due.payload s rest h')))
+in_parens n s P led d x tokens t rest (prefix, e, p) =
+    let (d', h', leads) = led prefix t (paren_close ∷ rest) p in
+    subst (λ z. LeadsTo n d s z behind_value s rest) (sym e) (one n d value behind_value s (expectation.payload ∷ s) s paren_open prefix rest x
+    (joined n value d' behind_value (expectation.payload ∷ s) (expectation.payload ∷ s) s prefix (paren_close ∷ rest) rest leads (form_closes n d' expectation.payload s rest h')))
 
 -- a payload, or none
-maybe_led : (n : ℕ) (s : List StackSymbol) (P : Spelling Tree) → AreLed n (due.payload ∷ s) P → (tokens : List Token) (t : tree.MaybeTree) (rest : List Token) → MaybeInParens P tokens t rest → (d : Expectation) × IsEnd d rest × LeadsTo n behind_label s tokens d s rest
+maybe_led : (n : ℕ) (s : List StackSymbol) (P : Spelling Tree) → AreLed n (expectation.payload ∷ s) P → (tokens : List Token) (t : tree.MaybeTree) (rest : List Token) → MaybeInParens P tokens t rest → (d : Expectation) × IsEnd d rest × LeadsTo n behind_label s tokens d s rest
 maybe_led n s P led tokens t rest (inl (e, apart, f)) = (behind_label, inr (refl, apart), none n behind_label s tokens rest e)
 maybe_led n s P led tokens t rest (inr (u, p, f)) = (behind_value, inl refl, in_parens n s P led behind_label refl tokens u rest p)
 
 -- what stands after a label
-word_led : (n : ℕ) (s : List StackSymbol) (P : Spelling Tree) → AreLed n (due.payload ∷ s) P → (w : Word) (text : List ℕ) (tokens : List Token) (t : Tree) (rest : List Token) → BehindWord w text P tokens t rest →
-    (d : Expectation) × IsEnd d rest × LeadsTo n (due.due_behind w) s tokens d s rest
+word_led : (n : ℕ) (s : List StackSymbol) (P : Spelling Tree) → AreLed n (expectation.payload ∷ s) P → (w : Word) (text : List ℕ) (tokens : List Token) (t : Tree) (rest : List Token) → BehindWord w text P tokens t rest →
+    (d : Expectation) × IsEnd d rest × LeadsTo n (expectation.expected_behind w) s tokens d s rest
 word_led n s P led leaf_word text tokens t rest (e, f) = (behind_value, inl refl, none n behind_value s tokens rest e)
 word_led n s P led none_word text tokens t rest (e, f) = (behind_value, inl refl, none n behind_value s tokens rest e)
-word_led n s P led some_word text tokens t rest (u, p, f) = (behind_value, inl refl, in_parens n s P led due.paren refl tokens u rest p)
+word_led n s P led some_word text tokens t rest (u, p, f) = (behind_value, inl refl, in_parens n s P led expectation.paren refl tokens u rest p)
 word_led n s P led ok_word text tokens t rest (u, p, f) = maybe_led n s P led tokens u rest p
 word_led n s P led err_word text tokens t rest (u, p, f) = maybe_led n s P led tokens u rest p
 word_led n s P led case_word text tokens t rest (u, p, f) = maybe_led n s P led tokens u rest p
 
 -- ---- entries
 
--- a key where one is due after a comma
-pub key_there : (n : ℕ) (s : List StackSymbol) (t : Token) → IsKey t → step n due.key s t ≡ reads due.behind_key s
+-- a key where one is expected after a comma
+pub key_there : (n : ℕ) (s : List StackSymbol) (t : Token) → IsKey t → step n expectation.key s t ≡ reads expectation.behind_key s
 key_there n s (number text) h = refl
 key_there n s (label text) h = refl
 key_there n s (char text) h = refl
@@ -192,39 +192,39 @@ key_there n s (multiline text) h = refl
 key_there n s t h = absurd h
 
 -- the first key in braces, and its colon
-first_key : (n : ℕ) (s : List StackSymbol) (t : Token) (front rest : List Token) (d : Expectation) (r : List StackSymbol) → IsKey t → LeadsTo n value (due.entries ∷ s) front d r rest → LeadsTo n due.in_braces s (t ∷ colon ∷ front) d r rest
-first_key n s (number text) front rest d r h leads = one n due.in_braces due.behind_key d s s r (number text) (colon ∷ front) rest refl (one n due.behind_key value d s (due.entries ∷ s) r colon front rest refl leads)
-first_key n s (label text) front rest d r h leads = one n due.in_braces (due.behind_word text) d s s r (label text) (colon ∷ front) rest refl (one n (due.behind_word text) value d s (due.entries ∷ s) r colon front rest refl leads)
-first_key n s (char text) front rest d r h leads = one n due.in_braces due.behind_key d s s r (char text) (colon ∷ front) rest refl (one n due.behind_key value d s (due.entries ∷ s) r colon front rest refl leads)
-first_key n s (string text) front rest d r h leads = one n due.in_braces due.behind_key d s s r (string text) (colon ∷ front) rest refl (one n due.behind_key value d s (due.entries ∷ s) r colon front rest refl leads)
-first_key n s (multiline text) front rest d r h leads = one n due.in_braces due.behind_key d s s r (multiline text) (colon ∷ front) rest refl (one n due.behind_key value d s (due.entries ∷ s) r colon front rest refl leads)
-first_key n s t front rest d r h leads = absurd h
+first_key : (n : ℕ) (s : List StackSymbol) (t : Token) (prefix rest : List Token) (d : Expectation) (r : List StackSymbol) → IsKey t → LeadsTo n value (expectation.entries ∷ s) prefix d r rest → LeadsTo n expectation.in_braces s (t ∷ colon ∷ prefix) d r rest
+first_key n s (number text) prefix rest d r h leads = one n expectation.in_braces expectation.behind_key d s s r (number text) (colon ∷ prefix) rest refl (one n expectation.behind_key value d s (expectation.entries ∷ s) r colon prefix rest refl leads)
+first_key n s (label text) prefix rest d r h leads = one n expectation.in_braces (expectation.behind_word text) d s s r (label text) (colon ∷ prefix) rest refl (one n (expectation.behind_word text) value d s (expectation.entries ∷ s) r colon prefix rest refl leads)
+first_key n s (char text) prefix rest d r h leads = one n expectation.in_braces expectation.behind_key d s s r (char text) (colon ∷ prefix) rest refl (one n expectation.behind_key value d s (expectation.entries ∷ s) r colon prefix rest refl leads)
+first_key n s (string text) prefix rest d r h leads = one n expectation.in_braces expectation.behind_key d s s r (string text) (colon ∷ prefix) rest refl (one n expectation.behind_key value d s (expectation.entries ∷ s) r colon prefix rest refl leads)
+first_key n s (multiline text) prefix rest d r h leads = one n expectation.in_braces expectation.behind_key d s s r (multiline text) (colon ∷ prefix) rest refl (one n expectation.behind_key value d s (expectation.entries ∷ s) r colon prefix rest refl leads)
+first_key n s t prefix rest d r h leads = absurd h
 
 -- the further entries of braces
-entries_further : (n : ℕ) (s : List StackSymbol) (P : Spelling Tree) → AreLed n (due.entries ∷ s) P → (tokens : List Token) (es : List (Token × Tree)) (rest : List Token) (d : Expectation) → IsEnd d tokens → FurtherItems brace_close (KeyAnd P) tokens es rest →
-    LeadsTo n d (due.entries ∷ s) tokens behind_value s rest
-entries_further n s P led tokens [] rest d h (inl e) = subst (λ z. LeadsTo n d (due.entries ∷ s) z behind_value s rest) (sym e)
-    (form_closes n d due.entries s rest (subst (IsEnd d) e h))
-entries_further n s P led tokens [] rest d h (inr e) = subst (λ z. LeadsTo n d (due.entries ∷ s) z behind_value s rest) (sym e)
-    (one n d due.key behind_value (due.entries ∷ s) s s comma (brace_close ∷ rest) rest (end_step n d (due.entries ∷ s) comma (brace_close ∷ rest) (subst (IsEnd d) e h))
-    (one n due.key behind_value behind_value s s s brace_close rest rest refl (none n behind_value s rest rest refl)))
-entries_further n s P led tokens (a ∷ more) rest d h (front, behind, e, (inside, f, k, p), g) =
+entries_further : (n : ℕ) (s : List StackSymbol) (P : Spelling Tree) → AreLed n (expectation.entries ∷ s) P → (tokens : List Token) (es : List (Token × Tree)) (rest : List Token) (d : Expectation) → IsEnd d tokens → FurtherItems brace_close (KeyAnd P) tokens es rest →
+    LeadsTo n d (expectation.entries ∷ s) tokens behind_value s rest
+entries_further n s P led tokens [] rest d h (inl e) = subst (λ z. LeadsTo n d (expectation.entries ∷ s) z behind_value s rest) (sym e)
+    (form_closes n d expectation.entries s rest (subst (IsEnd d) e h))
+entries_further n s P led tokens [] rest d h (inr e) = subst (λ z. LeadsTo n d (expectation.entries ∷ s) z behind_value s rest) (sym e)
+    (one n d expectation.key behind_value (expectation.entries ∷ s) s s comma (brace_close ∷ rest) rest (end_step n d (expectation.entries ∷ s) comma (brace_close ∷ rest) (subst (IsEnd d) e h))
+    (one n expectation.key behind_value behind_value s s s brace_close rest rest refl (none n behind_value s rest rest refl)))
+entries_further n s P led tokens (a ∷ more) rest d h (prefix, behind, e, (inside, f, k, p), g) =
     let (d', h', leads) = led inside a.1 behind p in
     let same : tokens ≡ comma ∷ a.0 ∷ colon ∷ inside = e ∙ ap (λ z. comma ∷ z) f in
-    subst (λ z. LeadsTo n d (due.entries ∷ s) z behind_value s rest) (sym same)
-    (one n d due.key behind_value (due.entries ∷ s) s s comma (a.0 ∷ colon ∷ inside) rest (end_step n d (due.entries ∷ s) comma (a.0 ∷ colon ∷ inside) (subst (IsEnd d) same h))
-    (one n due.key due.behind_key behind_value s s s a.0 (colon ∷ inside) rest (key_there n s a.0 k)
-    (one n due.behind_key value behind_value s (due.entries ∷ s) s colon inside rest refl
-    (joined n value d' behind_value (due.entries ∷ s) (due.entries ∷ s) s inside behind rest leads (entries_further n s P led behind more rest d' h' g)))))
+    subst (λ z. LeadsTo n d (expectation.entries ∷ s) z behind_value s rest) (sym same)
+    (one n d expectation.key behind_value (expectation.entries ∷ s) s s comma (a.0 ∷ colon ∷ inside) rest (end_step n d (expectation.entries ∷ s) comma (a.0 ∷ colon ∷ inside) (subst (IsEnd d) same h))
+    (one n expectation.key expectation.behind_key behind_value s s s a.0 (colon ∷ inside) rest (key_there n s a.0 k)
+    (one n expectation.behind_key value behind_value s (expectation.entries ∷ s) s colon inside rest refl
+    (joined n value d' behind_value (expectation.entries ∷ s) (expectation.entries ∷ s) s inside behind rest leads (entries_further n s P led behind more rest d' h' g)))))
 
 -- the entries of braces
-entries_led : (n : ℕ) (s : List StackSymbol) (P : Spelling Tree) → AreLed n (due.entries ∷ s) P → (tokens : List Token) (es : List (Token × Tree)) (rest : List Token) → 0 < length es → Items brace_close (KeyAnd P) tokens es rest →
-    LeadsTo n due.in_braces s tokens behind_value s rest
+entries_led : (n : ℕ) (s : List StackSymbol) (P : Spelling Tree) → AreLed n (expectation.entries ∷ s) P → (tokens : List Token) (es : List (Token × Tree)) (rest : List Token) → 0 < length es → Items brace_close (KeyAnd P) tokens es rest →
+    LeadsTo n expectation.in_braces s tokens behind_value s rest
 entries_led n s P led tokens [] rest l h = absurd (omega arith)
 entries_led n s P led tokens (a ∷ more) rest l (behind, (inside, f, k, p), g) =
     let (d', h', leads) = led inside a.1 behind p in
-    subst (λ z. LeadsTo n due.in_braces s z behind_value s rest) (sym f) (first_key n s a.0 inside rest behind_value s k
-    (joined n value d' behind_value (due.entries ∷ s) (due.entries ∷ s) s inside behind rest leads (entries_further n s P led behind more rest d' h' g)))
+    subst (λ z. LeadsTo n expectation.in_braces s z behind_value s rest) (sym f) (first_key n s a.0 inside rest behind_value s k
+    (joined n value d' behind_value (expectation.entries ∷ s) (expectation.entries ∷ s) s inside behind rest leads (entries_further n s P led behind more rest d' h' g)))
 
 -- ---- flags
 
@@ -264,38 +264,38 @@ none_in_nil (x ∷ more) = (refl, none_in_nil more)
 
 -- the further flags
 flags_further : (n : ℕ) (s : List StackSymbol) (names : List (List ℕ)) (tokens : List Token) (texts : List (List ℕ)) (rest : List Token) → AllNew names (map name_of texts) → FurtherItems brace_close Label tokens texts rest →
-    LeadsTo n (due.behind_flag names) s tokens behind_value s rest
-flags_further n s names tokens [] rest h (inl e) = subst (λ z. LeadsTo n (due.behind_flag names) s z behind_value s rest) (sym e)
-    (one n (due.behind_flag names) behind_value behind_value s s s brace_close rest rest refl (none n behind_value s rest rest refl))
-flags_further n s names tokens [] rest h (inr e) = subst (λ z. LeadsTo n (due.behind_flag names) s z behind_value s rest) (sym e)
-    (one n (due.behind_flag names) (due.flag names) behind_value s s s comma (brace_close ∷ rest) rest refl (one n (due.flag names) behind_value behind_value s s s brace_close rest rest refl (none n behind_value s rest rest refl)))
-flags_further n s names tokens (x ∷ more) rest (a, h) (front, behind, e, f, k) =
-    subst (λ z. LeadsTo n (due.behind_flag names) s z behind_value s rest) (sym (e ∙ ap (λ z. comma ∷ z) f))
-    (one n (due.behind_flag names) (due.flag names) behind_value s s s comma (label x ∷ behind) rest refl
-    (one n (due.flag names) (due.behind_flag (names ++ name_of x ∷ [])) behind_value s s s (label x) behind rest
-    (ap (λ b. if b then due.repeated_flag else reads (due.behind_flag (names ++ name_of x ∷ [])) s) a)
+    LeadsTo n (expectation.behind_flag names) s tokens behind_value s rest
+flags_further n s names tokens [] rest h (inl e) = subst (λ z. LeadsTo n (expectation.behind_flag names) s z behind_value s rest) (sym e)
+    (one n (expectation.behind_flag names) behind_value behind_value s s s brace_close rest rest refl (none n behind_value s rest rest refl))
+flags_further n s names tokens [] rest h (inr e) = subst (λ z. LeadsTo n (expectation.behind_flag names) s z behind_value s rest) (sym e)
+    (one n (expectation.behind_flag names) (expectation.flag names) behind_value s s s comma (brace_close ∷ rest) rest refl (one n (expectation.flag names) behind_value behind_value s s s brace_close rest rest refl (none n behind_value s rest rest refl)))
+flags_further n s names tokens (x ∷ more) rest (a, h) (prefix, behind, e, f, k) =
+    subst (λ z. LeadsTo n (expectation.behind_flag names) s z behind_value s rest) (sym (e ∙ ap (λ z. comma ∷ z) f))
+    (one n (expectation.behind_flag names) (expectation.flag names) behind_value s s s comma (label x ∷ behind) rest refl
+    (one n (expectation.flag names) (expectation.behind_flag (names ++ name_of x ∷ [])) behind_value s s s (label x) behind rest
+    (ap (λ b. if b then expectation.repeated_flag else reads (expectation.behind_flag (names ++ name_of x ∷ [])) s) a)
     (flags_further n s (names ++ name_of x ∷ []) behind more rest h k)))
 
 -- after the first flag a colon would make it a key
 word_further : (n : ℕ) (s : List StackSymbol) (text : List ℕ) (tokens : List Token) (texts : List (List ℕ)) (rest : List Token) → AllNew (name_of text ∷ []) (map name_of texts) → FurtherItems brace_close Label tokens texts rest →
-    LeadsTo n (due.behind_word text) s tokens behind_value s rest
-word_further n s text tokens [] rest h (inl e) = subst (λ z. LeadsTo n (due.behind_word text) s z behind_value s rest) (sym e)
-    (one n (due.behind_word text) behind_value behind_value s s s brace_close rest rest refl (none n behind_value s rest rest refl))
-word_further n s text tokens [] rest h (inr e) = subst (λ z. LeadsTo n (due.behind_word text) s z behind_value s rest) (sym e)
-    (one n (due.behind_word text) (due.flag (name_of text ∷ [])) behind_value s s s comma (brace_close ∷ rest) rest refl (one n (due.flag (name_of text ∷ [])) behind_value behind_value s s s brace_close rest rest refl (none n behind_value s rest rest refl)))
-word_further n s text tokens (x ∷ more) rest (a, h) (front, behind, e, f, k) =
-    subst (λ z. LeadsTo n (due.behind_word text) s z behind_value s rest) (sym (e ∙ ap (λ z. comma ∷ z) f))
-    (one n (due.behind_word text) (due.flag (name_of text ∷ [])) behind_value s s s comma (label x ∷ behind) rest refl
-    (one n (due.flag (name_of text ∷ [])) (due.behind_flag (name_of text ∷ name_of x ∷ [])) behind_value s s s (label x) behind rest
-    (ap (λ b. if b then due.repeated_flag else reads (due.behind_flag (name_of text ∷ name_of x ∷ [])) s) a)
+    LeadsTo n (expectation.behind_word text) s tokens behind_value s rest
+word_further n s text tokens [] rest h (inl e) = subst (λ z. LeadsTo n (expectation.behind_word text) s z behind_value s rest) (sym e)
+    (one n (expectation.behind_word text) behind_value behind_value s s s brace_close rest rest refl (none n behind_value s rest rest refl))
+word_further n s text tokens [] rest h (inr e) = subst (λ z. LeadsTo n (expectation.behind_word text) s z behind_value s rest) (sym e)
+    (one n (expectation.behind_word text) (expectation.flag (name_of text ∷ [])) behind_value s s s comma (brace_close ∷ rest) rest refl (one n (expectation.flag (name_of text ∷ [])) behind_value behind_value s s s brace_close rest rest refl (none n behind_value s rest rest refl)))
+word_further n s text tokens (x ∷ more) rest (a, h) (prefix, behind, e, f, k) =
+    subst (λ z. LeadsTo n (expectation.behind_word text) s z behind_value s rest) (sym (e ∙ ap (λ z. comma ∷ z) f))
+    (one n (expectation.behind_word text) (expectation.flag (name_of text ∷ [])) behind_value s s s comma (label x ∷ behind) rest refl
+    (one n (expectation.flag (name_of text ∷ [])) (expectation.behind_flag (name_of text ∷ name_of x ∷ [])) behind_value s s s (label x) behind rest
+    (ap (λ b. if b then expectation.repeated_flag else reads (expectation.behind_flag (name_of text ∷ name_of x ∷ [])) s) a)
     (flags_further n s (name_of text ∷ name_of x ∷ []) behind more rest h k)))
 
 -- the flags of braces
-flags_led : (n : ℕ) (s : List StackSymbol) (tokens : List Token) (texts : List (List ℕ)) (rest : List Token) → 0 < length texts → AreDistinct (map name_of texts) → Items brace_close Label tokens texts rest → LeadsTo n due.in_braces s tokens behind_value s rest
+flags_led : (n : ℕ) (s : List StackSymbol) (tokens : List Token) (texts : List (List ℕ)) (rest : List Token) → 0 < length texts → AreDistinct (map name_of texts) → Items brace_close Label tokens texts rest → LeadsTo n expectation.in_braces s tokens behind_value s rest
 flags_led n s tokens [] rest l d h = absurd (omega arith)
 flags_led n s tokens (x ∷ more) rest l (b, d) (behind, f, k) =
-    subst (λ z. LeadsTo n due.in_braces s z behind_value s rest) (sym f)
-    (one n due.in_braces (due.behind_word x) behind_value s s s (label x) behind rest refl
+    subst (λ z. LeadsTo n expectation.in_braces s z behind_value s rest) (sym f)
+    (one n expectation.in_braces (expectation.behind_word x) behind_value s s s (label x) behind rest refl
     (word_further n s x behind more rest (all_new (name_of x ∷ []) (map name_of more) (none_in_more [] (map name_of more) (name_of x) (none_in_nil (map name_of more)) b) d) k))
 
 -- ---- all trees
@@ -307,28 +307,28 @@ opens n s t d r l e = level_open n s t l ∙ e
 -- a tree, where the trees in it are led to
 tree_led : (n : ℕ) (s : List StackSymbol) (P : Spelling Tree) → length s < n → ((f : StackSymbol) → AreLed n (f ∷ s) P) → AreLed n s (ATree P)
 tree_led n s P l led [] t rest h = absurd h
-tree_led n s P l led (paren_open ∷ front) t rest ([], some, h, e) = absurd (omega arith)
-tree_led n s P l led (paren_open ∷ front) t rest (a ∷ more, some, h, e) =
-    (behind_value, inl refl, one n value first_item behind_value s (due.tuple ∷ s) s paren_open front rest (opens n s paren_open first_item (due.tuple ∷ s) l refl) (items_led n due.tuple s P tt (led due.tuple) front a more rest h))
-tree_led n s P l led (bracket_open ∷ front) t rest ([], h, e) = (
+tree_led n s P l led (paren_open ∷ prefix) t rest ([], some, h, e) = absurd (omega arith)
+tree_led n s P l led (paren_open ∷ prefix) t rest (a ∷ more, some, h, e) =
+    (behind_value, inl refl, one n value first_item behind_value s (expectation.tuple ∷ s) s paren_open prefix rest (opens n s paren_open first_item (expectation.tuple ∷ s) l refl) (items_led n expectation.tuple s P tt (led expectation.tuple) prefix a more rest h))
+tree_led n s P l led (bracket_open ∷ prefix) t rest ([], h, e) = (
   behind_value,
   inl refl,
-  one n value first_item behind_value s (due.list ∷ s) s bracket_open front rest (opens n s bracket_open first_item (due.list ∷ s) l refl)
-      (subst (λ z. LeadsTo n first_item (due.list ∷ s) z behind_value s rest) (sym h) (one n first_item behind_value behind_value (due.list ∷ s) s s bracket_close rest rest refl (none n behind_value s rest rest refl))),
+  one n value first_item behind_value s (expectation.list ∷ s) s bracket_open prefix rest (opens n s bracket_open first_item (expectation.list ∷ s) l refl)
+      (subst (λ z. LeadsTo n first_item (expectation.list ∷ s) z behind_value s rest) (sym h) (one n first_item behind_value behind_value (expectation.list ∷ s) s s bracket_close rest rest refl (none n behind_value s rest rest refl))),
 )
-tree_led n s P l led (bracket_open ∷ front) t rest (a ∷ more, h, e) =
-    (behind_value, inl refl, one n value first_item behind_value s (due.list ∷ s) s bracket_open front rest (opens n s bracket_open first_item (due.list ∷ s) l refl) (items_led n due.list s P tt (led due.list) front a more rest h))
-tree_led n s P l led (brace_open ∷ front) t rest h = (behind_value, inl refl, one n value due.in_braces behind_value s s s brace_open front rest (opens n s brace_open due.in_braces s l refl) (inside h))
+tree_led n s P l led (bracket_open ∷ prefix) t rest (a ∷ more, h, e) =
+    (behind_value, inl refl, one n value first_item behind_value s (expectation.list ∷ s) s bracket_open prefix rest (opens n s bracket_open first_item (expectation.list ∷ s) l refl) (items_led n expectation.list s P tt (led expectation.list) prefix a more rest h))
+tree_led n s P l led (brace_open ∷ prefix) t rest h = (behind_value, inl refl, one n value expectation.in_braces behind_value s s s brace_open prefix rest (opens n s brace_open expectation.in_braces s l refl) (inside h))
   where
-    inside : InBraces P front t rest → LeadsTo n due.in_braces s front behind_value s rest
-    inside (inl (e, f)) = subst (λ z. LeadsTo n due.in_braces s z behind_value s rest) (sym e) (one n due.in_braces behind_value behind_value s s s brace_close rest rest refl (none n behind_value s rest rest refl))
-    inside (inr (inl (e, f))) = subst (λ z. LeadsTo n due.in_braces s z behind_value s rest) (sym e)
-        (one n due.in_braces due.no_fields behind_value s s s colon (brace_close ∷ rest) rest refl (one n due.no_fields behind_value behind_value s s s brace_close rest rest refl (none n behind_value s rest rest refl)))
-    inside (inr (inr (inl (es, k, h, f)))) = entries_led n s P (led due.entries) front es rest k h
-    inside (inr (inr (inr (texts, k, h, d, f)))) = flags_led n s front texts rest k d h
+    inside : InBraces P prefix t rest → LeadsTo n expectation.in_braces s prefix behind_value s rest
+    inside (inl (e, f)) = subst (λ z. LeadsTo n expectation.in_braces s z behind_value s rest) (sym e) (one n expectation.in_braces behind_value behind_value s s s brace_close rest rest refl (none n behind_value s rest rest refl))
+    inside (inr (inl (e, f))) = subst (λ z. LeadsTo n expectation.in_braces s z behind_value s rest) (sym e)
+        (one n expectation.in_braces expectation.no_fields behind_value s s s colon (brace_close ∷ rest) rest refl (one n expectation.no_fields behind_value behind_value s s s brace_close rest rest refl (none n behind_value s rest rest refl)))
+    inside (inr (inr (inl (es, k, h, f)))) = entries_led n s P (led expectation.entries) prefix es rest k h
+    inside (inr (inr (inr (texts, k, h, d, f)))) = flags_led n s prefix texts rest k d h
 tree_led n s P l led (label text ∷ behind) t rest h =
-    let (d, e, leads) = word_led n s P (led due.payload) (word_of text) text behind t rest h in
-    (d, e, one n value (due.due_behind (word_of text)) d s s s (label text) behind rest (opens n s (label text) (due.due_behind (word_of text)) s l refl) leads)
+    let (d, e, leads) = word_led n s P (led expectation.payload) (word_of text) text behind t rest h in
+    (d, e, one n value (expectation.expected_behind (word_of text)) d s s s (label text) behind rest (opens n s (label text) (expectation.expected_behind (word_of text)) s l refl) leads)
 tree_led n s P l led (number text ∷ behind) t rest (e, f) = (behind_value, inl refl, one n value behind_value behind_value s s s (number text) behind rest (opens n s (number text) behind_value s l refl) (none n behind_value s behind rest e))
 tree_led n s P l led (char text ∷ behind) t rest (e, f) = (behind_value, inl refl, one n value behind_value behind_value s s s (char text) behind rest (opens n s (char text) behind_value s l refl) (none n behind_value s behind rest e))
 tree_led n s P l led (string text ∷ behind) t rest (e, f) = (behind_value, inl refl, one n value behind_value behind_value s s s (string text) behind rest (opens n s (string text) behind_value s l refl) (none n behind_value s behind rest e))
@@ -340,7 +340,7 @@ pub takes_lead : (k n : ℕ) (s : List StackSymbol) → k + length s ≤ n → A
 takes_lead zero n s l = λ tokens t rest h. absurd h
 takes_lead (suc k) n s l = tree_led n s (Takes k) (omega arith) (λ f. takes_lead k n (f ∷ s) (omega arith))
 
--- no more is due of a value
+-- no more is expected of a value
 pub end_before : (d : Expectation) (rest : List Token) → IsEnd d rest → EndsBefore d rest
 end_before d rest (inl e) = subst (λ z. EndsBefore z rest) (sym e) tt
 end_before d rest (inr (e, k)) = subst (λ z. EndsBefore z rest) (sym e) k
@@ -348,5 +348,5 @@ end_before d rest (inr (e, k)) = subst (λ z. EndsBefore z rest) (sym e) k
 -- each tree is led to from where no form is open
 pub trees_are_accepted : TreesAreAccepted
 trees_are_accepted n tokens rest t h =
-    let (d, ends, (front, same, leads)) = takes_lead n n [] (omega arith) tokens t rest h in
-    (front, d, same, end_before d rest ends, leads)
+    let (d, ends, (prefix, same, leads)) = takes_lead n n [] (omega arith) tokens t rest h in
+    (prefix, d, same, end_before d rest ends, leads)

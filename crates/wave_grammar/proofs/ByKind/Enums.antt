@@ -21,12 +21,12 @@ use Rattle.wave_grammar.specs.FaultOrder.{Order, FirstFault}
 use Rattle.wave_grammar.specs.NodeTree.{NodeTree, type_of, place_of}
 use Rattle.wave_grammar.specs.Nodes.{placed_of, shape_from}
 use Rattle.wave_grammar.specs.NodeAccessors.{node_text}
-use Rattle.wave_grammar.specs.TypedReading.{IsTypedValue, IsBlamed, IsMade}
+use Rattle.wave_grammar.specs.TypedReading.{IsTypedValue, IsBlamed, IsBuilt}
 use Rattle.wave_grammar.specs.PartReading.{IsCaused}
 use Rattle.wave_grammar.proofs.ChildNodes.Inside.{From, inside, some_is}
 use Rattle.wave_grammar.proofs.ChildNodes.Cases.{shape_at}
 use Rattle.wave_grammar.proofs.ByKind.Leaves.{tree_is, at_tree}
-use Rattle.wave_grammar.proofs.ByKind.MakerAnswers.{made}
+use Rattle.wave_grammar.proofs.ByKind.MakerAnswers.{built}
 use Rattle.wave_grammar.proofs.ByKind.Unreadable.{caused_blame}
 use Rattle.wave_grammar.specs.declared.form.NodeType.{NodeType}
 use Rattle.wave_grammar.specs.declared.form.NodeType.TheVariants as kind
@@ -85,11 +85,11 @@ module _ {V : Type 0} (tree : V → Value) (of : V → TypeTree → Type 0) (Ful
   enum_full T names name (Err cause) is h f = λ full. f full names is h
 
   -- the case was made, or its constructor refused
-  pub enum_made : (T : TypeTree) (names : List (List ℕ)) (source : List ℕ) (n : NodeTree) (t : SpannedTree) (name : List ℕ) (m : Result V WasmValueError) (r : Result V Diagnostic) → T ≡ type.enum names → HasDistinctNames T → placed_of source n ≡ Some t → type_of n ≡ kind.Label → name ≡ name_of (node_text source n) → IsOneOf names name → IfOk m (MakesEnum tree of T name) → IfErr m (FullEnum of Full T name) → IsMade n m r → MatchResult r (IsTypedValue tree of T t) (IsBlamed Full o w T t)
-  enum_made T names source n t name m r is distinct node ty named known ok full done =
+  pub enum_built : (T : TypeTree) (names : List (List ℕ)) (source : List ℕ) (n : NodeTree) (t : SpannedTree) (name : List ℕ) (m : Result V WasmValueError) (r : Result V Diagnostic) → T ≡ type.enum names → HasDistinctNames T → placed_of source n ≡ Some t → type_of n ≡ kind.Label → name ≡ name_of (node_text source n) → IsOneOf names name → IfOk m (MakesEnum tree of T name) → IfErr m (FullEnum of Full T name) → IsBuilt n m r → MatchResult r (IsTypedValue tree of T t) (IsBlamed Full o w T t)
+  enum_built T names source n t name m r is distinct node ty named known ok full done =
       let shape = label_node source n t node ty in
       let read : TreeReads (type.enum names) (tree_of t) (value.enum name) = (node_text source n, tree_is t (label (place_of n) (node_text source n) no_placed) shape, subst (IsOneOf names) named known, ap value.enum named) in
-      made tree of Full o w T t n m r done (enum_reads T names t name m is distinct read ok) (enum_full T names name m is known full)
+      built tree of Full o w T t n m r done (enum_reads T names t name m is distinct read ok) (enum_full T names name m is known full)
 
 -- ---- no value
 

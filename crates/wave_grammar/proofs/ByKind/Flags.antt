@@ -23,10 +23,10 @@ use Rattle.wave_grammar.specs.FaultOrder.{Order, FirstOf, FirstFault}
 use Rattle.wave_grammar.specs.NodeTree.{NodeTree, type_of, place_of, children_of}
 use Rattle.wave_grammar.specs.Nodes.{IsNodeOf}
 use Rattle.wave_grammar.specs.NodeFlags.{names_at, AreFlags, IsFirstUnknown, RefusesFlags}
-use Rattle.wave_grammar.specs.TypedReading.{IsTypedValue, IsBlamed, IsMade}
+use Rattle.wave_grammar.specs.TypedReading.{IsTypedValue, IsBlamed, IsBuilt}
 use Rattle.wave_grammar.proofs.ChildNodes.Inside.{From, inside}
 use Rattle.wave_grammar.proofs.ByKind.Leaves.{tree_is, at_tree, said}
-use Rattle.wave_grammar.proofs.ByKind.MakerAnswers.{made}
+use Rattle.wave_grammar.proofs.ByKind.MakerAnswers.{built}
 use Rattle.wave_wasm.proofs.Names.NameTests.{passes}
 use Rattle.wave_grammar.proofs.ByKind.Enums.{none_one}
 use Rattle.wave_wasm.proofs.Names.Subsequences.{picked_distinct, picked_of}
@@ -109,8 +109,8 @@ module _ {V : Type 0} (tree : V → Value) (of : V → TypeTree → Type 0) (Ful
       (makes distinct apart (subst (λ (U : TypeTree). ArePicked (flags_names U) (filter (is_one_of (flags_names U)) (texts picked))) (sym is) (subst (ArePicked names) (sym all) some))).is_of
 
   -- the flags were made, or their constructor refused
-  pub flags_made : (T : TypeTree) (names : List (List ℕ)) (source : List ℕ) (n : NodeTree) (t : SpannedTree) (picked : List (Bor (List ℕ))) (m : Result V WasmValueError) (r : Result V Diagnostic) → T ≡ type.flags names → HasDistinctNames T → IsNodeOf source n t → AreFlags n → AreAllOf names (names_at source (children_of n)) → texts picked ≡ found_in (names_at source (children_of n)) names → IfOk m (MakesFlags tree of T picked) → IfErr m (FullFlags of Full T picked) → IsMade n m r → MatchResult r (IsTypedValue tree of T t) (IsBlamed Full o w T t)
-  flags_made T names source n t picked m r is distinct node ok known found makes full done =
+  pub flags_built : (T : TypeTree) (names : List (List ℕ)) (source : List ℕ) (n : NodeTree) (t : SpannedTree) (picked : List (Bor (List ℕ))) (m : Result V WasmValueError) (r : Result V Diagnostic) → T ≡ type.flags names → HasDistinctNames T → IsNodeOf source n t → AreFlags n → AreAllOf names (names_at source (children_of n)) → texts picked ≡ found_in (names_at source (children_of n)) names → IfOk m (MakesFlags tree of T picked) → IfErr m (FullFlags of Full T picked) → IsBuilt n m r → MatchResult r (IsTypedValue tree of T t) (IsBlamed Full o w T t)
+  flags_built T names source n t picked m r is distinct node ok known found makes full done =
       let g = flags_given source n t node ok in
       let words = map (λ (f : Range ℕ × List ℕ). f.1) g.labels in
       let named : names_at source (children_of n) ≡ map name_of words = g.names ∙ sym (map_map name_of (λ (f : Range ℕ × List ℕ). f.1) g.labels) in
@@ -118,7 +118,7 @@ module _ {V : Type 0} (tree : V → Value) (of : V → TypeTree → Type 0) (Ful
       let apart : AreDistinct (texts picked) = picked_distinct names (texts picked) some (subst HasDistinctNames is distinct) in
       let same : filter (is_one_of names) (texts picked) ≡ texts picked = all_pass names (texts picked) (picked_of names (texts picked) some) in
       let read : TreeReads (type.flags names) (tree_of t) (value.flags (texts picked)) = (words, spelled g, subst (AreAllOf names) named known, ap value.flags (found ∙ ap (λ (l : List (List ℕ)). found_in l names) named)) in
-      made tree of Full o w T t n m r done (flags_reads T names t picked m is distinct read apart (subst (ArePicked names) (sym same) some) makes) (flags_full T names picked m is apart some full)
+      built tree of Full o w T t n m r done (flags_reads T names t picked m is distinct read apart (subst (ArePicked names) (sym same) some) makes) (flags_full T names picked m is apart some full)
     where
       spelled : (g : FlagsNode source n t) → (tree_of t ≡ form.empty_braces) × (map (λ (f : Range ℕ × List ℕ). f.1) g.labels ≡ []) ⊎ (tree_of t ≡ form.flags (map (λ (f : Range ℕ × List ℕ). f.1) g.labels))
       spelled g = in_form g.form

@@ -22,7 +22,7 @@ use Rattle.wave_grammar.specs.TypeErrors.{IsRefusalOf, IsForm, LoneKeyFault}
 use Rattle.wave_grammar.specs.NodeTree.{NodeTree, type_of, place_of}
 use Rattle.wave_grammar.specs.Nodes.{key_of, IsTokenOf}
 use Rattle.wave_grammar.specs.NodeAccessors.{node_text, GivesNumber, GivesBoolKey}
-use Rattle.wave_grammar.specs.TypedReading.{IsKeyRead, IsKeyBlamed, IsMade}
+use Rattle.wave_grammar.specs.TypedReading.{IsKeyRead, IsKeyBlamed, IsBuilt}
 use Rattle.wave_grammar.proofs.ChildNodes.Inside.{From, inside, some_is, key_place}
 use Rattle.wave_grammar.proofs.ByKind.Leaves.{said}
 use Rattle.wave_grammar.specs.declared.form.NodeType.{NodeType}
@@ -149,17 +149,17 @@ refused Full K p key (error.Memory a) e is full = inl (ap (λ (r : Refusal). r.k
 refused Full K p key _ e is full = inr (inr (ap (λ (r : Refusal). r.kind) is, full))
 
 module _ {V : Type 0} (tree : V → Value) (of : V → TypeTree → Type 0) (Full : TypeTree → Type 0) where
-  made_at : (K : Simple) (p : Range ℕ) (key : Token) (n : NodeTree) (one_leaf : Leaf) (m : Result V WasmValueError) (r : Result V Diagnostic) → leaf_type one_leaf ≡ K → Spells K key one_leaf → IfOk m (MakesLeaf tree of one_leaf) → IfErr m (FullLeaf Full one_leaf) → IsMade n m r → MatchResult r (IsKeyRead tree of K key) (IsKeyBlamed Full K p key)
-  made_at K p key n l (Ok v) (Ok w) is spelled ok full done =
+  built_at : (K : Simple) (p : Range ℕ) (key : Token) (n : NodeTree) (one_leaf : Leaf) (m : Result V WasmValueError) (r : Result V Diagnostic) → leaf_type one_leaf ≡ K → Spells K key one_leaf → IfOk m (MakesLeaf tree of one_leaf) → IfErr m (FullLeaf Full one_leaf) → IsBuilt n m r → MatchResult r (IsKeyRead tree of K key) (IsKeyBlamed Full K p key)
+  built_at K p key n l (Ok v) (Ok w) is spelled ok full done =
       subst (IsKeyRead tree of K key) (sym done) (record { leaf = l; spells = spelled; means = ok.means; is_of = subst (λ (S : Simple). of v (type.simple S)) is ok.is_of })
-  made_at K p key n l (Ok v) (Err e) is spelled ok full done = absurd done
-  made_at K p key n l (Err cause) (Ok w) is spelled ok full done = absurd done
-  made_at K p key n l (Err cause) (Err e) is spelled ok full done = refused Full K p key cause e done.0 (λ f. full (subst (λ (S : Simple). Full (type.simple S)) (sym is) f))
+  built_at K p key n l (Ok v) (Err e) is spelled ok full done = absurd done
+  built_at K p key n l (Err cause) (Ok w) is spelled ok full done = absurd done
+  built_at K p key n l (Err cause) (Err e) is spelled ok full done = refused Full K p key cause e done.0 (λ f. full (subst (λ (S : Simple). Full (type.simple S)) (sym is) f))
 
   -- the key's value was made, or its constructor refused
-  pub key_made : (T : TypeTree) (K S : Simple) (p : Range ℕ) (key : Token) (n : NodeTree) (one_leaf : Leaf) (m : Result V WasmValueError) (r : Result V Diagnostic) → T ≡ type.simple K → T ≡ type.simple S → leaf_type one_leaf ≡ S → Spells S key one_leaf → IfOk m (MakesLeaf tree of one_leaf) → IfErr m (FullLeaf Full one_leaf) → IsMade n m r → MatchResult r (IsKeyRead tree of K key) (IsKeyBlamed Full K p key)
-  key_made T K S p key n l m r e f is spelled ok full done =
-      subst (λ (R : Simple). MatchResult r (IsKeyRead tree of R key) (IsKeyBlamed Full R p key)) (one_simple T K S e f) (made_at S p key n l m r is spelled ok full done)
+  pub key_built : (T : TypeTree) (K S : Simple) (p : Range ℕ) (key : Token) (n : NodeTree) (one_leaf : Leaf) (m : Result V WasmValueError) (r : Result V Diagnostic) → T ≡ type.simple K → T ≡ type.simple S → leaf_type one_leaf ≡ S → Spells S key one_leaf → IfOk m (MakesLeaf tree of one_leaf) → IfErr m (FullLeaf Full one_leaf) → IsBuilt n m r → MatchResult r (IsKeyRead tree of K key) (IsKeyBlamed Full K p key)
+  key_built T K S p key n l m r e f is spelled ok full done =
+      subst (λ (R : Simple). MatchResult r (IsKeyRead tree of R key) (IsKeyBlamed Full R p key)) (one_simple T K S e f) (built_at S p key n l m r is spelled ok full done)
 
   -- a refusal of the key, handed on
   pub key_handed : (K : Simple) (p : Range ℕ) (key : Token) (e : Diagnostic) (r : Result V Diagnostic) → IsErrAnd r (λ f. f ≡ e) → IsKeyBlamed Full K p key e → MatchResult r (IsKeyRead tree of K key) (IsKeyBlamed Full K p key)

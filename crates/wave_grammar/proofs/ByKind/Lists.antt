@@ -20,12 +20,12 @@ use Rattle.wave_grammar.specs.TypeErrors.{Blame, IsRefusalOf, RefusesFor, OfForm
 use Rattle.wave_grammar.specs.FaultOrder.{Order, FirstOf, FirstFault}
 use Rattle.wave_grammar.specs.NodeTree.{NodeTree, type_of, place_of, children_of}
 use Rattle.wave_grammar.specs.Nodes.{placed_of, IsNodeOf}
-use Rattle.wave_grammar.specs.TypedReading.{IsTypedValue, IsBlamed, IsMade, IsValueOf}
+use Rattle.wave_grammar.specs.TypedReading.{IsTypedValue, IsBlamed, IsBuilt, IsValueOf}
 use Rattle.wave_grammar.specs.PartReading.{IsOfLength, IsOtherLength}
 use Rattle.wave_grammar.proofs.ChildNodes.Inside.{From, inside, some_is, AreParsed, all_parsed}
 use Rattle.wave_grammar.proofs.ChildNodes.Cases.{shape_at}
 use Rattle.wave_grammar.proofs.ByKind.Leaves.{tree_is, at_tree}
-use Rattle.wave_grammar.proofs.ByKind.MakerAnswers.{made}
+use Rattle.wave_grammar.proofs.ByKind.MakerAnswers.{built}
 use Rattle.wave_grammar.specs.declared.form.NodeType.{NodeType}
 use Rattle.wave_grammar.specs.declared.form.NodeType.TheVariants as kind
 
@@ -232,8 +232,8 @@ module _ {V : Type 0} (tree : V → Value) (of : V → TypeTree → Type 0) (Ful
   list_full T E ts vs (Err cause) is all h = λ full. h full E (subst (λ (count : ℕ). IsListOf E count T) (read_length E ts vs all) is) (each_of E ts vs all)
 
   -- the list was made, or its constructor refused
-  pub list_made : (T E : TypeTree) (t : SpannedTree) (ts : List SpannedTree) (vs : List V) (n : NodeTree) (m : Result V WasmValueError) (r : Result V Diagnostic) → IsListOf E (length ts) T → HasDistinctNames T → shape_of t ≡ list (placed_trees ts) → AllRead E ts vs → IfOk m (MakesList tree of T vs) → IfErr m (FullList of Full T vs) → IsMade n m r → MatchResult r (IsTypedValue tree of T t) (IsBlamed Full o w T t)
-  list_made T E t ts vs n m r is distinct shape all ok full done = made tree of Full o w T t n m r done (list_reads T E t ts vs m is distinct shape all ok) (list_full T E ts vs m is all full)
+  pub list_built : (T E : TypeTree) (t : SpannedTree) (ts : List SpannedTree) (vs : List V) (n : NodeTree) (m : Result V WasmValueError) (r : Result V Diagnostic) → IsListOf E (length ts) T → HasDistinctNames T → shape_of t ≡ list (placed_trees ts) → AllRead E ts vs → IfOk m (MakesList tree of T vs) → IfErr m (FullList of Full T vs) → IsBuilt n m r → MatchResult r (IsTypedValue tree of T t) (IsBlamed Full o w T t)
+  list_built T E t ts vs n m r is distinct shape all ok full done = built tree of Full o w T t n m r done (list_reads T E t ts vs m is distinct shape all ok) (list_full T E ts vs m is all full)
 
   -- the first refusal of an item is that of the list
   pub list_blame : (source : List ℕ) (T E : TypeTree) (m : NodeTree) (t : SpannedTree) (ns : List NodeTree) (e : Diagnostic) → IsListOf E (length ns) T → IsNodeOf source m t → type_of m ≡ kind.List → ns ≡ children_of m → HasFullParts Full → ((items : List SpannedTree) → AreNodesOf source ns items → ItemsBlamed E items e) → IsBlamed Full o w T t e

@@ -13,7 +13,7 @@ use Rattle.wave_grammar.specs.SpannedTree.{SpannedTree, tree_of}
 use Rattle.wave_grammar.specs.Elaborates.{SimpleTree}
 use Rattle.wave_grammar.specs.NodeTree.{NodeTree}
 use Rattle.wave_grammar.specs.FaultOrder.{Order, FirstFault}
-use Rattle.wave_grammar.specs.TypedReading.{IsTypedValue, IsBlamed, IsMade}
+use Rattle.wave_grammar.specs.TypedReading.{IsTypedValue, IsBlamed, IsBuilt}
 
 -- a constructor's refusal, which at a full type is out of memory
 refused : (Full : TypeTree → Type 0) (o w : Order) (T : TypeTree) (t : SpannedTree) (cause : WasmValueError) (e : Diagnostic) → refusal_of e ≡ refused_by (cause_of cause) → (Full T → IsMemory cause) → IsBlamed Full o w T t e
@@ -22,11 +22,11 @@ refused Full o w T t _ e is full = inr (inr (ap (λ (r : Refusal). r.kind) is, f
 
 module _ {V : Type 0} (tree : V → Value) (of : V → TypeTree → Type 0) (Full : TypeTree → Type 0) (o w : Order) where
   -- the value that was made, or its constructor's refusal
-  pub made : (T : TypeTree) (t : SpannedTree) (n : NodeTree) (m : Result V WasmValueError) (r : Result V Diagnostic) → IsMade n m r → IfOk m (IsTypedValue tree of T t) → IfErr m (λ cause. Full T → IsMemory cause) → MatchResult r (IsTypedValue tree of T t) (IsBlamed Full o w T t)
-  made T t n (Ok v) (Ok w) is read full = subst (IsTypedValue tree of T t) (sym is) read
-  made T t n (Ok v) (Err e) is read full = absurd is
-  made T t n (Err cause) (Ok w) is read full = absurd is
-  made T t n (Err cause) (Err e) is read full = refused Full o w T t cause e is.0 full
+  pub built : (T : TypeTree) (t : SpannedTree) (n : NodeTree) (m : Result V WasmValueError) (r : Result V Diagnostic) → IsBuilt n m r → IfOk m (IsTypedValue tree of T t) → IfErr m (λ cause. Full T → IsMemory cause) → MatchResult r (IsTypedValue tree of T t) (IsBlamed Full o w T t)
+  built T t n (Ok v) (Ok w) is read full = subst (IsTypedValue tree of T t) (sym is) read
+  built T t n (Ok v) (Err e) is read full = absurd is
+  built T t n (Err cause) (Ok w) is read full = absurd is
+  built T t n (Err cause) (Err e) is read full = refused Full o w T t cause e is.0 full
 
   -- the refusal is handed on
   pub handed : (T : TypeTree) (t : SpannedTree) (e : Diagnostic) (r : Result V Diagnostic) → IsErrAnd r (λ f. f ≡ e) → IsBlamed Full o w T t e → MatchResult r (IsTypedValue tree of T t) (IsBlamed Full o w T t)
@@ -43,8 +43,8 @@ module _ {V : Type 0} (tree : V → Value) (of : V → TypeTree → Type 0) (Ful
   leaf_full T one (Err cause) e h = λ full. h (subst Full e full)
 
   -- the value of one token was made, or its constructor refused
-  pub leaf_made : (T : TypeTree) (t : SpannedTree) (n : NodeTree) (one : Leaf) (m : Result V WasmValueError) (r : Result V Diagnostic) → T ≡ simple (leaf_type one) → SimpleTree (leaf_type one) (tree_of t) (value.leaf one) → IfOk m (MakesLeaf tree of one) → IfErr m (FullLeaf Full one) → IsMade n m r → MatchResult r (IsTypedValue tree of T t) (IsBlamed Full o w T t)
-  leaf_made T t n one m r e read ok full is = made T t n m r is (leaf_read T t one m e read ok) (leaf_full T one m e full)
+  pub leaf_built : (T : TypeTree) (t : SpannedTree) (n : NodeTree) (one : Leaf) (m : Result V WasmValueError) (r : Result V Diagnostic) → T ≡ simple (leaf_type one) → SimpleTree (leaf_type one) (tree_of t) (value.leaf one) → IfOk m (MakesLeaf tree of one) → IfErr m (FullLeaf Full one) → IsBuilt n m r → MatchResult r (IsTypedValue tree of T t) (IsBlamed Full o w T t)
+  leaf_built T t n one m r e read ok full is = built T t n m r is (leaf_read T t one m e read ok) (leaf_full T one m e full)
 
   -- a fault of a tree, handed on
   pub faulty : (T : TypeTree) (t : SpannedTree) (U : TypeTree) (e : Diagnostic) (r : Result V Diagnostic) → T ≡ U → IsErrAnd r (λ f. f ≡ e) → FirstFault o w U t (refusal_of e) e.span → MatchResult r (IsTypedValue tree of T t) (IsBlamed Full o w T t)

@@ -28,13 +28,13 @@ use Rattle.wave_grammar.specs.FaultOrder.{Order, BlamesNothing, OrElse, FirstOf,
 use Rattle.wave_grammar.specs.NodeTree.{NodeTree, place_of}
 use Rattle.wave_grammar.specs.Nodes.{placed_of, IsNodeOf, IsTokenOf}
 use Rattle.wave_grammar.specs.NodeAccessors.{GivesEntries}
-use Rattle.wave_grammar.specs.TypedReading.{IsTypedValue, IsBlamed, ReadsNone, IsMade, IsKeyRead}
+use Rattle.wave_grammar.specs.TypedReading.{IsTypedValue, IsBlamed, ReadsNone, IsBuilt, IsKeyRead}
 use Rattle.wave_grammar.specs.PartReading.{IsMapKeyBlamed}
 use Rattle.wave_grammar.proofs.ChildNodes.Entries.{AreEntriesOf, IsOfMap, map_given, no_map}
 use Rattle.wave_grammar.proofs.ChildNodes.Inside.{inside, some_is}
 use Rattle.wave_grammar.proofs.ByKind.Leaves.{tree_is, at_tree, said}
 use Rattle.wave_grammar.proofs.OneFault.FirstOfSeveral.{first_behind}
-use Rattle.wave_grammar.proofs.ByKind.MakerAnswers.{made}
+use Rattle.wave_grammar.proofs.ByKind.MakerAnswers.{built}
 
 -- ---- the type
 
@@ -199,7 +199,7 @@ map_reads K U t es pairs (inr h) each =
     (map (λ e. (e.key, tree_of e.value)) (entry_list es), pairs, inr (tree_is t (placed.entries es) h.0 ∙ ap form.entries (entries_spelled es), omega arith), each, refl)
 
 module _ {V : Type 0} (tree : V → Value) (of : V → TypeTree → Type 0) (Full : TypeTree → Type 0) where
-  map_means : (T S U : TypeTree) (t : SpannedTree) (es : PlacedEntries) (xs handed : List (V × V)) (made_map : Result V WasmValueError) (m : IsMapOf T S U) → HasDistinctNames T → IsOfMap (shape_of t) es → PairsRead tree of Full m.key U (entry_list es) xs → handed ≡ merge (same_texts tree of Full) xs → IfOk made_map (MakesMap tree of T handed) → IfOk made_map (IsTypedValue tree of T t)
+  map_means : (T S U : TypeTree) (t : SpannedTree) (es : PlacedEntries) (xs handed : List (V × V)) (built_map : Result V WasmValueError) (m : IsMapOf T S U) → HasDistinctNames T → IsOfMap (shape_of t) es → PairsRead tree of Full m.key U (entry_list es) xs → handed ≡ merge (same_texts tree of Full) xs → IfOk built_map (MakesMap tree of T handed) → IfOk built_map (IsTypedValue tree of T t)
   map_means T S U t es xs handed (Ok v) m distinct shape read merged h =
       let makes = h distinct in
       let all : makes.0 ≡ merge leaf_eq read.pairs = one_list makes.0 (merge leaf_eq read.pairs) (sym makes.1 ∙ (ap (entry_trees tree) merged ∙ merged_trees tree of Full m.key xs read.pairs read.keys read.trees)) in
@@ -208,16 +208,16 @@ module _ {V : Type 0} (tree : V → Value) (of : V → TypeTree → Type 0) (Ful
       record { reads = subst (λ (W : TypeTree). TreeReads W (tree_of t) (tree v)) (sym m.is) (subst (λ (w : Value). TreeReads (type.map m.key U) (tree_of t) w) (sym means) given); is_of = makes.2.is_of }
   map_means T S U t es xs handed (Err cause) m distinct shape read merged h = tt
 
-  map_full : (T S U : TypeTree) (es : List PlacedEntry) (xs handed : List (V × V)) (made_map : Result V WasmValueError) (m : IsMapOf T S U) → PairsRead tree of Full m.key U es xs → handed ≡ merge (same_texts tree of Full) xs → IfErr made_map (FullMap of Full T handed) → IfErr made_map (λ cause. Full T → IsMemory cause)
+  map_full : (T S U : TypeTree) (es : List PlacedEntry) (xs handed : List (V × V)) (built_map : Result V WasmValueError) (m : IsMapOf T S U) → PairsRead tree of Full m.key U es xs → handed ≡ merge (same_texts tree of Full) xs → IfErr built_map (FullMap of Full T handed) → IfErr built_map (λ cause. Full T → IsMemory cause)
   map_full T S U es xs handed (Ok v) m read merged h = tt
   map_full T S U es xs handed (Err cause) m read merged h = λ full.
       h full m.key U m.is (subst (AllOf (λ x. of x.0 (type.simple m.key) × of x.1 U)) (sym merged) (merged_of tree of Full m.key U xs read.keys_of read.values_of))
 
   -- the map was made of the merged entries, or its constructor refused
-  pub map_made : (o w : Order) (T S U : TypeTree) (t : SpannedTree) (es : PlacedEntries) (xs handed : List (V × V)) (n : NodeTree) (made_map : Result V WasmValueError) (r : Result V Diagnostic) (m : IsMapOf T S U) → HasDistinctNames T → IsOfMap (shape_of t) es → ((v : V) (T : TypeTree) → of v T → HasType T (tree v)) → EntriesRead tree of Full m.key U (entry_list es) xs → handed ≡ merge (same_texts tree of Full) xs → IfOk made_map (MakesMap tree of T handed) → IfErr made_map (FullMap of Full T handed) → IsMade n made_map r → MatchResult r (IsTypedValue tree of T t) (IsBlamed Full o w T t)
-  map_made o w T S U t es xs handed n made_map r m distinct shape fits all merged ok full done =
+  pub map_built : (o w : Order) (T S U : TypeTree) (t : SpannedTree) (es : PlacedEntries) (xs handed : List (V × V)) (n : NodeTree) (built_map : Result V WasmValueError) (r : Result V Diagnostic) (m : IsMapOf T S U) → HasDistinctNames T → IsOfMap (shape_of t) es → ((v : V) (T : TypeTree) → of v T → HasType T (tree v)) → EntriesRead tree of Full m.key U (entry_list es) xs → handed ≡ merge (same_texts tree of Full) xs → IfOk built_map (MakesMap tree of T handed) → IfErr built_map (FullMap of Full T handed) → IsBuilt n built_map r → MatchResult r (IsTypedValue tree of T t) (IsBlamed Full o w T t)
+  map_built o w T S U t es xs handed n built_map r m distinct shape fits all merged ok full done =
       let read = pairs_read tree of Full fits m.key U (entry_list es) xs all in
-      made tree of Full o w T t n made_map r done (map_means T S U t es xs handed made_map m distinct shape read merged ok) (map_full T S U (entry_list es) xs handed made_map m read merged full)
+      built tree of Full o w T t n built_map r done (map_means T S U t es xs handed built_map m distinct shape read merged ok) (map_full T S U (entry_list es) xs handed built_map m read merged full)
 
 -- ---- no value
 

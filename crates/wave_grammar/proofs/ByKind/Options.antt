@@ -18,11 +18,11 @@ use Rattle.wave_grammar.specs.FaultOrder.{Order, FirstFault}
 use Rattle.wave_grammar.specs.NodeTree.{NodeTree, type_of, place_of, children_of, node_list}
 use Rattle.wave_grammar.specs.Nodes.{placed_of, shape_from, IsNodeOf}
 use Rattle.wave_grammar.specs.NodeAccessors.{first_of, GivesOption}
-use Rattle.wave_grammar.specs.TypedReading.{IsTypedValue, IsBlamed, IsMade}
+use Rattle.wave_grammar.specs.TypedReading.{IsTypedValue, IsBlamed, IsBuilt}
 use Rattle.wave_grammar.proofs.ChildNodes.Inside.{From, inside, some_is, AreParsed, parsed, nodes_in, nodes_are}
 use Rattle.wave_grammar.proofs.ChildNodes.Cases.{shape_at}
 use Rattle.wave_grammar.proofs.ByKind.Leaves.{tree_is, at_tree, said}
-use Rattle.wave_grammar.proofs.ByKind.MakerAnswers.{made}
+use Rattle.wave_grammar.proofs.ByKind.MakerAnswers.{built}
 use Rattle.wave_grammar.specs.declared.form.NodeType.{NodeType}
 use Rattle.wave_grammar.specs.declared.form.NodeType.TheVariants as kind
 
@@ -111,22 +111,22 @@ module _ {V : Type 0} (tree : V → Value) (of : V → TypeTree → Type 0) (Ful
   option_full T P payload (Ok v) is h f = tt
   option_full T P payload (Err cause) is h f = λ full. f full P is h
 
-  option_made : (T P : TypeTree) (t : SpannedTree) (n : NodeTree) (payload : Option V) (m : Result V WasmValueError) (r : Result V Diagnostic) → T ≡ type.option P → HasDistinctNames T → TreeReads (type.option P) (tree_of t) (value.option (maybe_value (option_map tree payload))) → OptionIsOf of P payload → IfOk m (MakesOption tree of T payload) → IfErr m (FullOption of Full T payload) → IsMade n m r → MatchResult r (IsTypedValue tree of T t) (IsBlamed Full o w T t)
-  option_made T P t n payload m r is distinct read h ok full done = made tree of Full o w T t n m r done (option_reads T P t payload m is distinct read ok) (option_full T P payload m is h full)
+  option_built : (T P : TypeTree) (t : SpannedTree) (n : NodeTree) (payload : Option V) (m : Result V WasmValueError) (r : Result V Diagnostic) → T ≡ type.option P → HasDistinctNames T → TreeReads (type.option P) (tree_of t) (value.option (maybe_value (option_map tree payload))) → OptionIsOf of P payload → IfOk m (MakesOption tree of T payload) → IfErr m (FullOption of Full T payload) → IsBuilt n m r → MatchResult r (IsTypedValue tree of T t) (IsBlamed Full o w T t)
+  option_built T P t n payload m r is distinct read h ok full done = built tree of Full o w T t n m r done (option_reads T P t payload m is distinct read ok) (option_full T P payload m is h full)
 
   -- `none`
-  pub none_made : (T P : TypeTree) (source : List ℕ) (t : SpannedTree) (n : NodeTree) (m : Result V WasmValueError) (r : Result V Diagnostic) → T ≡ type.option P → HasDistinctNames T → shape_of t ≡ none → IfOk m (MakesOption tree of T None) → IfErr m (FullOption of Full T None) → IsMade n m r → MatchResult r (IsTypedValue tree of T t) (IsBlamed Full o w T t)
-  none_made T P source t n m r is distinct shape ok full done = option_made T P t n None m r is distinct (inl (inl (tree_is t none shape, refl))) tt ok full done
+  pub none_built : (T P : TypeTree) (source : List ℕ) (t : SpannedTree) (n : NodeTree) (m : Result V WasmValueError) (r : Result V Diagnostic) → T ≡ type.option P → HasDistinctNames T → shape_of t ≡ none → IfOk m (MakesOption tree of T None) → IfErr m (FullOption of Full T None) → IsBuilt n m r → MatchResult r (IsTypedValue tree of T t) (IsBlamed Full o w T t)
+  none_built T P source t n m r is distinct shape ok full done = option_built T P t n None m r is distinct (inl (inl (tree_is t none shape, refl))) tt ok full done
 
   -- `some` of its payload
-  pub some_made : (T P : TypeTree) (t u : SpannedTree) (n : NodeTree) (v : V) (m : Result V WasmValueError) (r : Result V Diagnostic) → T ≡ type.option P → HasDistinctNames T → shape_of t ≡ some u → IsTypedValue tree of P u v → IfOk m (MakesOption tree of T (Some v)) → IfErr m (FullOption of Full T (Some v)) → IsMade n m r → MatchResult r (IsTypedValue tree of T t) (IsBlamed Full o w T t)
-  some_made T P t u n v m r is distinct shape read ok full done =
-      option_made T P t n (Some v) m r is distinct (inl (inr (tree_of u, tree v, tree_is t (some u) shape, read.reads, refl))) read.is_of ok full done
+  pub some_built : (T P : TypeTree) (t u : SpannedTree) (n : NodeTree) (v : V) (m : Result V WasmValueError) (r : Result V Diagnostic) → T ≡ type.option P → HasDistinctNames T → shape_of t ≡ some u → IsTypedValue tree of P u v → IfOk m (MakesOption tree of T (Some v)) → IfErr m (FullOption of Full T (Some v)) → IsBuilt n m r → MatchResult r (IsTypedValue tree of T t) (IsBlamed Full o w T t)
+  some_built T P t u n v m r is distinct shape read ok full done =
+      option_built T P t n (Some v) m r is distinct (inl (inr (tree_of u, tree v, tree_is t (some u) shape, read.reads, refl))) read.is_of ok full done
 
   -- a flat payload
-  pub flat_made : (T P : TypeTree) (t : SpannedTree) (n : NodeTree) (v : V) (m : Result V WasmValueError) (r : Result V Diagnostic) → T ≡ type.option P → HasDistinctNames T → IsFlat P → IsTypedValue tree of P t v → IfOk m (MakesOption tree of T (Some v)) → IfErr m (FullOption of Full T (Some v)) → IsMade n m r → MatchResult r (IsTypedValue tree of T t) (IsBlamed Full o w T t)
-  flat_made T P t n v m r is distinct flat read ok full done =
-      option_made T P t n (Some v) m r is distinct (inr (tree v, (flat, read.reads), refl)) read.is_of ok full done
+  pub flat_built : (T P : TypeTree) (t : SpannedTree) (n : NodeTree) (v : V) (m : Result V WasmValueError) (r : Result V Diagnostic) → T ≡ type.option P → HasDistinctNames T → IsFlat P → IsTypedValue tree of P t v → IfOk m (MakesOption tree of T (Some v)) → IfErr m (FullOption of Full T (Some v)) → IsBuilt n m r → MatchResult r (IsTypedValue tree of T t) (IsBlamed Full o w T t)
+  flat_built T P t n v m r is distinct flat read ok full done =
+      option_built T P t n (Some v) m r is distinct (inr (tree v, (flat, read.reads), refl)) read.is_of ok full done
 
 -- ---- no value
 

@@ -19,13 +19,13 @@ use Rattle.wave_grammar.specs.FaultOrder.{Order, FirstFault, FirstOfPayload, Fir
 use Rattle.wave_grammar.specs.NodeTree.{NodeTree, type_of, place_of, children_of, node_list}
 use Rattle.wave_grammar.specs.Nodes.{placed_of, all_placed, shape_from, IsNodeOf}
 use Rattle.wave_grammar.specs.NodeAccessors.{first_of, GivesResult}
-use Rattle.wave_grammar.specs.TypedReading.{IsTypedValue, IsBlamed, IsMade}
+use Rattle.wave_grammar.specs.TypedReading.{IsTypedValue, IsBlamed, IsBuilt}
 use Rattle.wave_grammar.specs.PartReading.{IsPayloadNodeOf, IsPayloadRead, IsPayloadBlamed}
 use Rattle.wave_grammar.proofs.ChildNodes.Inside.{From, inside, some_is, AreParsed, parsed, nodes_in, nodes_are}
 use Rattle.wave_grammar.proofs.ChildNodes.Cases.{shape_at}
 use Rattle.wave_grammar.proofs.ByKind.Options.{one_parsed, flat_unwrapped}
 use Rattle.wave_grammar.proofs.ByKind.Leaves.{tree_is, at_tree, said}
-use Rattle.wave_grammar.proofs.ByKind.MakerAnswers.{made}
+use Rattle.wave_grammar.proofs.ByKind.MakerAnswers.{built}
 use Rattle.wave_grammar.specs.declared.form.NodeType.{NodeType}
 use Rattle.wave_grammar.specs.declared.form.NodeType.TheVariants as kind
 
@@ -161,23 +161,23 @@ module _ {V : Type 0} (tree : V → Value) (of : V → TypeTree → Type 0) (Ful
   result_full T A B payload (Ok v) is h f = tt
   result_full T A B payload (Err cause) is h f = λ full. f full A B is h
 
-  result_made : (T : TypeTree) (A B : MaybeType) (t : SpannedTree) (n : NodeTree) (payload : Result (Option V) (Option V)) (m : Result V WasmValueError) (r : Result V Diagnostic) → T ≡ type.result A B → HasDistinctNames T → TreeReads (type.result A B) (tree_of t) (result_value (either_tree tree payload)) → EitherIsOf of (type_option A) (type_option B) payload → IfOk m (MakesResult tree of T payload) → IfErr m (FullResult of Full T payload) → IsMade n m r → MatchResult r (IsTypedValue tree of T t) (IsBlamed Full o w T t)
-  result_made T A B t n payload m r is distinct read h makes full done = made tree of Full o w T t n m r done (result_reads T A B t payload m is distinct read makes) (result_full T A B payload m is h full)
+  result_built : (T : TypeTree) (A B : MaybeType) (t : SpannedTree) (n : NodeTree) (payload : Result (Option V) (Option V)) (m : Result V WasmValueError) (r : Result V Diagnostic) → T ≡ type.result A B → HasDistinctNames T → TreeReads (type.result A B) (tree_of t) (result_value (either_tree tree payload)) → EitherIsOf of (type_option A) (type_option B) payload → IfOk m (MakesResult tree of T payload) → IfErr m (FullResult of Full T payload) → IsBuilt n m r → MatchResult r (IsTypedValue tree of T t) (IsBlamed Full o w T t)
+  result_built T A B t n payload m r is distinct read h makes full done = built tree of Full o w T t n m r done (result_reads T A B t payload m is distinct read makes) (result_full T A B payload m is h full)
 
   -- `ok` with its payload
-  pub ok_made : (T : TypeTree) (A B : MaybeType) (t : SpannedTree) (n : NodeTree) (payload : MaybePlaced) (v : Option V) (m : Result V WasmValueError) (r : Result V Diagnostic) → T ≡ type.result A B → HasDistinctNames T → shape_of t ≡ ok payload → IsPayloadRead tree of A payload v → IfOk m (MakesResult tree of T (Ok v)) → IfErr m (FullResult of Full T (Ok v)) → IsMade n m r → MatchResult r (IsTypedValue tree of T t) (IsBlamed Full o w T t)
-  ok_made T A B t n payload v m r is distinct shape read makes full done =
-      result_made T A B t n (Ok v) m r is distinct (inl (inl (maybe_of payload, value.maybe_value (option_map tree v), tree_is t (ok payload) shape, read.reads, refl))) read.is_of makes full done
+  pub ok_built : (T : TypeTree) (A B : MaybeType) (t : SpannedTree) (n : NodeTree) (payload : MaybePlaced) (v : Option V) (m : Result V WasmValueError) (r : Result V Diagnostic) → T ≡ type.result A B → HasDistinctNames T → shape_of t ≡ ok payload → IsPayloadRead tree of A payload v → IfOk m (MakesResult tree of T (Ok v)) → IfErr m (FullResult of Full T (Ok v)) → IsBuilt n m r → MatchResult r (IsTypedValue tree of T t) (IsBlamed Full o w T t)
+  ok_built T A B t n payload v m r is distinct shape read makes full done =
+      result_built T A B t n (Ok v) m r is distinct (inl (inl (maybe_of payload, value.maybe_value (option_map tree v), tree_is t (ok payload) shape, read.reads, refl))) read.is_of makes full done
 
   -- `err` with its payload
-  pub err_made : (T : TypeTree) (A B : MaybeType) (t : SpannedTree) (n : NodeTree) (payload : MaybePlaced) (v : Option V) (m : Result V WasmValueError) (r : Result V Diagnostic) → T ≡ type.result A B → HasDistinctNames T → shape_of t ≡ err payload → IsPayloadRead tree of B payload v → IfOk m (MakesResult tree of T (Err v)) → IfErr m (FullResult of Full T (Err v)) → IsMade n m r → MatchResult r (IsTypedValue tree of T t) (IsBlamed Full o w T t)
-  err_made T A B t n payload v m r is distinct shape read makes full done =
-      result_made T A B t n (Err v) m r is distinct (inl (inr (maybe_of payload, value.maybe_value (option_map tree v), tree_is t (err payload) shape, read.reads, refl))) read.is_of makes full done
+  pub err_built : (T : TypeTree) (A B : MaybeType) (t : SpannedTree) (n : NodeTree) (payload : MaybePlaced) (v : Option V) (m : Result V WasmValueError) (r : Result V Diagnostic) → T ≡ type.result A B → HasDistinctNames T → shape_of t ≡ err payload → IsPayloadRead tree of B payload v → IfOk m (MakesResult tree of T (Err v)) → IfErr m (FullResult of Full T (Err v)) → IsBuilt n m r → MatchResult r (IsTypedValue tree of T t) (IsBlamed Full o w T t)
+  err_built T A B t n payload v m r is distinct shape read makes full done =
+      result_built T A B t n (Err v) m r is distinct (inl (inr (maybe_of payload, value.maybe_value (option_map tree v), tree_is t (err payload) shape, read.reads, refl))) read.is_of makes full done
 
   -- a flat payload of `ok`
-  pub result_flat_made : (T U : TypeTree) (B : MaybeType) (t : SpannedTree) (n : NodeTree) (v : V) (m : Result V WasmValueError) (r : Result V Diagnostic) → T ≡ type.result (type.a_type U) B → HasDistinctNames T → IsFlat U → IsTypedValue tree of U t v → IfOk m (MakesResult tree of T (Ok (Some v))) → IfErr m (FullResult of Full T (Ok (Some v))) → IsMade n m r → MatchResult r (IsTypedValue tree of T t) (IsBlamed Full o w T t)
-  result_flat_made T U B t n v m r is distinct flat read makes full done =
-      result_made T (type.a_type U) B t n (Ok (Some v)) m r is distinct (inr (tree v, (flat, read.reads), refl)) read.is_of makes full done
+  pub result_flat_built : (T U : TypeTree) (B : MaybeType) (t : SpannedTree) (n : NodeTree) (v : V) (m : Result V WasmValueError) (r : Result V Diagnostic) → T ≡ type.result (type.a_type U) B → HasDistinctNames T → IsFlat U → IsTypedValue tree of U t v → IfOk m (MakesResult tree of T (Ok (Some v))) → IfErr m (FullResult of Full T (Ok (Some v))) → IsBuilt n m r → MatchResult r (IsTypedValue tree of T t) (IsBlamed Full o w T t)
+  result_flat_built T U B t n v m r is distinct flat read makes full done =
+      result_built T (type.a_type U) B t n (Ok (Some v)) m r is distinct (inr (tree v, (flat, read.reads), refl)) read.is_of makes full done
 
 -- ---- no value
 

@@ -18,7 +18,7 @@ use Rattle.wave_grammar.specs.NodeStrings.{StandsFor, RefusesString}
 use Rattle.wave_grammar.specs.TypedReading.{IsKeyBlamed}
 use Rattle.wave_grammar.proofs.ByKind.Keys.{IsKeyToken, key_token, key_at, at_key}
 use Rattle.wave_grammar.proofs.NodeTexts.Quoted.{IsQuotedToken}
-use Rattle.wave_grammar.proofs.ByKind.TextLeaves.{no_char, told_fault}
+use Rattle.wave_grammar.proofs.ByKind.TextLeaves.{no_char, reported_fault}
 use Rattle.wave_grammar.proofs.ByKind.Leaves.{said}
 use Rattle.wave_grammar.specs.declared.form.NodeType.{NodeType}
 use Rattle.wave_grammar.specs.declared.form.NodeType.TheVariants as kind
@@ -97,7 +97,7 @@ pub string_key_blame : (Full : TypeTree → Type 0) (source : List ℕ) (n : Nod
 string_key_blame Full source n p key e h (inl (apart, other, refused)) =
     inr (inl (string_unspelled (type_of n) (node_text source n) p key (refusal_of e) e.span (key_token source n p key h) apart other (at_key InvalidType source n p key (refusal_of e) e.span h (said refused))))
 string_key_blame Full source n p key e h (inr (inl fault)) =
-    let k = told_fault source n e fault in
+    let k = reported_fault source n e fault in
     let is : key ≡ k.tok = key_text (type_of n) source n p key k.tok h refl k.own in
     inr (inl (subst (λ (t : Token). LoneKeyFault type.string p t (refusal_of e) e.span) (sym is) (of_text k.tok k.form (subst (λ (r : Range ℕ). StringFault type.string r k.tok (refusal_of e) e.span) (sym (key_at source n p key h)) k.wrong))))
 string_key_blame Full source n p key e h (inr (inr (wants, copied))) = inl (ap (λ (r : Refusal). r.kind) wants.is)

@@ -22,7 +22,7 @@ use Rattle.wave_grammar.specs.FaultOrder.{Order, FirstFault}
 use Rattle.wave_grammar.specs.NodeTree.{NodeTree, type_of, place_of}
 use Rattle.wave_grammar.specs.Nodes.{placed_of}
 use Rattle.wave_grammar.specs.NodeAccessors.{node_text, GivesChar}
-use Rattle.wave_grammar.specs.NodeStrings.{StandsFor, TellsStringFault, RefusesString}
+use Rattle.wave_grammar.specs.NodeStrings.{StandsFor, ReportsStringFault, RefusesString}
 use Rattle.wave_grammar.specs.TypedReading.{IsBlamed}
 use Rattle.wave_grammar.proofs.ChildNodes.Inside.{From, Inside, inside}
 use Rattle.wave_grammar.proofs.NodeTexts.Quoted.{IsQuotedToken, quoted_is}
@@ -105,7 +105,7 @@ text_fault o w t tok k q e form fault =
     subst (λ (o : Option Token). OfForm o (span_of t) (LeafFault type.string (span_of t)) k q) (ap one_in (sym e)) (inr (form, fault))
 
 -- what is wrong with the text of a string's token at the node
-pub record ToldFault (source : List ℕ) (n : NodeTree) (e : Diagnostic) : Type 0 where
+pub record ReportedFault (source : List ℕ) (n : NodeTree) (e : Diagnostic) : Type 0 where
   pub tok : Token
   pub own : IsQuotedToken (type_of n) (node_text source n) tok
   pub form : IsForm type.string tok
@@ -114,13 +114,13 @@ pub record ToldFault (source : List ℕ) (n : NodeTree) (e : Diagnostic) : Type 
 own_token : (ty : NodeType) (source : List ℕ) (n : NodeTree) (t : Token) → type_of n ≡ ty → IsQuotedToken ty (node_text source n) t → IsQuotedToken (type_of n) (node_text source n) t
 own_token ty source n t e h = subst (λ (k : NodeType). IsQuotedToken k (node_text source n) t) (sym e) h
 
-pub told_fault : (source : List ℕ) (n : NodeTree) (e : Diagnostic) → TellsStringFault source n e → ToldFault source n e
-told_fault source n e (inl (ty, x, k, own, bad, told)) =
+pub reported_fault : (source : List ℕ) (n : NodeTree) (e : Diagnostic) → ReportsStringFault source n e → ReportedFault source n e
+reported_fault source n e (inl (ty, x, k, own, bad, reported)) =
     let last : (place_of n).start + 1 + k + 1 ≡ (place_of n).start + 2 + k = omega arith in
-    let there : e.span ≡ span ((place_of n).start + 1 + k) ((place_of n).start + 2 + k) = told.at ∙ ap (λ (z : ℕ). span ((place_of n).start + 1 + k) z) last in
-    record { tok = token.string (node_text source n); own = own_token kind.String source n (token.string (node_text source n)) ty refl; form = (node_text source n, inl refl); wrong = inl (node_text source n, x, k, refl, own, bad, (told.refusal, there)) }
-told_fault source n e (inr (ty, x, f, own, fault, told)) =
-    record { tok = token.multiline (node_text source n); own = own_token kind.MultilineString source n (token.multiline (node_text source n)) ty refl; form = (node_text source n, inr refl); wrong = inr (node_text source n, x, f, refl, own, fault, (told.refusal, told.at)) }
+    let there : e.span ≡ span ((place_of n).start + 1 + k) ((place_of n).start + 2 + k) = reported.at ∙ ap (λ (z : ℕ). span ((place_of n).start + 1 + k) z) last in
+    record { tok = token.string (node_text source n); own = own_token kind.String source n (token.string (node_text source n)) ty refl; form = (node_text source n, inl refl); wrong = inl (node_text source n, x, k, refl, own, bad, (reported.refusal, there)) }
+reported_fault source n e (inr (ty, x, f, own, fault, reported)) =
+    record { tok = token.multiline (node_text source n); own = own_token kind.MultilineString source n (token.multiline (node_text source n)) ty refl; form = (node_text source n, inr refl); wrong = inr (node_text source n, x, f, refl, own, fault, (reported.refusal, reported.at)) }
 
 -- the refusal of a string is a fault, or out of memory
 pub string_blame : (Full : TypeTree → Type 0) (o w : Order) (T : TypeTree) (source : List ℕ) (n : NodeTree) (t : SpannedTree) (e : Diagnostic) → T ≡ type.simple type.string → placed_of source n ≡ Some t → RefusesString source n e → IsBlamed Full o w T t e
@@ -133,7 +133,7 @@ string_blame Full o w T source n t e same is h = subst (λ (U : TypeTree). IsBla
     blamed (inl (apart, other, refused)) =
         inr (inl (wrong_form type.string (one_in (shape_of t)) (span_of t) (refusal_of e) e.span (not_string (type_of n) (place_of n) (slice source (place_of n)) i.children (shape_of t) i.from apart other) (at_tree InvalidType (place_of n) (span_of t) (refusal_of e) e.span i.place (said refused))))
     blamed (inr (inl fault)) =
-        let k = told_fault source n e fault in
+        let k = reported_fault source n e fault in
         inr (inl (text_fault o w t k.tok (refusal_of e) e.span (quoted_is source n t k.tok is k.own) k.form (subst (λ (p : Range ℕ). StringFault type.string p k.tok (refusal_of e) e.span) (sym i.place) k.wrong)))
     blamed (inr (inr (wants, copied))) = inl (ap (λ (r : Refusal). r.kind) wants.is)
 

@@ -25,11 +25,11 @@ use Rattle.wave_grammar.specs.TypeErrors.{Blame, IsRefusalOf, RefusesFor, OfForm
 use Rattle.wave_grammar.specs.FaultOrder.{Order, in_text, by_type, BlamesNothing, OrElse, InOrder, WrongCount, FirstFault, FirstItem}
 use Rattle.wave_grammar.specs.NodeTree.{NodeTree, type_of, place_of, children_of}
 use Rattle.wave_grammar.specs.Nodes.{placed_of, IsNodeOf}
-use Rattle.wave_grammar.specs.TypedReading.{IsTypedValue, IsBlamed, IsMade, IsValueOf}
+use Rattle.wave_grammar.specs.TypedReading.{IsTypedValue, IsBlamed, IsBuilt, IsValueOf}
 use Rattle.wave_grammar.proofs.ChildNodes.Inside.{From, inside, some_is, AreParsed, all_parsed}
 use Rattle.wave_grammar.proofs.ChildNodes.Cases.{shape_at}
 use Rattle.wave_grammar.proofs.ByKind.Leaves.{tree_is, at_tree}
-use Rattle.wave_grammar.proofs.ByKind.MakerAnswers.{made}
+use Rattle.wave_grammar.proofs.ByKind.MakerAnswers.{built}
 use Rattle.wave_grammar.proofs.ByKind.Lists.{AreNodesOf, HasAt, as_many, node_at, spelled_nodes, trees_back, trees_are}
 use Rattle.wave_grammar.specs.declared.form.NodeType.{NodeType}
 use Rattle.wave_grammar.specs.declared.form.NodeType.TheVariants as kind
@@ -107,12 +107,12 @@ no_word form.case_word text n behind ts h = absurd (cc h.2)
 spelled_some : (tokens : List Token) (n : ℕ) (ts : form.Trees) → Takes n tokens (form.tuple ts) [] → (items : List Tree) × (0 < length items) × (ts ≡ form.trees items)
 spelled_some tokens zero ts h = absurd h
 spelled_some [] (suc n) ts h = absurd h
-spelled_some (token.paren_open ∷ front) (suc n) ts h = (h.0, h.1, tuple_once ts (form.trees h.0) h.3)
-spelled_some (token.bracket_open ∷ front) (suc n) ts h = absurd (cc h.2)
-spelled_some (token.brace_open ∷ front) (suc n) ts (inl h) = absurd (cc h.1)
-spelled_some (token.brace_open ∷ front) (suc n) ts (inr (inl h)) = absurd (cc h.1)
-spelled_some (token.brace_open ∷ front) (suc n) ts (inr (inr (inl h))) = absurd (cc h.3)
-spelled_some (token.brace_open ∷ front) (suc n) ts (inr (inr (inr h))) = absurd (cc h.4)
+spelled_some (token.paren_open ∷ prefix) (suc n) ts h = (h.0, h.1, tuple_once ts (form.trees h.0) h.3)
+spelled_some (token.bracket_open ∷ prefix) (suc n) ts h = absurd (cc h.2)
+spelled_some (token.brace_open ∷ prefix) (suc n) ts (inl h) = absurd (cc h.1)
+spelled_some (token.brace_open ∷ prefix) (suc n) ts (inr (inl h)) = absurd (cc h.1)
+spelled_some (token.brace_open ∷ prefix) (suc n) ts (inr (inr (inl h))) = absurd (cc h.3)
+spelled_some (token.brace_open ∷ prefix) (suc n) ts (inr (inr (inr h))) = absurd (cc h.4)
 spelled_some (token.label text ∷ behind) (suc n) ts h = absurd (no_word (word_of text) text n behind ts h)
 spelled_some (token.number text ∷ behind) (suc n) ts h = absurd (cc h.1)
 spelled_some (token.char text ∷ behind) (suc n) ts h = absurd (cc h.1)
@@ -271,13 +271,13 @@ module _ {V : Type 0} (tree : V → Value) (of : V → TypeTree → Type 0) (Ful
   tuple_full T Ts ts vs (Err cause) is all h = λ full. h full Ts is (each_is (type_list Ts) ts vs all)
 
   -- the tuple was made, or its constructor refused
-  pub tuple_made : (source : List ℕ) (T : TypeTree) (parts : List TypeTree) (n : NodeTree) (t : SpannedTree) (ns : List NodeTree) (vs : List V) (i : ℕ) (m : Result V WasmValueError) (r : Result V Diagnostic) → TupleType T parts → HasDistinctNames T → (node : IsNodeOf source n t) → (ty : type_of n ≡ kind.Tuple) → ns ≡ children_of n → length ns ≡ length parts → length ns ≤ i → ReadAt (take i parts) (take i (tuple_nodes source n t node ty).items) vs → IfOk m (MakesTuple tree of T vs) → IfErr m (FullTuple of Full T vs) → IsMade n m r → MatchResult r (IsTypedValue tree of T t) (IsBlamed Full o w T t)
-  tuple_made source T parts n t ns vs i m r is distinct node ty children same le before ok full done =
+  pub tuple_built : (source : List ℕ) (T : TypeTree) (parts : List TypeTree) (n : NodeTree) (t : SpannedTree) (ns : List NodeTree) (vs : List V) (i : ℕ) (m : Result V WasmValueError) (r : Result V Diagnostic) → TupleType T parts → HasDistinctNames T → (node : IsNodeOf source n t) → (ty : type_of n ≡ kind.Tuple) → ns ≡ children_of n → length ns ≡ length parts → length ns ≤ i → ReadAt (take i parts) (take i (tuple_nodes source n t node ty).items) vs → IfOk m (MakesTuple tree of T vs) → IfErr m (FullTuple of Full T vs) → IsBuilt n m r → MatchResult r (IsTypedValue tree of T t) (IsBlamed Full o w T t)
+  tuple_built source T parts n t ns vs i m r is distinct node ty children same le before ok full done =
       let inner = tuple_nodes source n t node ty in
       let many : length ns ≡ length inner.items = as_many source ns inner.items (given_items source n t ns node ty children) in
       let all : ReadAt parts inner.items vs = whole_at parts inner.items vs i (sym many ∙ same) (omega (arith, many, le)) before in
       let typed : ReadAt (type_list is.types) inner.items vs = subst (λ (l : List TypeTree). ReadAt l inner.items vs) is.parts_are all in
-      made tree of Full o w T t n m r done (tuple_reads T is.types t inner.items vs m is.is distinct inner.shape inner.some typed ok) (tuple_full T is.types inner.items vs m is.is typed full)
+      built tree of Full o w T t n m r done (tuple_reads T is.types t inner.items vs m is.is distinct inner.shape inner.some typed ok) (tuple_full T is.types inner.items vs m is.is typed full)
 
 -- ---- no value
 

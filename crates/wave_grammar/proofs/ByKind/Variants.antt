@@ -25,11 +25,11 @@ use Rattle.wave_grammar.specs.FaultOrder.{Order, FirstFault, FirstOfPayload, Fir
 use Rattle.wave_grammar.specs.NodeTree.{NodeTree, type_of, place_of}
 use Rattle.wave_grammar.specs.Nodes.{placed_of, flag_of}
 use Rattle.wave_grammar.specs.NodeAccessors.{node_text, GivesVariant}
-use Rattle.wave_grammar.specs.TypedReading.{IsTypedValue, IsBlamed, IsMade}
+use Rattle.wave_grammar.specs.TypedReading.{IsTypedValue, IsBlamed, IsBuilt}
 use Rattle.wave_grammar.specs.PartReading.{IsCaused, IsPayloadNodeOf, IsPayloadRead, IsPayloadBlamed}
 use Rattle.wave_grammar.proofs.ChildNodes.Inside.{From, Inside, inside, some_is}
 use Rattle.wave_grammar.proofs.ByKind.Leaves.{tree_is, at_tree, said}
-use Rattle.wave_grammar.proofs.ByKind.MakerAnswers.{made}
+use Rattle.wave_grammar.proofs.ByKind.MakerAnswers.{built}
 use Rattle.wave_grammar.proofs.ByKind.Results.{maybe_back}
 use Rattle.wave_grammar.proofs.ByKind.Unreadable.{caused_blame}
 use Rattle.wave_grammar.specs.declared.form.NodeType.{NodeType}
@@ -178,11 +178,11 @@ module _ {V : Type 0} (tree : V → Value) (of : V → TypeTree → Type 0) (Ful
   variant_full T cs name P payload (Err cause) is found h f = λ full. f full cs is (type_option P) (case_listed cs name P found) h
 
   -- the case was made, or its constructor refused
-  pub variant_made : (T : TypeTree) (cs : Cases) (source : List ℕ) (t : SpannedTree) (n : NodeTree) (name : List ℕ) (inner : Option NodeTree) (c : CaseNode source t name inner) (P : MaybeType) (payload : Option V) (m : Result V WasmValueError) (r : Result V Diagnostic) → T ≡ type.variant cs → HasDistinctNames T → HasCase cs name P → IsPayloadRead tree of P c.payload payload → IfOk m (MakesVariant tree of T name payload) → IfErr m (FullVariant of Full T name payload) → IsMade n m r → MatchResult r (IsTypedValue tree of T t) (IsBlamed Full o w T t)
-  variant_made T cs source t n name inner c P payload m r is distinct found read ok full done =
+  pub variant_built : (T : TypeTree) (cs : Cases) (source : List ℕ) (t : SpannedTree) (n : NodeTree) (name : List ℕ) (inner : Option NodeTree) (c : CaseNode source t name inner) (P : MaybeType) (payload : Option V) (m : Result V WasmValueError) (r : Result V Diagnostic) → T ≡ type.variant cs → HasDistinctNames T → HasCase cs name P → IsPayloadRead tree of P c.payload payload → IfOk m (MakesVariant tree of T name payload) → IfErr m (FullVariant of Full T name payload) → IsBuilt n m r → MatchResult r (IsTypedValue tree of T t) (IsBlamed Full o w T t)
+  variant_built T cs source t n name inner c P payload m r is distinct found read ok full done =
       let given = maybe_value (option_map tree payload) in
       let read_case = subst (λ (x : List ℕ). TreeReadsCase cs x (maybe_of c.payload) given) c.named (case_reads cs name P (maybe_of c.payload) given found read.reads) in
-      made tree of Full o w T t n m r done (variant_reads T cs t name payload m is distinct (c.text, maybe_of c.payload, given, tree_is t (label c.place c.text c.payload) c.shape, read_case, ap (λ (x : List ℕ). value.variant x given) c.named) ok) (variant_full T cs name P payload m is found read.is_of full)
+      built tree of Full o w T t n m r done (variant_reads T cs t name payload m is distinct (c.text, maybe_of c.payload, given, tree_is t (label c.place c.text c.payload) c.shape, read_case, ap (λ (x : List ℕ). value.variant x given) c.named) ok) (variant_full T cs name P payload m is found read.is_of full)
 
 -- ---- no value
 

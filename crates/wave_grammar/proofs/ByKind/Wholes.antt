@@ -20,10 +20,10 @@ use Rattle.wave_grammar.specs.NodeTree.{NodeTree, place_of}
 use Rattle.wave_grammar.specs.Nodes.{placed_of, IsTokenOf}
 use Rattle.wave_grammar.specs.NodeAccessors.{GivesNumber}
 use Rattle.wave_grammar.specs.ErrorSpans.{RefusesAt}
-use Rattle.wave_grammar.specs.TypedReading.{IsTypedValue, IsBlamed, IsKeyRead, IsKeyBlamed, IsMade}
+use Rattle.wave_grammar.specs.TypedReading.{IsTypedValue, IsBlamed, IsKeyRead, IsKeyBlamed, IsBuilt}
 use Rattle.wave_grammar.specs.PartReading.{IsCaused, IsWholeRead, AnswersWhole}
-use Rattle.wave_grammar.proofs.ByKind.MakerAnswers.{faulty, leaf_made}
-use Rattle.wave_grammar.proofs.ByKind.Keys.{number_key, no_number_key, key_made, key_faulty}
+use Rattle.wave_grammar.proofs.ByKind.MakerAnswers.{faulty, leaf_built}
+use Rattle.wave_grammar.proofs.ByKind.Keys.{number_key, no_number_key, key_built, key_faulty}
 use Rattle.wave_grammar.proofs.ByKind.Leaves.{number_read, number_blame}
 use Rattle.wave_grammar.proofs.ErrorSpans.Nodes.{number_at, leaf_at, caused_at}
 use Rattle.wave_grammar.proofs.ByKind.Unreadable.{IsUnread, unread_blame}
@@ -101,9 +101,9 @@ module _ {V : Type 0} (tree : V → Value) (of : V → TypeTree → Type 0) (Ful
       (λ other same. subst (λ (w : Whole). IsWholeRead tree of Full w source n r) (whole_once which other (sym is ∙ same)) read, λ none. absurd (none which is))
 
   -- what a constructor answered for the number
-  pub whole_made : (k : WasmTypeKind) (which : Whole) (source : List ℕ) (n : NodeTree) (y z : ℤ) (m : Result V WasmValueError) (r : Result V Diagnostic) → k ≡ whole_kind which → y ≡ z → GivesNumber which (λ (x : ℤ). x) source n (Ok z) → IfOk m (MakesLeaf tree of (value.whole which y)) → IfErr m (FullLeaf Full (value.whole which y)) → IsMade n m r → AnswersWhole tree of Full k source n r
-  whole_made k which source n y z m r is same given made full done =
-      answered k which source n r is (inl (y, subst (λ (x : ℤ). GivesNumber which (λ (w : ℤ). w) source n (Ok x)) (sym same) given, (m, made, full, done)))
+  pub whole_built : (k : WasmTypeKind) (which : Whole) (source : List ℕ) (n : NodeTree) (y z : ℤ) (m : Result V WasmValueError) (r : Result V Diagnostic) → k ≡ whole_kind which → y ≡ z → GivesNumber which (λ (x : ℤ). x) source n (Ok z) → IfOk m (MakesLeaf tree of (value.whole which y)) → IfErr m (FullLeaf Full (value.whole which y)) → IsBuilt n m r → AnswersWhole tree of Full k source n r
+  whole_built k which source n y z m r is same given built full done =
+      answered k which source n r is (inl (y, subst (λ (x : ℤ). GivesNumber which (λ (w : ℤ). w) source n (Ok x)) (sym same) given, (m, built, full, done)))
 
   -- the refusal of a node of no number
   pub whole_refused : (k : WasmTypeKind) (which : Whole) (source : List ℕ) (n : NodeTree) (e : Diagnostic) (r : Result V Diagnostic) → k ≡ whole_kind which → GivesNumber which (λ (x : ℤ). x) source n (Err e) → IsErrAnd r (λ f. f ≡ e) → AnswersWhole tree of Full k source n r
@@ -116,7 +116,7 @@ module _ {V : Type 0} (tree : V → Value) (of : V → TypeTree → Type 0) (Ful
   -- ---- values
 
   whole_value : (o w : Order) (T : TypeTree) (which : Whole) (source : List ℕ) (n : NodeTree) (t : SpannedTree) (r : Result V Diagnostic) → T ≡ type.simple (type.whole which) → placed_of source n ≡ Some t → IsWholeRead tree of Full which source n r → MatchResult r (IsTypedValue tree of T t) (IsBlamed Full o w T t)
-  whole_value o w T which source n t r is node (inl (z, given, made)) = leaf_made tree of Full o w T t n (value.whole which z) made.0 r is (number_read which source n t z node given.0 given.1) made.1 made.2 made.3
+  whole_value o w T which source n t r is node (inl (z, given, built)) = leaf_built tree of Full o w T t n (value.whole which z) built.0 r is (number_read which source n t z node given.0 given.1) built.1 built.2 built.3
   whole_value o w T which source n t r is node (inr (e, given, same)) = faulty tree of Full o w T t (type.simple (type.whole which)) e r is same (number_blame o w which (λ (x : ℤ). x) source n t e node given)
 
   unread_value : (o w : Order) (T : TypeTree) (k : WasmTypeKind) (source : List ℕ) (n : NodeTree) (t : SpannedTree) (r : Result V Diagnostic) → k ≡ kind_of T → placed_of source n ≡ Some t → IsUnread k → ((which : Whole) → k ≢ whole_kind which) → IsErrAnd r (λ e. IsCaused (unsupported_type (kind_word k)) n e × (e.span ≡ place_of n)) → MatchResult r (IsTypedValue tree of T t) (IsBlamed Full o w T t)
@@ -134,8 +134,8 @@ module _ {V : Type 0} (tree : V → Value) (of : V → TypeTree → Type 0) (Ful
   -- ---- keys
 
   whole_key : (which : Whole) (source : List ℕ) (n : NodeTree) (p : Range ℕ) (key : Token) (r : Result V Diagnostic) → IsTokenOf source n p key → IsWholeRead tree of Full which source n r → MatchResult r (IsKeyRead tree of (type.whole which) key) (IsKeyBlamed Full (type.whole which) p key)
-  whole_key which source n p key r token (inl (z, given, made)) =
-      key_made tree of Full (type.simple (type.whole which)) (type.whole which) (type.whole which) p key n (value.whole which z) made.0 r refl refl refl (number_key which (λ (x : ℤ). x) source n p key z token given) made.1 made.2 made.3
+  whole_key which source n p key r token (inl (z, given, built)) =
+      key_built tree of Full (type.simple (type.whole which)) (type.whole which) (type.whole which) p key n (value.whole which z) built.0 r refl refl refl (number_key which (λ (x : ℤ). x) source n p key z token given) built.1 built.2 built.3
   whole_key which source n p key r token (inr (e, given, same)) =
       key_faulty tree of Full (type.simple (type.whole which)) (type.whole which) (type.whole which) p key e r refl refl same (no_number_key which (λ (x : ℤ). x) source n p key e token given)
 
@@ -149,7 +149,7 @@ module _ {V : Type 0} (tree : V → Value) (of : V → TypeTree → Type 0) (Ful
   -- ---- where refusals stand
 
   read_at : (which : Whole) (source : List ℕ) (n : NodeTree) (r : Result V Diagnostic) → IsWholeRead tree of Full which source n r → IfErr r (RefusesAt n)
-  read_at which source n r (inl (z, given, made)) = leaf_at tree of Full (value.whole which z) n r made
+  read_at which source n r (inl (z, given, built)) = leaf_at tree of Full (value.whole which z) n r built
   read_at which source n (Ok v) (inr (e, given, same)) = tt
   read_at which source n (Err f) (inr (e, given, same)) = subst (RefusesAt n) (sym same) (number_at which (λ (x : ℤ). x) source n e given)
 

@@ -21,8 +21,8 @@ use Rattle.wave_lex.specs.Regex.{nothing, Matches}
 use Rattle.wave_lex.specs.Derive.{derivative, derivative_by}
 use Rattle.wave_lex.specs.Tokens.{function_name}
 use Rattle.wave_lex.proofs.Machines.FunctionNames.{name_steps}
-use Rattle.wave_lex.proofs.Tokenization.TokenEnds.{EndsBefore, no_longer, front_there, reached}
-use Rattle.wave_grammar.specs.Token.{Token, CutsInto, paren_open, paren_close}
+use Rattle.wave_lex.proofs.Tokenization.TokenEnds.{EndsBefore, no_longer, prefix_there, reached}
+use Rattle.wave_grammar.specs.Token.{Token, TokenizesTo, paren_open, paren_close}
 use Rattle.wave_grammar.specs.CommaSeparated.{Items}
 use Rattle.wave_grammar.specs.Params.{Params}
 use Rattle.wave_grammar.specs.Tree.{Tree, MaybeTree, no_tree, a_tree, tuple, trees, Takes, levels_of_trees, shown_trees}
@@ -59,7 +59,7 @@ name_ends cs h = let (q, e) = reached NameState name_rest name_step name_steps (
 
 -- a name is the longest before a `(`
 name_there : (cs x r : List ℕ) → encode_utf8_all cs ≡ x → Matches function_name cs → IsName (x ++ 40 ∷ r) (length x)
-name_there cs x r e h = subst (λ (z : List ℕ). IsName (z ++ 40 ∷ r) (length z)) e (front_there function_name cs (40 ∷ r) h, no_longer function_name cs (40 ∷ r) ends)
+name_there cs x r e h = subst (λ (z : List ℕ). IsName (z ++ 40 ∷ r) (length z)) e (prefix_there function_name cs (40 ∷ r) h, no_longer function_name cs (40 ∷ r) ends)
   where
     ends : EndsBefore function_name cs (40 ∷ r)
     ends c rest there =
@@ -67,7 +67,7 @@ name_there cs x r e h = subst (λ (z : List ℕ). IsName (z ++ 40 ∷ r) (length
         ap (λ (z : ℕ). derivative z (derivative_by cs function_name)) same ∙ name_ends cs h
 
 -- the parameters of a call, displayed after its name
-call_of : (s name : List ℕ) (params others : MaybeTree) (x : List ℕ) (tokens : List Token) → IsCall s name params → CutsInto (40 ∷ x) tokens → SpellsParams 100 tokens others → (other : IsCall (name ++ 40 ∷ x) name others) × (other.tokens ≡ tokens)
+call_of : (s name : List ℕ) (params others : MaybeTree) (x : List ℕ) (tokens : List Token) → IsCall s name params → TokenizesTo (40 ∷ x) tokens → SpellsParams 100 tokens others → (other : IsCall (name ++ 40 ∷ x) name others) × (other.tokens ≡ tokens)
 call_of s name params others x tokens call cut spelled =
     let f = call.named.0 in (
       record {
@@ -75,7 +75,7 @@ call_of s name params others x tokens call cut spelled =
         tokens = tokens;
         named = name_there f.scalars name x (f.spelled ∙ sym call.is) f.has;
         is = sym (take-append_seam name (40 ∷ x));
-        cut = subst (λ (z : List ℕ). CutsInto z tokens) (sym (drop-append_seam name (40 ∷ x))) cut;
+        cut = subst (λ (z : List ℕ). TokenizesTo z tokens) (sym (drop-append_seam name (40 ∷ x))) cut;
         spelled = spelled;
       },
       refl,
@@ -109,22 +109,22 @@ Keeps name tokens params = (again : ShowsCallAgain name params) × ((Ts : List T
 
 keeps_none : (s name : List ℕ) (params : MaybeTree) (call : IsCall s name params) → call.tokens ≡ paren_open ∷ paren_close ∷ [] → Keeps name call.tokens no_tree
 keeps_none s name params call e =
-    let cut : CutsInto (40 ∷ 41 ∷ []) (paren_open ∷ paren_close ∷ []) = paren_open_cut (41 ∷ []) (paren_close ∷ []) (paren_close_cut [] [] end_cut) in
+    let cut : TokenizesTo (40 ∷ 41 ∷ []) (paren_open ∷ paren_close ∷ []) = paren_open_cut (41 ∷ []) (paren_close ∷ []) (paren_close_cut [] [] end_cut) in
     let (other, same) = call_of s name params no_tree (41 ∷ []) (paren_open ∷ paren_close ∷ []) call cut (inl (refl, refl)) in (
       record { others = no_tree; call = other; shown = refl },
       λ Ts vs. (λ p. subst (λ (z : List Token). Params Ts z vs) (e ∙ sym same) p, λ p. subst (λ (z : List Token). Params Ts z vs) (same ∙ sym e) p),
     )
 
-keeps_items : (s name : List ℕ) (params : MaybeTree) (call : IsCall s name params) (front : List Token) (items : List Tree) → call.tokens ≡ paren_open ∷ front → 0 < length items → Items paren_close (Takes 100) front items [] → Keeps name call.tokens (a_tree (tuple (trees items)))
-keeps_items s name params call front items e l h =
-    let shapes : AllOf HasShape (paren_open ∷ front) = subst (AllOf HasShape) e (cut_shapes (drop call.bytes s) call.tokens call.cut) in
-    let sound : AllOf Sound items = (items_keep paren_close (Takes 100) Sound (takes_sound 100) front items [] h shapes.1).0 in
+keeps_items : (s name : List ℕ) (params : MaybeTree) (call : IsCall s name params) (prefix : List Token) (items : List Tree) → call.tokens ≡ paren_open ∷ prefix → 0 < length items → Items paren_close (Takes 100) prefix items [] → Keeps name call.tokens (a_tree (tuple (trees items)))
+keeps_items s name params call prefix items e l h =
+    let shapes : AllOf HasShape (paren_open ∷ prefix) = subst (AllOf HasShape) e (cut_shapes (drop call.bytes s) call.tokens call.cut) in
+    let sound : AllOf Sound items = (items_keep paren_close (Takes 100) Sound (takes_sound 100) prefix items [] h shapes.1).0 in
     let all : AreSound (trees items) = sound_trees items sound in
-    let low : levels_of_trees (trees items) ≤ 100 = all-within 100 paren_close (Takes 100) (takes-levels 100) front items [] h in
+    let low : levels_of_trees (trees items) ≤ 100 = all-within 100 paren_close (Takes 100) (takes-levels 100) prefix items [] h in
     let us : List Tree = tidied (trees items) in
     let x : List ℕ = joined (shown_trees (trees items)) ++ 41 ∷ [] in
     let (tokens, c, i) = listed_show paren_open paren_close 40 41 (Takes 100) paren_open_cut parens (shown_trees (trees items)) us (shows_all 100 (trees items) all low) [] [] end_cut in
-    let cut : CutsInto (40 ∷ x) (paren_open ∷ tokens) = subst (λ (z : List ℕ). CutsInto z (paren_open ∷ tokens)) (append-nil (40 ∷ x)) c in
+    let cut : TokenizesTo (40 ∷ x) (paren_open ∷ tokens) = subst (λ (z : List ℕ). TokenizesTo z (paren_open ∷ tokens)) (append-nil (40 ∷ x)) c in
     let some_items : 0 < length us = as_many items l in
     let alike : AllAlike items us = all_alike items sound in
     let (other, same) = call_of s name params (a_tree (tuple (trees us))) x (paren_open ∷ tokens) call cut (inr (tokens, us, refl, some_items, i, refl)) in (
@@ -134,8 +134,8 @@ keeps_items s name params call front items e l h =
         shown = ap (λ (xs : List (List ℕ)). name ++ in_parens (joined xs)) (shown_tidied (trees items) all);
       },
       λ Ts vs. (
-        λ p. subst (λ (z : List Token). Params Ts z vs) (sym same) (params_from Ts 100 tokens us vs some_items i (params_carried Ts items us vs alike (params_to Ts 100 front items vs l h (subst (λ (z : List Token). Params Ts z vs) e p)))),
-        λ p. subst (λ (z : List Token). Params Ts z vs) (sym e) (params_from Ts 100 front items vs l h (params_carried Ts us items vs (all_alike_back items us alike) (params_to Ts 100 tokens us vs some_items i (subst (λ (z : List Token). Params Ts z vs) same p)))),
+        λ p. subst (λ (z : List Token). Params Ts z vs) (sym same) (params_from Ts 100 tokens us vs some_items i (params_carried Ts items us vs alike (params_to Ts 100 prefix items vs l h (subst (λ (z : List Token). Params Ts z vs) e p)))),
+        λ p. subst (λ (z : List Token). Params Ts z vs) (sym e) (params_from Ts 100 prefix items vs l h (params_carried Ts us items vs (all_alike_back items us alike) (params_to Ts 100 tokens us vs some_items i (subst (λ (z : List Token). Params Ts z vs) same p)))),
       ),
     )
 
@@ -144,5 +144,5 @@ pub shown_call_keeps : ShownCallKeepsMeaning
 shown_call_keeps s name params call =
     elim call.spelled [
       | inl (e, f) ↦ subst (Keeps name call.tokens) (sym f) (keeps_none s name params call e)
-      | inr (front, items, e, l, h, f) ↦ subst (Keeps name call.tokens) (sym f) (keeps_items s name params call front items e l h)
+      | inr (prefix, items, e, l, h, f) ↦ subst (Keeps name call.tokens) (sym f) (keeps_items s name params call prefix items e l h)
     ]

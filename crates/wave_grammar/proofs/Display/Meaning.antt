@@ -3,7 +3,7 @@ use Rattle.std.proofs.Common.{◌≡◌, ℕ, ◌≤◌, List, [], refl, sym, ap
 use Rattle.std.proofs.lemmas.List.{append-nil}
 use Rattle.wave_wasm.specs.Types.{TypeTree}
 use Rattle.wave_wasm.specs.Values.{Value}
-use Rattle.wave_grammar.specs.Token.{Token, CutsInto}
+use Rattle.wave_grammar.specs.Token.{Token, TokenizesTo}
 use Rattle.wave_grammar.specs.Tree.{Tree, MaybeTree, Trees, TreeEntries, one, tuple, list, empty_braces, no_fields, entries, flags, label, none, some, ok, err, no_tree, a_tree, no_trees, tree_and, no_entries, entry, trees, tree_entries, Takes, levels, shown}
 use Rattle.wave_grammar.specs.Elaborates.{TreeReads}
 use Rattle.wave_grammar.specs.Denotes.{Means}
@@ -53,7 +53,7 @@ mutual
   alike_tidied_entries (entry key t more) sound = (refl, alike_tidy t sound.2, alike_tidied_entries more sound.3)
 
 -- what a text means whose tokens spell the tree, each text means whose tokens spell an alike tree of as many levels
-carried : (T : TypeTree) (limit : ℕ) (s d : List ℕ) (n m : ℕ) (ts us : List Token) (t u : Tree) (v : Value) → CutsInto s ts → Takes n ts t [] → CutsInto d us → Takes m us u [] → levels u ≡ levels t → Alike t u → Means T limit s v → Means T limit d v
+carried : (T : TypeTree) (limit : ℕ) (s d : List ℕ) (n m : ℕ) (ts us : List Token) (t u : Tree) (v : Value) → TokenizesTo s ts → Takes n ts t [] → TokenizesTo d us → Takes m us u [] → levels u ≡ levels t → Alike t u → Means T limit s v → Means T limit d v
 carried T limit s d n m ts us t u v cut takes other_cut other_takes as_deep alike (tokens, c, read) =
     let (w, j, q) = through T limit tokens v [] read (λ more e. cc) in
     let same : tokens ≡ ts = one_cut_into s tokens ts c cut in
@@ -69,7 +69,7 @@ pub shown_keeps : ShownKeepsMeaning
 shown_keeps s t (tokens, cut, (n, takes)) =
     let sound : Sound t = (takes_sound n tokens t [] takes (cut_shapes s tokens cut)).0 in
     let (others, other_cut, other_takes) = shows n t sound (takes-levels n tokens t [] takes) [] [] tt end_cut (λ more e. cc) in
-    let again : CutsInto (shown t) others = subst (λ (z : List ℕ). CutsInto z others) (append-nil (shown t)) other_cut in
+    let again : TokenizesTo (shown t) others = subst (λ (z : List ℕ). TokenizesTo z others) (append-nil (shown t)) other_cut in
     let deep : levels (tidy t) ≡ levels t = levels_tidy t in
     let alike : Alike t (tidy t) = alike_tidy t sound in (
       record { tree = tidy t; text = (others, again, (n, other_takes)); levels = deep; shown = shown_tidy t sound },

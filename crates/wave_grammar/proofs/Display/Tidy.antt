@@ -8,7 +8,7 @@ use Rattle.wave_wasm.specs.Commas.{joined, behind_name, in_parens, in_brackets, 
 use Rattle.wave_lex.specs.Tokens.{label_or_keyword}
 use Rattle.wave_lex.proofs.RegularShapes.Derivatives.{matches_from}
 use Rattle.wave_grammar.specs.Token as token
-use Rattle.wave_grammar.specs.Token.{Token, CutsInto, text_of, brace_open, brace_close, paren_open, paren_close, bracket_open, bracket_close, colon}
+use Rattle.wave_grammar.specs.Token.{Token, TokenizesTo, text_of, brace_open, brace_close, paren_open, paren_close, bracket_open, bracket_close, colon}
 use Rattle.wave_grammar.specs.LeafTokens.{name_of}
 use Rattle.wave_grammar.specs.Tree.{Tree, MaybeTree, Trees, TreeEntries, one, tuple, list, empty_braces, no_fields, entries, flags, label, none, some, ok, err, no_tree, a_tree, no_trees, tree_and, no_entries, entry, trees, tree_entries, case_word, word_of, IsKey, KeyAnd, Label, MaybeInParens, BehindWord, Takes, levels, levels_of_maybe, levels_of_trees, levels_of_entries, shown, shown_maybe, shown_trees, shown_entries}
 use Rattle.wave_grammar.specs.TypedGrammar.{InParens}
@@ -162,7 +162,7 @@ entry_shows : (n : ℕ) (key : Token) (x : List ℕ) (t : Tree) → HasShape key
 entry_shows n key x t shape is p r rest s cut bare =
     let (tokens, c, i) = p r rest s cut bare in (
       key ∷ colon ∷ tokens,
-      subst (λ (z : List ℕ). CutsInto z (key ∷ colon ∷ tokens)) (sym (append_assoc (text_of key) (58 ∷ 32 ∷ x) r)) (alone key is shape (58 ∷ 32 ∷ (x ++ r)) (colon ∷ tokens) refl (colon_cut (x ++ r) tokens c)),
+      subst (λ (z : List ℕ). TokenizesTo z (key ∷ colon ∷ tokens)) (sym (append_assoc (text_of key) (58 ∷ 32 ∷ x) r)) (alone key is shape (58 ∷ 32 ∷ (x ++ r)) (colon ∷ tokens) refl (colon_cut (x ++ r) tokens c)),
       (tokens, refl, is, i),
     )
 

@@ -9,12 +9,12 @@ use Rattle.wave_lex.specs.Derive.{nullable}
 use Rattle.wave_lex.specs.Tokens as shapes
 use Rattle.wave_lex.specs.Tokens.{shape}
 use Rattle.wave_lex.specs.Labels.{IsLabel}
-use Rattle.wave_lex.specs.Tokenization.{Front}
+use Rattle.wave_lex.specs.Tokenization.{Prefix}
 use Rattle.wave_lex.proofs.Machines.Multiline as multiline_state
 use Rattle.wave_lex.proofs.Machines.Multiline.{MultilineState, multiline_rest, multiline_step, multiline_steps}
 use Rattle.wave_lex.proofs.RegularShapes.LabelWords.{spelled_by_itself}
 use Rattle.wave_lex.proofs.Tokenization.TokenEnds.{no_mark, none_follows}
-use Rattle.wave_grammar.specs.Token.{Token, CutsInto, lexeme_of, text_of, number, label, char, string, multiline}
+use Rattle.wave_grammar.specs.Token.{Token, TokenizesTo, lexeme_of, text_of, number, label, char, string, multiline}
 use Rattle.wave_grammar.specs.LeafTokens.{name_of}
 use Rattle.wave_grammar.specs.Tree.{IsKey}
 use Rattle.wave_grammar.proofs.RoundTrip.Tokens.{stops, NoStopAfter, stopped_cut, number_ends, label_ends}
@@ -26,13 +26,13 @@ use Rattle.wave_grammar.proofs.RoundTrip.Names.{label_name}
 abbrev pub HasShape : Token → Type 0
 HasShape t = (cs : List ℕ) × (encode_utf8_all cs ≡ text_of t) × Matches (shape (lexeme_of t).0) cs
 
-front_shapes : (s : List ℕ) (ts : List Token) (q : List ℕ) → Front s (map lexeme_of ts) q → AllOf HasShape ts
-front_shapes s [] q f = tt
-front_shapes s (t ∷ ts) q (g, k, gap, long, text, front) = ((long.is.0.scalars, long.is.0.spelled ∙ sym text, long.is.0.has), front_shapes (drop (g + k) s) ts q front)
+prefix_shapes : (s : List ℕ) (ts : List Token) (q : List ℕ) → Prefix s (map lexeme_of ts) q → AllOf HasShape ts
+prefix_shapes s [] q f = tt
+prefix_shapes s (t ∷ ts) q (g, k, whitespace, long, text, prefix) = ((long.is.0.scalars, long.is.0.spelled ∙ sym text, long.is.0.has), prefix_shapes (drop (g + k) s) ts q prefix)
 
 -- so do the tokens of a text
-pub cut_shapes : (s : List ℕ) (ts : List Token) → CutsInto s ts → AllOf HasShape ts
-cut_shapes s ts (q, front, end) = front_shapes s ts q front
+pub cut_shapes : (s : List ℕ) (ts : List Token) → TokenizesTo s ts → AllOf HasShape ts
+cut_shapes s ts (q, prefix, end) = prefix_shapes s ts q prefix
 
 multiline_stops : (q : MultilineState) → nullable (multiline_rest q) ≡ true → no_mark stops (multiline_rest q) ≡ true
 multiline_stops multiline_state.Start e = cc
@@ -67,11 +67,11 @@ percent b name h = let same : b ≡ 37 = grind (arith, nat_tests, h) in subst (�
 
 -- the name that a label stands for is a label
 pub named : (x : List ℕ) → HasShape (label x) → IsLabel (name_of x)
-named x h = by_front x (label_text x h)
+named x h = by_prefix x (label_text x h)
   where
-    by_front : (x : List ℕ) → Matches shapes.label_or_keyword x → IsLabel (name_of x)
-    by_front x (p, name, e, inl none, is) = subst IsLabel (sym (ap name_of (e ∙ ap (λ (z : List ℕ). z ++ name) none) ∙ label_name name is)) is
-    by_front x (p, name, e, inr (b, one, is_percent), is) = subst IsLabel (sym (ap name_of (e ∙ ap (λ (z : List ℕ). z ++ name) one) ∙ percent b name is_percent)) is
+    by_prefix : (x : List ℕ) → Matches shapes.label_or_keyword x → IsLabel (name_of x)
+    by_prefix x (p, name, e, inl none, is) = subst IsLabel (sym (ap name_of (e ∙ ap (λ (z : List ℕ). z ++ name) none) ∙ label_name name is)) is
+    by_prefix x (p, name, e, inr (b, one, is_percent), is) = subst IsLabel (sym (ap name_of (e ∙ ap (λ (z : List ℕ). z ++ name) one) ∙ percent b name is_percent)) is
 
 -- and stands for itself
 pub named_twice : (x : List ℕ) → HasShape (label x) → name_of (name_of x) ≡ name_of x

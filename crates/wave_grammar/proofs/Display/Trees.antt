@@ -60,8 +60,8 @@ behind_one t ts tokens e all = subst (AllOf HasShape) e all
 further_keep : {A : Type 0} (close : Token) (Item : Spelling A) (P : A → Type 0) → Keeps Item P → (tokens : List Token) (items : List A) (rest : List Token) → FurtherItems close Item tokens items rest → AllOf HasShape tokens → AllOf P items × AllOf HasShape rest
 further_keep close Item P keeps tokens [] rest (inl e) all = (tt, (behind_one close rest tokens e all).1)
 further_keep close Item P keeps tokens [] rest (inr e) all = (tt, (behind_one comma (close ∷ rest) tokens e all).1.1)
-further_keep close Item P keeps tokens (a ∷ items) rest (front, behind, e, h, more) all =
-    let k = keeps front a behind h (behind_one comma front tokens e all).1 in
+further_keep close Item P keeps tokens (a ∷ items) rest (prefix, behind, e, h, more) all =
+    let k = keeps prefix a behind h (behind_one comma prefix tokens e all).1 in
     let l = further_keep close Item P keeps behind items rest more k.1 in
     ((k.0, l.0), l.1)
 
@@ -96,17 +96,17 @@ sound_braces (e ∷ es) l all = (all.0.0, all.0.1, all.0.2, sound_entries es all
 
 module _ (Inner : Spelling Tree) (keeps : Keeps Inner Sound) where
   parens_keep : Keeps (InParens Inner) Sound
-  parens_keep tokens t rest (front, e, h) all =
-      let k = keeps front t (paren_close ∷ rest) h (behind_one paren_open front tokens e all).1 in (k.0, k.1.1)
+  parens_keep tokens t rest (prefix, e, h) all =
+      let k = keeps prefix t (paren_close ∷ rest) h (behind_one paren_open prefix tokens e all).1 in (k.0, k.1.1)
 
   maybe_keep : Keeps (MaybeInParens Inner) MaybeSound
   maybe_keep tokens payload rest (inl (e, no_paren, f)) all = (subst MaybeSound (sym f) tt, subst (AllOf HasShape) e all)
   maybe_keep tokens payload rest (inr (t, h, f)) all = let k = parens_keep tokens t rest h all in (subst MaybeSound (sym f) k.0, k.1)
 
   key_keep : Keeps (KeyAnd Inner) SoundEntry
-  key_keep tokens e rest (front, is, key, h) all =
-      let b = behind_one e.0 (colon ∷ front) tokens is all in
-      let k = keeps front e.1 rest h b.1.1 in ((b.0, key, k.0), k.1)
+  key_keep tokens e rest (prefix, is, key, h) all =
+      let b = behind_one e.0 (colon ∷ prefix) tokens is all in
+      let k = keeps prefix e.1 rest h b.1.1 in ((b.0, key, k.0), k.1)
 
   label_keep : Keeps Label (λ text. HasShape (token.label text))
   label_keep tokens text rest e all = behind_one (token.label text) rest tokens e all
@@ -133,11 +133,11 @@ module _ (Inner : Spelling Tree) (keeps : Keeps Inner Sound) where
   leaf_keep token tokens t rest leaf shape e f all = (subst Sound (sym f) (shape, leaf), subst (AllOf HasShape) e all)
 
   tree_keep : Keeps (ATree Inner) Sound
-  tree_keep (token.paren_open ∷ front) t rest (items, l, h, f) all =
-      let k = items_keep paren_close Inner Sound keeps front items rest h all.1 in (subst Sound (sym f) (sound_tuple items l k.0), k.1)
-  tree_keep (token.bracket_open ∷ front) t rest (items, h, f) all =
-      let k = items_keep bracket_close Inner Sound keeps front items rest h all.1 in (subst Sound (sym f) (sound_trees items k.0), k.1)
-  tree_keep (token.brace_open ∷ front) t rest h all = braces_keep front t rest h all.1
+  tree_keep (token.paren_open ∷ prefix) t rest (items, l, h, f) all =
+      let k = items_keep paren_close Inner Sound keeps prefix items rest h all.1 in (subst Sound (sym f) (sound_tuple items l k.0), k.1)
+  tree_keep (token.bracket_open ∷ prefix) t rest (items, h, f) all =
+      let k = items_keep bracket_close Inner Sound keeps prefix items rest h all.1 in (subst Sound (sym f) (sound_trees items k.0), k.1)
+  tree_keep (token.brace_open ∷ prefix) t rest h all = braces_keep prefix t rest h all.1
   tree_keep (token.label text ∷ behind) t rest h all = word_keep (word_of text) text refl all.0 behind t rest h all.1
   tree_keep (token.number text ∷ behind) t rest (e, f) all = leaf_keep (token.number text) behind t rest tt all.0 e f all.1
   tree_keep (token.char text ∷ behind) t rest (e, f) all = leaf_keep (token.char text) behind t rest tt all.0 e f all.1

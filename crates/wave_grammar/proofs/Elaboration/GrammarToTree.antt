@@ -29,16 +29,16 @@ Through {T} {A} P I Q = (tokens : List Token) (a : A) (rest : List Token) → P 
 further-no_paren : {A : Type 0} (close : Token) (P : Spelling A) → close ≢ paren_open → (tokens : List Token) (items : List A) (rest : List Token) → FurtherItems close P tokens items rest → NoParen tokens
 further-no_paren close P end tokens [] rest (inl e) more f = end cc
 further-no_paren close P end tokens [] rest (inr e) more f = cc
-further-no_paren close P end tokens (a ∷ others) rest (front, behind, e, p, h) more f = cc
+further-no_paren close P end tokens (a ∷ others) rest (prefix, behind, e, p, h) more f = cc
 
 -- further items
 further-through : {T A : Type 0} (close : Token) (P : Spelling A) (I : Spelling T) (Q : Meaning T A) → close ≢ paren_open → Through P I Q →
     (tokens : List Token) (items : List A) (rest : List Token) → FurtherItems close P tokens items rest → (ts : List T) × FurtherItems close I tokens ts rest × Each Q ts items
 further-through close P I Q end through tokens [] rest h = ([], h, refl)
-further-through close P I Q end through tokens (a ∷ more) rest (front, behind, e, p, h) =
-    let (t, i, q) = through front a behind p (further-no_paren close P end behind more rest h) in
+further-through close P I Q end through tokens (a ∷ more) rest (prefix, behind, e, p, h) =
+    let (t, i, q) = through prefix a behind p (further-no_paren close P end behind more rest h) in
     let (ts, j, all) = further-through close P I Q end through behind more rest h in
-    (t ∷ ts, (front, behind, e, i, j), (a, more, q, all, refl))
+    (t ∷ ts, (prefix, behind, e, i, j), (a, more, q, all, refl))
 
 -- items and their close
 items-through : {T A : Type 0} (close : Token) (P : Spelling A) (I : Spelling T) (Q : Meaning T A) → close ≢ paren_open → Through P I Q →
@@ -99,7 +99,7 @@ each-some Q (t ∷ ts) items h l = omega arith
 -- what stands in parentheses
 parens-through : (P : Spelling Value) (Q : Meaning Tree Value) (n : ℕ) → Through P (Takes n) Q → (tokens : List Token) (v : Value) (rest : List Token) → r.InParens P tokens v rest →
     (t : Tree) × r.InParens (Takes n) tokens t rest × Q t v
-parens-through P Q n through tokens v rest (front, e, p) = let (t, i, q) = through front v (paren_close ∷ rest) p (λ more f. cc) in (t, (front, e, i), q)
+parens-through P Q n through tokens v rest (prefix, e, p) = let (t, i, q) = through prefix v (paren_close ∷ rest) p (λ more f. cc) in (t, (prefix, e, i), q)
 
 -- no payload
 bare-through : (n : ℕ) → Through r.Bare (MaybeInParens (Takes n)) m.BareTree
@@ -124,8 +124,8 @@ no-more-through n tokens items rest (h, e) = ([], h, (refl, e))
 tuple-through : (P : Spelling (List Value)) (Q : Meaning (List Tree) (List Value)) (n : ℕ) →
     ((tokens : List Token) (items : List Value) (rest : List Token) → P tokens items rest → (ts : List Tree) × Items paren_close (Takes (n - 1)) tokens ts rest × (0 < length ts) × Q ts items) →
     Through (r.Provided (0 < n) (r.ATuple P)) (Takes n) (m.TupleTree Q)
-tuple-through P Q n through tokens v rest (l, (items, front, e, h, f)) no_paren =
-    let (ts, i, some, q) = through front items rest h in
+tuple-through P Q n through tokens v rest (l, (items, prefix, e, h, f)) no_paren =
+    let (ts, i, some, q) = through prefix items rest h in
     let t = tree.tuple (trees ts) in
     (t, takes-row n l tokens t rest (subst (λ x. ATree (Takes (n - 1)) x t rest) (sym e) (ts, some, i, refl)), (ts, items, refl, some, q, f))
 
@@ -208,8 +208,8 @@ or-through P P' I Q Q' one two tokens a rest (inr p) no_paren = let (t, i, q) = 
 
 -- a name and what it is for
 named-through : {A : Type 0} (P : List ℕ → Spelling A) (I : Spelling Tree) (Q : List ℕ → Meaning Tree A) → ((name : List ℕ) → Through (P name) I (Q name)) → Through (r.Named P) (KeyAnd I) (m.NamedTree Q)
-named-through P I Q through tokens e rest (text, front, f, g, p) no_paren =
-    let (t, i, q) = through e.0 front e.1 rest p no_paren in ((label text, t), (front, f, tt, i), (text, refl, g, q))
+named-through P I Q through tokens e rest (text, prefix, f, g, p) no_paren =
+    let (t, i, q) = through e.0 prefix e.1 rest p no_paren in ((label text, t), (prefix, f, tt, i), (text, refl, g, q))
 
 -- a token of a simple value may be a key
 key-through : (S : Simple) (token : Token) (one : Leaf) → Spells S token one → IsKey token
@@ -221,8 +221,8 @@ key-through type.string token one (text, c, inr (e, f), g) = subst IsKey (sym e)
 
 -- a key and its value
 keyed-through : {A : Type 0} (K : Simple) (P : Spelling A) (I : Spelling Tree) (Q : Meaning Tree A) → Through P I Q → Through (r.Keyed K P) (KeyAnd I) (m.KeyedTree K Q)
-keyed-through K P I Q through tokens e rest (token, front, f, k, p) no_paren =
-    let (t, i, q) = through front e.1 rest p no_paren in ((token, t), (front, f, key-through K token e.0 k, i), (k, q))
+keyed-through K P I Q through tokens e rest (token, prefix, f, k, p) no_paren =
+    let (t, i, q) = through prefix e.1 rest p no_paren in ((token, t), (prefix, f, key-through K token e.0 k, i), (k, q))
 
 -- a record
 record-through : (fs : Fields) (P : List ℕ → Spelling Value) (Q : List ℕ → Meaning Tree Value) (n : ℕ) → ((name : List ℕ) → Through (P name) (Takes (n - 1)) (Q name)) →
@@ -378,10 +378,10 @@ mutual
   pub through-further : (types : Types) (n : ℕ) (tokens : List Token) (items : List Value) (rest : List Token) → ReadsFurther types n tokens items rest →
       (ts : List Tree) × FurtherItems paren_close (Takes n) tokens ts rest × TreeReadsAll types ts items
   through-further no_types n tokens items rest h = no-more-through n tokens items rest h
-  through-further (type_and T more) n tokens items rest (front, f, (w, others, behind, p, h, e)) =
+  through-further (type_and T more) n tokens items rest (prefix, f, (w, others, behind, p, h, e)) =
       let (ts, j, all) = through-further more n behind others rest h in
-      let (t, i, q) = through T n front w behind p (further-no_paren paren_close (Takes n) (λ x. cc) behind ts rest j) in
-      (t ∷ ts, (front, behind, f, i, j), (t, ts, w, others, refl, q, all, e))
+      let (t, i, q) = through T n prefix w behind p (further-no_paren paren_close (Takes n) (λ x. cc) behind ts rest j) in
+      (t ∷ ts, (prefix, behind, f, i, j), (t, ts, w, others, refl, q, all, e))
 
   -- of a field
   pub through-field : (fs : Fields) (n : ℕ) (name : List ℕ) → Through (ReadsField fs n name) (Takes n) (TreeReadsField fs name)

@@ -24,14 +24,14 @@ use Rattle.wave_grammar.proofs.Elaboration.GrammarToTree.{not-keyword, found-ord
 -- what each tree's tokens are
 abbrev pub ByTree : Spelling Tree → Tree → List Token → List Token → Type 0
 ByTree Inner (tree.one token) tokens rest = tokens ≡ token ∷ rest
-ByTree Inner (tree.tuple ts) tokens rest = (front : List Token) × (items : List Tree) × (tokens ≡ paren_open ∷ front) × (0 < length items) × Items paren_close Inner front items rest × (ts ≡ trees items)
-ByTree Inner (tree.list ts) tokens rest = (front : List Token) × (items : List Tree) × (tokens ≡ bracket_open ∷ front) × Items bracket_close Inner front items rest × (ts ≡ trees items)
+ByTree Inner (tree.tuple ts) tokens rest = (prefix : List Token) × (items : List Tree) × (tokens ≡ paren_open ∷ prefix) × (0 < length items) × Items paren_close Inner prefix items rest × (ts ≡ trees items)
+ByTree Inner (tree.list ts) tokens rest = (prefix : List Token) × (items : List Tree) × (tokens ≡ bracket_open ∷ prefix) × Items bracket_close Inner prefix items rest × (ts ≡ trees items)
 ByTree Inner tree.empty_braces tokens rest = tokens ≡ brace_open ∷ brace_close ∷ rest
 ByTree Inner tree.no_fields tokens rest = tokens ≡ brace_open ∷ colon ∷ brace_close ∷ rest
 ByTree Inner (tree.entries all) tokens rest =
-    (front : List Token) × (es : List (Token × Tree)) × (tokens ≡ brace_open ∷ front) × (0 < length es) × Items brace_close (KeyAnd Inner) front es rest × (all ≡ tree_entries es)
+    (prefix : List Token) × (es : List (Token × Tree)) × (tokens ≡ brace_open ∷ prefix) × (0 < length es) × Items brace_close (KeyAnd Inner) prefix es rest × (all ≡ tree_entries es)
 ByTree Inner (tree.flags all) tokens rest =
-    (front : List Token) × (texts : List (List ℕ)) × (tokens ≡ brace_open ∷ front) × Items brace_close tree.Label front texts rest × AreDistinct (map name_of texts) × (all ≡ in_order texts)
+    (prefix : List Token) × (texts : List (List ℕ)) × (tokens ≡ brace_open ∷ prefix) × Items brace_close tree.Label prefix texts rest × AreDistinct (map name_of texts) × (all ≡ in_order texts)
 ByTree Inner (tree.label text payload) tokens rest = (behind : List Token) × (tokens ≡ label text ∷ behind) × IsNoneOf kw.keywords text × MaybeInParens Inner behind payload rest
 ByTree Inner tree.none tokens rest = tokens ≡ label (codes "none") ∷ rest
 ByTree Inner (tree.some inner) tokens rest = (behind : List Token) × (tokens ≡ label (codes "some") ∷ behind) × r.InParens Inner behind inner rest
@@ -83,12 +83,12 @@ by-word Inner case_word text behind t rest w (payload, p, f) = subst (λ t. ByTr
 -- a tree stands on its own tokens
 by-tree : (Inner : Spelling Tree) (tokens : List Token) (t : Tree) (rest : List Token) → ATree Inner tokens t rest → ByTree Inner t tokens rest
 by-tree Inner [] t rest h = absurd h
-by-tree Inner (paren_open ∷ front) t rest (items, l, h, e) = subst (λ t. ByTree Inner t (paren_open ∷ front) rest) (sym e) (front, items, refl, l, h, refl)
-by-tree Inner (bracket_open ∷ front) t rest (items, h, e) = subst (λ t. ByTree Inner t (bracket_open ∷ front) rest) (sym e) (front, items, refl, h, refl)
-by-tree Inner (brace_open ∷ front) t rest (inl (e, f)) = subst (λ t. ByTree Inner t (brace_open ∷ front) rest) (sym f) (ap (λ x. brace_open ∷ x) e)
-by-tree Inner (brace_open ∷ front) t rest (inr (inl (e, f))) = subst (λ t. ByTree Inner t (brace_open ∷ front) rest) (sym f) (ap (λ x. brace_open ∷ x) e)
-by-tree Inner (brace_open ∷ front) t rest (inr (inr (inl (es, l, h, f)))) = subst (λ t. ByTree Inner t (brace_open ∷ front) rest) (sym f) (front, es, refl, l, h, refl)
-by-tree Inner (brace_open ∷ front) t rest (inr (inr (inr (texts, l, h, d, f)))) = subst (λ t. ByTree Inner t (brace_open ∷ front) rest) (sym f) (front, texts, refl, h, d, refl)
+by-tree Inner (paren_open ∷ prefix) t rest (items, l, h, e) = subst (λ t. ByTree Inner t (paren_open ∷ prefix) rest) (sym e) (prefix, items, refl, l, h, refl)
+by-tree Inner (bracket_open ∷ prefix) t rest (items, h, e) = subst (λ t. ByTree Inner t (bracket_open ∷ prefix) rest) (sym e) (prefix, items, refl, h, refl)
+by-tree Inner (brace_open ∷ prefix) t rest (inl (e, f)) = subst (λ t. ByTree Inner t (brace_open ∷ prefix) rest) (sym f) (ap (λ x. brace_open ∷ x) e)
+by-tree Inner (brace_open ∷ prefix) t rest (inr (inl (e, f))) = subst (λ t. ByTree Inner t (brace_open ∷ prefix) rest) (sym f) (ap (λ x. brace_open ∷ x) e)
+by-tree Inner (brace_open ∷ prefix) t rest (inr (inr (inl (es, l, h, f)))) = subst (λ t. ByTree Inner t (brace_open ∷ prefix) rest) (sym f) (prefix, es, refl, l, h, refl)
+by-tree Inner (brace_open ∷ prefix) t rest (inr (inr (inr (texts, l, h, d, f)))) = subst (λ t. ByTree Inner t (brace_open ∷ prefix) rest) (sym f) (prefix, texts, refl, h, d, refl)
 by-tree Inner (label text ∷ behind) t rest h = by-word Inner (word_of text) text behind t rest (word-is text) h
 by-tree Inner (number text ∷ behind) t rest (e, f) = subst (λ t. ByTree Inner t (number text ∷ behind) rest) (sym f) (ap (λ x. number text ∷ x) e)
 by-tree Inner (char text ∷ behind) t rest (e, f) = subst (λ t. ByTree Inner t (char text ∷ behind) rest) (sym f) (ap (λ x. char text ∷ x) e)
@@ -134,8 +134,8 @@ entries-injective (t ∷ ts) (u ∷ us) e =
 further-back : {T A : Type 0} (close : Token) (I : Spelling T) (Q : Meaning T A) (P : Spelling A) → Back I Q P →
     (tokens : List Token) (ts : List T) (items : List A) (rest : List Token) → FurtherItems close I tokens ts rest → Each Q ts items → FurtherItems close P tokens items rest
 further-back close I Q P back tokens [] items rest h e = subst (λ x. FurtherItems close P tokens x rest) (sym e) h
-further-back close I Q P back tokens (t ∷ ts) items rest (front, behind, e, i, h) (a, more, q, each, f) =
-    subst (λ x. FurtherItems close P tokens x rest) (sym f) (front, behind, e, back front t a behind i q, further-back close I Q P back behind ts more rest h each)
+further-back close I Q P back tokens (t ∷ ts) items rest (prefix, behind, e, i, h) (a, more, q, each, f) =
+    subst (λ x. FurtherItems close P tokens x rest) (sym f) (prefix, behind, e, back prefix t a behind i q, further-back close I Q P back behind ts more rest h each)
 
 -- items and their close
 items-back : {T A : Type 0} (close : Token) (I : Spelling T) (Q : Meaning T A) (P : Spelling A) → Back I Q P →
@@ -151,17 +151,17 @@ simple-back S n tokens t v rest h (token, one, e, s, f) = let (l, k) = takes-as 
 -- a list
 list-back : (Q : Meaning Tree Value) (P : Spelling Value) (n : ℕ) → Back (Takes (n - 1)) Q P → Back (Takes n) (m.ListTree Q) (r.Provided (0 < n) (r.AList P))
 list-back Q P n back tokens t v rest h (ts, vs, e, each, f) =
-    let (l, (front, items, g, i, k)) = takes-as n tokens t (tree.list (trees ts)) rest h e in
-    (l, (vs, (front, g, items-back bracket_close (Takes (n - 1)) Q P back front ts vs rest (subst (λ x. Items bracket_close (Takes (n - 1)) front x rest) (sym (trees-injective ts items k)) i) each), f))
+    let (l, (prefix, items, g, i, k)) = takes-as n tokens t (tree.list (trees ts)) rest h e in
+    (l, (vs, (prefix, g, items-back bracket_close (Takes (n - 1)) Q P back prefix ts vs rest (subst (λ x. Items bracket_close (Takes (n - 1)) prefix x rest) (sym (trees-injective ts items k)) i) each), f))
 
 -- a fixed-length list
 fixed-back : (count : ℕ) (Q : Meaning Tree Value) (P : Spelling Value) (n : ℕ) → Back (Takes (n - 1)) Q P → Back (Takes n) (m.FixedListTree count Q) (r.Provided (0 < n) (r.AFixedList count P))
 fixed-back count Q P n back tokens t v rest h (ts, vs, e, long, each, f) =
-    let (l, (front, items, g, i, k)) = takes-as n tokens t (tree.list (trees ts)) rest h e in (
+    let (l, (prefix, items, g, i, k)) = takes-as n tokens t (tree.list (trees ts)) rest h e in (
       l,
       (
         vs,
-        (front, g, items-back bracket_close (Takes (n - 1)) Q P back front ts vs rest (subst (λ x. Items bracket_close (Takes (n - 1)) front x rest) (sym (trees-injective ts items k)) i) each),
+        (prefix, g, items-back bracket_close (Takes (n - 1)) Q P back prefix ts vs rest (subst (λ x. Items bracket_close (Takes (n - 1)) prefix x rest) (sym (trees-injective ts items k)) i) each),
         sym (each-long Q ts vs each) ∙ long,
         f,
       ),
@@ -172,14 +172,14 @@ tuple-back : (Q : Meaning (List Tree) (List Value)) (P : Spelling (List Value)) 
     ((tokens : List Token) (ts : List Tree) (items : List Value) (rest : List Token) → Items paren_close (Takes (n - 1)) tokens ts rest → 0 < length ts → Q ts items → P tokens items rest) →
     Back (Takes n) (m.TupleTree Q) (r.Provided (0 < n) (r.ATuple P))
 tuple-back Q P n back tokens t v rest h (ts, vs, e, some, q, f) =
-    let (l, (front, items, g, some', i, k)) = takes-as n tokens t (tree.tuple (trees ts)) rest h e in
-    (l, (vs, front, g, back front ts vs rest (subst (λ x. Items paren_close (Takes (n - 1)) front x rest) (sym (trees-injective ts items k)) i) some q, f))
+    let (l, (prefix, items, g, some', i, k)) = takes-as n tokens t (tree.tuple (trees ts)) rest h e in
+    (l, (vs, prefix, g, back prefix ts vs rest (subst (λ x. Items paren_close (Takes (n - 1)) prefix x rest) (sym (trees-injective ts items k)) i) some q, f))
 
 -- a payload
 payload-back : (n : ℕ) (Q : Meaning Tree Value) (P : Spelling Value) → Back (Takes n) Q P → Back (MaybeInParens (Takes n)) (m.PayloadTree Q) (r.Payload P)
 payload-back n Q P back tokens t payload rest (inl (e, apart, f)) (inner, w, g, q, k) = let never : no_tree ≡ a_tree inner = cc in cc
-payload-back n Q P back tokens t payload rest (inr (u, (front, e, i), f)) (inner, w, g, q, k) =
-    let same : inner ≡ u = cc in (w, (front, e, back front u w (paren_close ∷ rest) i (subst (λ x. Q x w) same q)), k)
+payload-back n Q P back tokens t payload rest (inr (u, (prefix, e, i), f)) (inner, w, g, q, k) =
+    let same : inner ≡ u = cc in (w, (prefix, e, back prefix u w (paren_close ∷ rest) i (subst (λ x. Q x w) same q)), k)
 
 -- no payload
 bare-back : (n : ℕ) → Back (MaybeInParens (Takes n)) m.BareTree r.Bare
@@ -222,8 +222,8 @@ option-back : (Q Q' : Meaning Tree Value) (P P' : Spelling Value) (n : ℕ) (aro
     Back (Takes n) (m.Or (m.OptionTree Q) (m.StandsTree around Q')) (r.Either (r.Provided (0 < n) (r.AnOption P)) (r.Stands around P'))
 option-back Q Q' P P' n around back back' tokens t v rest h (inl (inl (e, f))) = let (l, k) = takes-as n tokens t tree.none rest h e in inl (l, inl (k, f))
 option-back Q Q' P P' n around back back' tokens t v rest h (inl (inr (inner, w, e, q, f))) =
-    let (l, (behind, g, (front, i, k))) = takes-as n tokens t (tree.some inner) rest h e in
-    inl (l, inr (w, (behind, g, (front, i, back front inner w (paren_close ∷ rest) k q)), f))
+    let (l, (behind, g, (prefix, i, k))) = takes-as n tokens t (tree.some inner) rest h e in
+    inl (l, inr (w, (behind, g, (prefix, i, back prefix inner w (paren_close ∷ rest) k q)), f))
 option-back Q Q' P P' n around back back' tokens t v rest h (inr (w, q, f)) = inr (w, back' tokens t w rest h q, f)
 
 -- a result, or a value that stands for `ok` of itself
@@ -238,12 +238,12 @@ result-back Q Q' Q'' P P' P'' n around one two three tokens t v rest h (inr (w, 
 
 -- a name and what it is for
 named-back : {A : Type 0} (I : Spelling Tree) (Q : List ℕ → Meaning Tree A) (P : List ℕ → Spelling A) → ((name : List ℕ) → Back I (Q name) (P name)) → Back (KeyAnd I) (m.NamedTree Q) (r.Named P)
-named-back I Q P back tokens e f rest (front, g, k, i) (text, h, same, q) =
-    (text, front, g ∙ ap (λ x. x ∷ colon ∷ front) h, same, back f.0 front e.1 f.1 rest i q)
+named-back I Q P back tokens e f rest (prefix, g, k, i) (text, h, same, q) =
+    (text, prefix, g ∙ ap (λ x. x ∷ colon ∷ prefix) h, same, back f.0 prefix e.1 f.1 rest i q)
 
 -- a key and its value
 keyed-back : {A : Type 0} (K : Simple) (I : Spelling Tree) (Q : Meaning Tree A) (P : Spelling A) → Back I Q P → Back (KeyAnd I) (m.KeyedTree K Q) (r.Keyed K P)
-keyed-back K I Q P back tokens e f rest (front, g, k, i) (s, q) = (e.0, front, g, s, back front e.1 f.1 rest i q)
+keyed-back K I Q P back tokens e f rest (prefix, g, k, i) (s, q) = (e.0, prefix, g, s, back prefix e.1 f.1 rest i q)
 
 -- as many values as trees, so some
 each-some : {T A : Type 0} (Q : Meaning T A) (ts : List T) (items : List A) → Each Q ts items → 0 < length ts → 0 < length items
@@ -258,17 +258,17 @@ record-back fs Q P n back tokens t v rest h (es, found, all, inl (e, f), each, d
     let none = subst (λ x. Each (m.NamedTree Q) x found) f each in
     (l, (found, all, inl (k, none), d, fills, g))
 record-back fs Q P n back tokens t v rest h (es, found, all, inr (e, some), each, d, fills, g) =
-    let (l, (front, es', k, some', i, same)) = takes-as n tokens t (tree.entries (tree_entries es)) rest h e in (
+    let (l, (prefix, es', k, some', i, same)) = takes-as n tokens t (tree.entries (tree_entries es)) rest h e in (
       l,
       (
         found,
         all,
         inr (
           (
-            front,
+            prefix,
             k,
-            items-back brace_close (KeyAnd (Takes (n - 1))) (m.NamedTree Q) (r.Named P) (named-back (Takes (n - 1)) Q P back) front es found rest
-                (subst (λ x. Items brace_close (KeyAnd (Takes (n - 1))) front x rest) (sym (entries-injective es es' same)) i) each,
+            items-back brace_close (KeyAnd (Takes (n - 1))) (m.NamedTree Q) (r.Named P) (named-back (Takes (n - 1)) Q P back) prefix es found rest
+                (subst (λ x. Items brace_close (KeyAnd (Takes (n - 1))) prefix x rest) (sym (entries-injective es es' same)) i) each,
           ),
           each-some (m.NamedTree Q) es found each some,
         ),
@@ -289,15 +289,15 @@ map-back K Q P n back tokens t v rest h (es, pairs, inl (inr e, f), each, g) =
     let none = subst (λ x. Each (m.KeyedTree K Q) x pairs) f each in
     (l, (pairs, inl (k, none), g))
 map-back K Q P n back tokens t v rest h (es, pairs, inr (e, some), each, g) =
-    let (l, (front, es', k, some', i, same)) = takes-as n tokens t (tree.entries (tree_entries es)) rest h e in (
+    let (l, (prefix, es', k, some', i, same)) = takes-as n tokens t (tree.entries (tree_entries es)) rest h e in (
       l,
       (
         pairs,
         inr (
-          front,
+          prefix,
           k,
-          items-back brace_close (KeyAnd (Takes (n - 1))) (m.KeyedTree K Q) (r.Keyed K P) (keyed-back K (Takes (n - 1)) Q P back) front es pairs rest
-              (subst (λ x. Items brace_close (KeyAnd (Takes (n - 1))) front x rest) (sym (entries-injective es es' same)) i) each,
+          items-back brace_close (KeyAnd (Takes (n - 1))) (m.KeyedTree K Q) (r.Keyed K P) (keyed-back K (Takes (n - 1)) Q P back) prefix es pairs rest
+              (subst (λ x. Items brace_close (KeyAnd (Takes (n - 1))) prefix x rest) (sym (entries-injective es es' same)) i) each,
         ),
         g,
       ),
@@ -335,11 +335,11 @@ flags-back names n tokens t v rest h (texts, inl (e, f), all, g) =
     let (l, k) = takes-as n tokens t tree.empty_braces rest h e in
     (l, ([], (brace_close ∷ rest, k, refl), tt, tt, g ∙ ap (λ x. value.flags (nm.found_in (map name_of x) names)) f))
 flags-back names n tokens t v rest h (texts, inr e, all, g) =
-    let (l, (front, texts', k, i, d, same)) = takes-as n tokens t (tree.flags texts) rest h e in (
+    let (l, (prefix, texts', k, i, d, same)) = takes-as n tokens t (tree.flags texts) rest h e in (
       l,
       (
         map name_of texts',
-        (front, k, items-back brace_close tree.Label (λ text name. name ≡ name_of text) r.Name name-back front texts' (map name_of texts') rest i (each-name_of texts')),
+        (prefix, k, items-back brace_close tree.Label (λ text name. name ≡ name_of text) r.Name name-back prefix texts' (map name_of texts') rest i (each-name_of texts')),
         d,
         order-back names texts' (subst (λ x. AreAllOf names (map name_of x)) same all),
         g ∙ ap (λ x. value.flags (nm.found_in (map name_of x) names)) same ∙ ap value.flags (found-order texts' names),
@@ -387,8 +387,8 @@ mutual
       TreeReadsAll types ts items → ReadsFurther types n tokens items rest
   back-further no_types n tokens ts items rest h (e, f) = (subst (λ x. FurtherItems paren_close (Takes n) tokens x rest) e h, f)
   back-further (type_and T more) n tokens ts items rest h (t, others, w, ws, e, q, all, f) =
-      let (front, behind, g, i, further) = subst (λ x. FurtherItems paren_close (Takes n) tokens x rest) e h in
-      (front, g, (w, ws, behind, back T n front t w behind i q, back-further more n behind others ws rest further all, f))
+      let (prefix, behind, g, i, further) = subst (λ x. FurtherItems paren_close (Takes n) tokens x rest) e h in
+      (prefix, g, (w, ws, behind, back T n prefix t w behind i q, back-further more n behind others ws rest further all, f))
 
   -- of a field
   pub back-field : (fs : Fields) (n : ℕ) (name : List ℕ) → Back (Takes n) (TreeReadsField fs name) (ReadsField fs n name)

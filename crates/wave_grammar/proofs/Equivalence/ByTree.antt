@@ -2,7 +2,7 @@
 use Rattle.std.proofs.Common.{ℕ, ◌≡◌, ◌≤◌, List, [], subst}
 use Rattle.wave_wasm.specs.Types.{TypeTree}
 use Rattle.wave_wasm.specs.Values.{Value}
-use Rattle.wave_grammar.specs.Token.{Token, CutsInto}
+use Rattle.wave_grammar.specs.Token.{Token, TokenizesTo}
 use Rattle.wave_grammar.specs.Tree.{Tree, Takes, levels}
 use Rattle.wave_grammar.specs.TypedGrammar.{Reads}
 use Rattle.wave_grammar.specs.Elaborates.{TreeReads}
@@ -41,11 +41,11 @@ spelled_means T n s v t spelled means =
 pub same_tokens : SameTokensMeanTheSame
 same_tokens s d tokens cut other T n v = (across s d cut other, across d s other cut)
   where
-    across : (s d : List ℕ) → CutsInto s tokens → CutsInto d tokens → Means T n s v → Means T n d v
+    across : (s d : List ℕ) → TokenizesTo s tokens → TokenizesTo d tokens → Means T n s v → Means T n d v
     across s d cut other (us, c, read) = (tokens, other, subst (λ (z : List Token). Reads T n z v []) (one_cut_into s us tokens c cut) read)
 
 -- what a text means that spells a tree, another text means that spells it
-pub carried_over : (T : TypeTree) (limit : ℕ) (s d : List ℕ) (n m : ℕ) (tokens others : List Token) (t : Tree) (v : Value) → CutsInto s tokens → CutsInto d others → Takes n tokens t [] → Takes m others t [] → Means T limit s v → Means T limit d v
+pub carried_over : (T : TypeTree) (limit : ℕ) (s d : List ℕ) (n m : ℕ) (tokens others : List Token) (t : Tree) (v : Value) → TokenizesTo s tokens → TokenizesTo d others → Takes n tokens t [] → Takes m others t [] → Means T limit s v → Means T limit d v
 carried_over T limit s d n m tokens others t v cut other_cut takes other_takes means =
     let (w, (us, c, here), read) = means_tree T limit s v means in
     let same : us ≡ tokens = one_cut_into s us tokens c cut in

@@ -44,24 +44,24 @@ key_stays _ more h = absurd h
 further_drop : {A : Type 0} (close : Token) (P : Spelling A) → IsClose close → BeginsOpen P → Drops P → (tokens : List Token) (items : List A) (rest : List Token) → FurtherItems close P tokens items rest → FurtherItems close P (without_last_commas tokens) items (without_last_commas rest)
 further_drop close P is begins drops tokens [] rest (inl e) = inl (ap without_last_commas e ∙ is.0 (without_last_commas rest))
 further_drop close P is begins drops tokens [] rest (inr e) = inl (ap without_last_commas e ∙ (ap (put_token comma) (is.0 (without_last_commas rest)) ∙ is.1 (without_last_commas rest)))
-further_drop close P is begins drops tokens (a ∷ more) rest (front, behind, e, p, h) =
-    let q : P (without_last_commas front) a (without_last_commas behind) = drops front a behind p in
-    (without_last_commas front, without_last_commas behind, ap without_last_commas e ∙ comma_stays (without_last_commas front) (begins (without_last_commas front) a (without_last_commas behind) q), q, further_drop close P is begins drops behind more rest h)
+further_drop close P is begins drops tokens (a ∷ more) rest (prefix, behind, e, p, h) =
+    let q : P (without_last_commas prefix) a (without_last_commas behind) = drops prefix a behind p in
+    (without_last_commas prefix, without_last_commas behind, ap without_last_commas e ∙ comma_stays (without_last_commas prefix) (begins (without_last_commas prefix) a (without_last_commas behind) q), q, further_drop close P is begins drops behind more rest h)
 
 items_drop : {A : Type 0} (close : Token) (P : Spelling A) → IsClose close → BeginsOpen P → Drops P → (tokens : List Token) (items : List A) (rest : List Token) → Items close P tokens items rest → Items close P (without_last_commas tokens) items (without_last_commas rest)
 items_drop close P is begins drops tokens [] rest e = ap without_last_commas e ∙ is.0 (without_last_commas rest)
 items_drop close P is begins drops tokens (a ∷ more) rest (behind, p, h) = (without_last_commas behind, drops tokens a behind p, further_drop close P is begins drops behind more rest h)
 
 key_begins : (P : Spelling Tree) → BeginsOpen (KeyAnd P)
-key_begins P tokens entry rest (front, e, key, p) more = (
+key_begins P tokens entry rest (prefix, e, key, p) more = (
   λ f. let same : entry.0 ≡ brace_close = cc in subst IsKey same key,
   λ f. let same : entry.0 ≡ paren_close = cc in subst IsKey same key,
   λ f. let same : entry.0 ≡ bracket_close = cc in subst IsKey same key,
 )
 
 key_drop : (P : Spelling Tree) → Drops P → Drops (KeyAnd P)
-key_drop P drops tokens entry rest (front, e, key, p) =
-    (without_last_commas front, ap without_last_commas e ∙ key_stays entry.0 (colon ∷ without_last_commas front) key, key, drops front entry.1 rest p)
+key_drop P drops tokens entry rest (prefix, e, key, p) =
+    (without_last_commas prefix, ap without_last_commas e ∙ key_stays entry.0 (colon ∷ without_last_commas prefix) key, key, drops prefix entry.1 rest p)
 
 label_begins : BeginsOpen Label
 label_begins tokens text rest e more = (λ f. cc, λ f. cc, λ f. cc)
@@ -85,7 +85,7 @@ paren_before (comma ∷ ts) more none e = comma_first (without_last_commas ts) m
 paren_before (token ∷ ts) more none e = cc
 
 parens_drop : (P : Spelling Tree) → Drops P → Drops (InParens P)
-parens_drop P drops tokens t rest (front, e, p) = (without_last_commas front, ap without_last_commas e, drops front t (paren_close ∷ rest) p)
+parens_drop P drops tokens t rest (prefix, e, p) = (without_last_commas prefix, ap without_last_commas e, drops prefix t (paren_close ∷ rest) p)
 
 maybe_drop : (P : Spelling Tree) → Drops P → Drops (MaybeInParens P)
 maybe_drop P drops tokens payload rest (inl (e, none, f)) = inl (ap without_last_commas e, λ more g. paren_before rest more none g, f)
@@ -109,9 +109,9 @@ braces_drop P drops tokens t rest (inr (inr (inr (texts, l, h, d, f)))) =
 
 tree_drop : (P : Spelling Tree) → BeginsOpen P → Drops P → Drops (ATree P)
 tree_drop P begins drops [] t rest h = absurd h
-tree_drop P begins drops (paren_open ∷ front) t rest (items, l, h, e) = (items, l, items_drop paren_close P (λ more. refl, λ more. refl) begins drops front items rest h, e)
-tree_drop P begins drops (bracket_open ∷ front) t rest (items, h, e) = (items, items_drop bracket_close P (λ more. refl, λ more. refl) begins drops front items rest h, e)
-tree_drop P begins drops (brace_open ∷ front) t rest h = braces_drop P drops front t rest h
+tree_drop P begins drops (paren_open ∷ prefix) t rest (items, l, h, e) = (items, l, items_drop paren_close P (λ more. refl, λ more. refl) begins drops prefix items rest h, e)
+tree_drop P begins drops (bracket_open ∷ prefix) t rest (items, h, e) = (items, items_drop bracket_close P (λ more. refl, λ more. refl) begins drops prefix items rest h, e)
+tree_drop P begins drops (brace_open ∷ prefix) t rest h = braces_drop P drops prefix t rest h
 tree_drop P begins drops (label text ∷ behind) t rest h = word_drop (word_of text) text P drops behind t rest h
 tree_drop P begins drops (number text ∷ behind) t rest (e, f) = (ap without_last_commas e, f)
 tree_drop P begins drops (char text ∷ behind) t rest (e, f) = (ap without_last_commas e, f)

@@ -29,7 +29,7 @@ whole p q e h = subst (Lies p.start p.end) (sym e) (omega arith, h, omega arith)
 -- ---- texts of tokens
 
 text_held : (source : List ℕ) (p : Range ℕ) (t : Token) → HoldsTokens source p (t ∷ []) → p.start + length (text_of t) ≤ p.end
-text_held source p t (stands, gap, (g, k, skipped, longest, is, more)) =
+text_held source p t (stands, whitespace, (g, k, skipped, longest, is, more)) =
     let a = length-take k (drop g (slice source p)) in
     let b = length-drop g (slice source p) in
     let c = ap length is in
@@ -65,7 +65,7 @@ offset (indentation i) = i
 offset (escape i) = i
 
 pub escape_inside : (s : List ℕ) (i : ℕ) → IsBadEscapeAt s i → i < length s
-escape_inside s i (front, rest, t, is, decodes, apart, e) = omega (arith, ap length is, length-append front (92 ∷ rest), e)
+escape_inside s i (prefix, rest, t, is, decodes, apart, e) = omega (arith, ap length is, length-append prefix (92 ∷ rest), e)
 
 line_offset : (k start : ℕ) (line : List ℕ) (f : LineFault) → BadLine k start line f → offset f < start + length line + 1
 unfolding offset
@@ -84,7 +84,7 @@ lines_offset k start (p ∷ ps) f (inr (t, means, h)) = omega (arith, lines_offs
 pub multiline_offset : (s : List ℕ) (f : LineFault) → MultilineFault s f → offset f ≤ length s
 unfolding offset total
 multiline_offset s f (inl (bad, e)) = rw e (omega arith)
-multiline_offset s f (inr (inl (good, bad, e))) = rw e (omega arith)
+multiline_offset s f (inr (inl (labelled, bad, e))) = rw e (omega arith)
 multiline_offset s f (inr (inr b)) =
     omega (arith, lines_offset b.indent (length b.first + 1) b.between f b.bad, total_pieces s, ap total b.cut, total_append b.between (spaces b.indent ∷ []))
 
@@ -154,7 +154,7 @@ module _ (source : List ℕ) (k : Refusal) (q : Range ℕ) where
   repeated_lies (entry p key t more) earlier from to h (inl f) =
       let e = some_entry (λ e. Unit {0}) (entry p key t more) from to h (inl tt) in
       let b = h.2.0 in let c = each_ordered t h.3 in let d = h.2.1 in
-      let same = some_is (λ name. IsOneOf earlier name × RefusesWith DuplicateField (Some (repeated_name name)) p k q) p (names_in key) (λ name told. told.1.1) f in
+      let same = some_is (λ name. IsOneOf earlier name × RefusesWith DuplicateField (Some (repeated_name name)) p k q) p (names_in key) (λ name reported. reported.1.1) f in
       wider from to p.start p.end q h.0.0 (omega arith) (whole p q same h.1.0.ordered)
   repeated_lies (entry p key t more) earlier from to h (inr f) =
       let a = h.0.0 in let b = h.1.0.ordered in let c = h.2.0 in let d = each_ordered t h.3 in

@@ -16,13 +16,13 @@ use Rattle.wave_grammar.specs.NodeTree.{NodeTree, NodeTrees, node, no_nodes, nod
 use Rattle.wave_grammar.specs.Nodes.{placed_of, pairs_of, flags_of, flag_of, key_of, IsNodeOf, IsParsedFrom}
 use Rattle.wave_wasm.specs.Types.{TypeTree, Whole}
 use Rattle.wave_wasm.specs.Values.{Value, Leaf}
-use Rattle.wave_grammar.specs.TypedReading.{IsValueOf, IsMade, IsLeafMade}
+use Rattle.wave_grammar.specs.TypedReading.{IsValueOf, IsBuilt, IsLeafBuilt}
 use Rattle.wave_grammar.specs.PartReading.{IsCaused}
 use Rattle.wave_grammar.specs.NodeAccessors.{node_pairs, RefusedAs, first_of, GivesNumber, GivesChar}
 use Rattle.wave_grammar.specs.NodeParams.{close_of, RefusesOmitted}
 use Rattle.wave_grammar.specs.declared.form.NodeType.TheVariants as node_kind
 use Rattle.wave_grammar.proofs.Fields.Lookup.{not_key}
-use Rattle.wave_grammar.specs.NodeStrings.{TellsStringFault, RefusesString}
+use Rattle.wave_grammar.specs.NodeStrings.{ReportsStringFault, RefusesString}
 use Rattle.wave_lex.specs.Multiline.{LineFault, closing, opening, indentation, escape, fault_kind}
 use Rattle.wave_grammar.specs.ErrorSpans.{HasCause, HasTypeKind, HasParamsKind, IsTypeKind, IsAtPlace, IsAtNode, IsPartOf, IsPartOfOne, LiesInNode, StandsIn, RefusesAt, RefusesIn, RefusesInPart}
 use Rattle.wave_grammar.specs.declared.form.NodeType.{NodeType}
@@ -168,22 +168,22 @@ entries_belong source n v = pairs_belong n (children_of n) (children_belong sour
 
 -- what stands in a node, of a kind of reading at types, stands in it
 pub all_stand : {V : Type 0} (n : NodeTree) (r : Result V Diagnostic) → IfErr r (RefusesIn n) → IfErr r (StandsIn n)
-all_stand n (Ok w) told = tt
-all_stand n (Err e) told = told.0
+all_stand n (Ok w) reported = tt
+all_stand n (Err e) reported = reported.0
 
 -- and is of such a kind
 pub all_kinds : {V : Type 0} (n : NodeTree) (r : Result V Diagnostic) → IfErr r (RefusesIn n) → IfErr r HasTypeKind
-all_kinds n (Ok w) told = tt
-all_kinds n (Err e) told = told.1
+all_kinds n (Ok w) reported = tt
+all_kinds n (Err e) reported = reported.1
 
 node_ordered : (source : List ℕ) (n : NodeTree) → IsParsedFrom source n → (place_of n).start ≤ (place_of n).end
 node_ordered source n h = (stands source n h).ordered
 
 -- what stands at a node stands in it
 pub at_in : (source : List ℕ) (n : NodeTree) (e : Diagnostic) → IsParsedFrom source n → RefusesAt n e → RefusesIn n e
-at_in source n e h told =
+at_in source n e h reported =
     let o = node_ordered source n h in
-    (record { lies = subst (LiesInNode n) (sym told.0.0) (omega arith, o, omega arith); caused = λ was. (n, whole_part n, told.0) }, told.1)
+    (record { lies = subst (LiesInNode n) (sym reported.0.0) (omega arith, o, omega arith); caused = λ was. (n, whole_part n, reported.0) }, reported.1)
 
 -- a refusal that says this is of this kind
 said_kind : (e : Diagnostic) (r : Refusal) → refusal_of e ≡ r → IsTypeKind r.kind → HasTypeKind e
@@ -202,14 +202,14 @@ pub memory_here : (n : NodeTree) (e : Diagnostic) → e.kind ≡ why.OutOfMemory
 memory_here n e is place = (memory_at (place_of n) e is place, subst IsTypeKind (sym is) tt)
 
 -- a constructor's refusal has its cause
-pub made_cause : (c : WasmValueError) (e : Diagnostic) → refusal_of e ≡ refused_by (cause_of c) → HasCause e
-made_cause (error.Memory a) e is = λ was. absurd (cc (sym (ap (λ (r : Refusal). r.kind) is) ∙ was))
-made_cause c e is = λ was. (cause_of c, is)
+pub built_cause : (c : WasmValueError) (e : Diagnostic) → refusal_of e ≡ refused_by (cause_of c) → HasCause e
+built_cause (error.Memory a) e is = λ was. absurd (cc (sym (ap (λ (r : Refusal). r.kind) is) ∙ was))
+built_cause c e is = λ was. (cause_of c, is)
 
 -- and its kind
-made_kind : (c : WasmValueError) (e : Diagnostic) → refusal_of e ≡ refused_by (cause_of c) → HasTypeKind e
-made_kind (error.Memory a) e is = said_kind e (plainly why.OutOfMemory) is tt
-made_kind c e is = said_kind e (caused (cause_of c)) is tt
+built_kind : (c : WasmValueError) (e : Diagnostic) → refusal_of e ≡ refused_by (cause_of c) → HasTypeKind e
+built_kind (error.Memory a) e is = said_kind e (plainly why.OutOfMemory) is tt
+built_kind c e is = said_kind e (caused (cause_of c)) is tt
 
 -- a refusal with this cause
 pub caused_at : (c : Cause) (n : NodeTree) (e : Diagnostic) → IsCaused c n e → e.span ≡ place_of n → RefusesAt n e
@@ -221,19 +221,19 @@ pub refused_at : (k : ParserErrorKind) (n : NodeTree) (e : Diagnostic) → k ≢
 refused_at k n e apart known h = ((h.stands, plain_kind k e apart h.is), said_kind e (plainly k) h.is known)
 
 -- what a constructor refused, at the node
-pub made_at : {V : Type 0} (n : NodeTree) (m : Result V WasmValueError) (r : Result V Diagnostic) → IsMade n m r → IfErr r (RefusesAt n)
-made_at n m (Ok w) is = tt
-made_at n (Ok v) (Err e) is = absurd is
-made_at n (Err c) (Err e) is = ((is.1, made_cause c e is.0), made_kind c e is.0)
+pub built_at : {V : Type 0} (n : NodeTree) (m : Result V WasmValueError) (r : Result V Diagnostic) → IsBuilt n m r → IfErr r (RefusesAt n)
+built_at n m (Ok w) is = tt
+built_at n (Ok v) (Err e) is = absurd is
+built_at n (Err c) (Err e) is = ((is.1, built_cause c e is.0), built_kind c e is.0)
 
 -- what stands at the node stands in it
 pub all_in : {V : Type 0} (source : List ℕ) (n : NodeTree) (r : Result V Diagnostic) → IsParsedFrom source n → IfErr r (RefusesAt n) → IfErr r (RefusesIn n)
-all_in source n (Ok w) h told = tt
-all_in source n (Err e) h told = at_in source n e h told
+all_in source n (Ok w) h reported = tt
+all_in source n (Err e) h reported = at_in source n e h reported
 
 -- so it stands in the node
-pub made_in : {V : Type 0} (source : List ℕ) (n : NodeTree) (m : Result V WasmValueError) (r : Result V Diagnostic) → IsParsedFrom source n → IsMade n m r → IfErr r (RefusesIn n)
-made_in source n m r h is = all_in source n r h (made_at n m r is)
+pub built_in : {V : Type 0} (source : List ℕ) (n : NodeTree) (m : Result V WasmValueError) (r : Result V Diagnostic) → IsParsedFrom source n → IsBuilt n m r → IfErr r (RefusesIn n)
+built_in source n m r h is = all_in source n r h (built_at n m r is)
 
 -- a refusal that stands in a node of the node
 pub deeper : (n m : NodeTree) (e : Diagnostic) → BelongsTo n m → RefusesIn m e → RefusesIn n e
@@ -242,7 +242,7 @@ deeper n m e b h =
     let to = b.lies.1 in
     let first = h.0.lies.0 in
     let last = h.0.lies.2 in
-    (record { lies = (omega arith, h.0.lies.1, omega arith); caused = λ was. let (k, part, told) = h.0.caused was in (k, b.parts k part, told) }, h.1)
+    (record { lies = (omega arith, h.0.lies.1, omega arith); caused = λ was. let (k, part, reported) = h.0.caused was in (k, b.parts k part, reported) }, h.1)
 
 -- so of the node at a place
 pub deeper_at : (source : List ℕ) (n : NodeTree) (ns : List NodeTree) (i : ℕ) (m : NodeTree) (e : Diagnostic) → IsValueOf source n → ns ≡ children_of n → i < length ns → m ≡ get_or ns i m → RefusesIn m e → RefusesIn n e
@@ -250,7 +250,7 @@ deeper_at source n ns i m e v is lt here h = deeper n m e (all_has (BelongsTo n)
 
 -- so of a part
 pub part_in : (source : List ℕ) (n : NodeTree) (o : Option NodeTree) (e : Diagnostic) → IsParsedFrom source n → ((m : NodeTree) → o ≡ Some m → BelongsTo n m) → RefusesInPart n o e → RefusesIn n e
-part_in source n o e parsed belongs (inl told) = at_in source n e parsed told
+part_in source n o e parsed belongs (inl reported) = at_in source n e parsed reported
 part_in source n o e parsed belongs (inr h) = deeper n h.0 e (belongs h.0 h.1) h.2
 
 -- the first of the nodes
@@ -267,7 +267,7 @@ node_in_text source n h = let s = stands source n h in (s.ordered, s.last.0)
 
 -- so does what stands at it
 pub at_in_text : (source : List ℕ) (n : NodeTree) (e : Diagnostic) → IsParsedFrom source n → IsAtNode n e → LiesInText source e.span
-at_in_text source n e parsed told = subst (LiesInText source) (sym told.0) (node_in_text source n parsed)
+at_in_text source n e parsed reported = subst (LiesInText source) (sym reported.0) (node_in_text source n parsed)
 
 -- ---- what accessors refuse
 
@@ -297,7 +297,7 @@ fault_type_kind opening = tt
 fault_type_kind (indentation i) = tt
 fault_type_kind (escape i) = tt
 
-string_fault_in : (source : List ℕ) (n : NodeTree) (e : Diagnostic) → IsParsedFrom source n → TellsStringFault source n e → RefusesIn n e
+string_fault_in : (source : List ℕ) (n : NodeTree) (e : Diagnostic) → IsParsedFrom source n → ReportsStringFault source n e → RefusesIn n e
 string_fault_in source n e h (inl (ty, x, i, own, bad, tells)) =
     let fits = text_fits source (place_of n) (node_ordered source n h) in
     let bytes = ap length own in
@@ -324,9 +324,9 @@ string_fault_in source n e h (inr (ty, x, f, own, bad, tells)) =
     )
 
 pub string_in : (source : List ℕ) (n : NodeTree) (e : Diagnostic) → IsParsedFrom source n → RefusesString source n e → RefusesIn n e
-string_in source n e h (inl told) = at_in source n e h (form_at n e told.2)
-string_in source n e h (inr (inl told)) = string_fault_in source n e h told
-string_in source n e h (inr (inr told)) = at_in source n e h (refused_at why.OutOfMemory n e (λ k. cc) tt told.0)
+string_in source n e h (inl reported) = at_in source n e h (form_at n e reported.2)
+string_in source n e h (inr (inl reported)) = string_fault_in source n e h reported
+string_in source n e h (inr (inr reported)) = at_in source n e h (refused_at why.OutOfMemory n e (λ k. cc) tt reported.0)
 
 -- ---- parts that accessors give
 
@@ -366,33 +366,33 @@ memory_or_said n e k detail apart known (inr says) place = said_here n e k detai
 
 -- what stands in a node lies in the source
 pub all_in_text : {X : Type 0} (source : List ℕ) (n : NodeTree) (r : Result X Diagnostic) → IsParsedFrom source n → IfErr r (RefusesIn n) → IfErr r (λ e. LiesInText source e.span)
-all_in_text source n (Ok x) h told = tt
-all_in_text source n (Err e) h told =
+all_in_text source n (Ok x) h reported = tt
+all_in_text source n (Err e) h reported =
     let own = node_in_text source n h in
-    let last = told.0.lies.2 in
-    (told.0.lies.1, omega (arith, own.1, last))
+    let last = reported.0.lies.2 in
+    (reported.0.lies.1, omega (arith, own.1, last))
 
 -- what stands at a place of the source lies in it
 pub all_at_text : {X : Type 0} (source : List ℕ) (p : Range ℕ) (r : Result X Diagnostic) → Stands source p.start p.end → IfErr r (IsAtPlace p) → IfErr r (λ e. LiesInText source e.span)
-all_at_text source p (Ok x) h told = tt
-all_at_text source p (Err e) h told = subst (LiesInText source) (sym told.0) (h.ordered, h.last.0)
+all_at_text source p (Ok x) h reported = tt
+all_at_text source p (Err e) h reported = subst (LiesInText source) (sym reported.0) (h.ordered, h.last.0)
 
 -- a refusal at a place is one with a cause there, where it is a `WasmValueError`
 pub all_at_cause : {X : Type 0} (p : Range ℕ) (r : Result X Diagnostic) → IfErr r (IsAtPlace p) → IfErr r (λ e. e.kind ≡ why.WasmValueError → IsAtPlace p e)
-all_at_cause p (Ok x) told = tt
-all_at_cause p (Err e) told = λ was. told
+all_at_cause p (Ok x) reported = tt
+all_at_cause p (Err e) reported = λ was. reported
 
 -- ---- leaves and keys
 
 -- what was answered for a leaf stands at the node
-pub leaf_at : {V : Type 0} (tree : V → Value) (of : V → TypeTree → Type 0) (Full : TypeTree → Type 0) (leaf : Leaf) (n : NodeTree) (r : Result V Diagnostic) → IsLeafMade tree of Full leaf n r → IfErr r (RefusesAt n)
-leaf_at tree of Full leaf n r h = made_at n h.0 r h.3
+pub leaf_at : {V : Type 0} (tree : V → Value) (of : V → TypeTree → Type 0) (Full : TypeTree → Type 0) (leaf : Leaf) (n : NodeTree) (r : Result V Diagnostic) → IsLeafBuilt tree of Full leaf n r → IfErr r (RefusesAt n)
+leaf_at tree of Full leaf n r h = built_at n h.0 r h.3
 
 -- the same refusal of a key, or `InvalidType` where it stood, or out of memory
-pub told_in : {V : Type 0} (source : List ℕ) (n : NodeTree) (r : Result V Diagnostic) (e f : Diagnostic) → IsParsedFrom source n → r ≡ Err e → IfErr r (RefusesIn n) → (f.kind ≡ why.OutOfMemory) × (f.span ≡ place_of n) ⊎ (f ≡ e) ⊎ (f.kind ≡ why.InvalidType) × (f.span ≡ e.span) → RefusesIn n f
-told_in source n r e f parsed is h (inl memory) = at_in source n f parsed (memory_here n f memory.0 memory.1)
-told_in {V} source n r e f parsed is h (inr (inl same)) = subst (RefusesIn n) (sym same) (subst (λ (s : Result V Diagnostic). IfErr s (RefusesIn n)) is h)
-told_in {V} source n r e f parsed is h (inr (inr (form, place))) =
+pub reported_in : {V : Type 0} (source : List ℕ) (n : NodeTree) (r : Result V Diagnostic) (e f : Diagnostic) → IsParsedFrom source n → r ≡ Err e → IfErr r (RefusesIn n) → (f.kind ≡ why.OutOfMemory) × (f.span ≡ place_of n) ⊎ (f ≡ e) ⊎ (f.kind ≡ why.InvalidType) × (f.span ≡ e.span) → RefusesIn n f
+reported_in source n r e f parsed is h (inl memory) = at_in source n f parsed (memory_here n f memory.0 memory.1)
+reported_in {V} source n r e f parsed is h (inr (inl same)) = subst (RefusesIn n) (sym same) (subst (λ (s : Result V Diagnostic). IfErr s (RefusesIn n)) is h)
+reported_in {V} source n r e f parsed is h (inr (inr (form, place))) =
     let before : RefusesIn n e = subst (λ (s : Result V Diagnostic). IfErr s (RefusesIn n)) is h in
     (record { lies = subst (LiesInNode n) (sym place) before.0.lies; caused = λ was. absurd (cc (sym form ∙ was)) }, subst IsTypeKind (sym form) tt)
 

@@ -7,7 +7,7 @@ use Rattle.wave_wasm.specs.Values as value
 use Rattle.wave_grammar.specs.Token.{Token, brace_open, brace_close, paren_open, paren_close, bracket_open, bracket_close, colon, comma, number, label, char, string, multiline, lexeme_of, text_of}
 use Rattle.wave_grammar.specs.NumberText.{all_digits, whole_text, IsNumberOf}
 use Rattle.wave_grammar.specs.Private.NumberText.{IsMagnitude}
-use Rattle.wave_lex.specs.Tokenization.{three_quotes, Front}
+use Rattle.wave_lex.specs.Tokenization.{three_quotes, Prefix}
 use Rattle.wave_grammar.specs.LeafTokens.{Spells, name_of}
 use Rattle.wave_grammar.specs.TypedGrammar.{look_up, Reads}
 use Rattle.wave_grammar.specs.ParserPosition.{token_of}
@@ -15,7 +15,7 @@ use Rattle.wave_grammar.specs.TypeErrors.{SpellsNoLeaf}
 use Rattle.wave_wasm.specs.Keywords.{keywords}
 use Rattle.wave_wasm.specs.Values.{Value, Leaf, values, entries, field_values}
 use Rattle.wave_lex.specs.declared.lex.Token.TheVariants as class
-use Rattle.wave_lex.specs.Tokens.{gap, function_name}
+use Rattle.wave_lex.specs.Tokens.{whitespace, function_name}
 use Rattle.wave_lex.proofs.LongestPrefix.ByComputing.{longest_here, token_here}
 use Rattle.wave_grammar.specs.Denotes.{Means}
 use Rattle.wave_grammar.specs.Params.{Params}
@@ -203,7 +203,7 @@ leaves : (rest : List Token) → Takes 1 (char (codes "'x'") ∷ rest) (tree.one
     × Takes 1 (multiline (codes "\"\"\"x\"\"\"") ∷ rest) (tree.one (multiline (codes "\"\"\"x\"\"\""))) rest × Takes 1 (label (codes "true") ∷ rest) (tree.one (label (codes "true"))) rest
 leaves rest = ((refl, refl), (refl, refl), (refl, refl), (refl, refl))
 
--- what a label is where a value is due; in byte order capitals stand before small letters, `-` before digits, and a prefix before what is longer, and `%` doesn't count
+-- what a label is where a value is expected; in byte order capitals stand before small letters, `-` before digits, and a prefix before what is longer, and `%` doesn't count
 labels : (map word_of (codes "true" ∷ codes "none" ∷ codes "some" ∷ codes "ok" ∷ codes "err" ∷ codes "%ok" ∷ []) ≡ leaf_word ∷ none_word ∷ some_word ∷ ok_word ∷ err_word ∷ case_word ∷ [])
     × (in_order (codes "b" ∷ codes "%a-1" ∷ codes "a2" ∷ codes "%a" ∷ codes "Z" ∷ []) ≡ codes "Z" ∷ codes "%a" ∷ codes "%a-1" ∷ codes "a2" ∷ codes "b" ∷ [])
 labels = (refl, refl)
@@ -225,11 +225,11 @@ params = (inr (_, one_tree ∷ [], refl, lit< tt, (_, (refl, refl), inr refl), r
 
 -- spaces and a comment without text are whitespace
 a_text : Means u8 100 (codes " 1//") a_one
-a_text = (one ∷ [], (codes "//", (1, 1, longest_here gap _ _ refl refl refl refl, token_here _ 1 class.Number refl refl refl tt refl, refl, refl), longest_here gap _ _ refl refl refl refl), one_reads 100 [] (lit< tt))
+a_text = (one ∷ [], (codes "//", (1, 1, longest_here whitespace _ _ refl refl refl refl, token_here _ 1 class.Number refl refl refl tt refl, refl, refl), longest_here whitespace _ _ refl refl refl refl), one_reads 100 [] (lit< tt))
 
 -- a call with no value
 a_call : IsCall (codes "f()") (codes "f") tree.no_tree
-a_call = record { bytes = 1; tokens = tokens "()"; named = longest_here function_name _ _ refl refl refl refl; is = refl; cut = ([], in_parens, longest_here gap _ _ refl refl refl refl); spelled = inl (refl, refl) }
+a_call = record { bytes = 1; tokens = tokens "()"; named = longest_here function_name _ _ refl refl refl refl; is = refl; cut = ([], in_parens, longest_here whitespace _ _ refl refl refl refl); spelled = inl (refl, refl) }
   where
-    in_parens : Front (codes "()") (map lexeme_of (tokens "()")) []
-    in_parens = (0, 1, longest_here gap _ _ refl refl refl refl, token_here _ 1 class.ParenOpen refl refl refl tt refl, refl, (0, 1, longest_here gap _ _ refl refl refl refl, token_here _ 1 class.ParenClose refl refl refl tt refl, refl, refl))
+    in_parens : Prefix (codes "()") (map lexeme_of (tokens "()")) []
+    in_parens = (0, 1, longest_here whitespace _ _ refl refl refl refl, token_here _ 1 class.ParenOpen refl refl refl tt refl, refl, (0, 1, longest_here whitespace _ _ refl refl refl refl, token_here _ 1 class.ParenClose refl refl refl tt refl, refl, refl))

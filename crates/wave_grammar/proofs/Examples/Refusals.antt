@@ -3,7 +3,7 @@ use Rattle.std.proofs.Common.{ℕ, ◌≡◌, ◌+◌, inl, inr, List, [], ◌�
 use Prim.Native.String.{String}
 use Rattle.wave_lex.specs.declared.error.ParserErrorKind.TheVariants.{UnexpectedEnd, NestingTooDeep, InvalidType, InvalidValue, InvalidMultilineString, DuplicateField}
 use Rattle.wave_lex.specs.Tokenization.{span}
-use Rattle.wave_lex.specs.Tokens.{gap}
+use Rattle.wave_lex.specs.Tokens.{whitespace}
 use Rattle.wave_lex.proofs.LongestPrefix.ByComputing.{longest_here}
 use Rattle.wave_grammar.specs.Token.{Token, number, multiline}
 use Rattle.wave_grammar.specs.Tree as tree
@@ -11,7 +11,7 @@ use Rattle.wave_grammar.specs.LenientTree.{TakesLoosely}
 use Rattle.wave_grammar.specs.ParserPosition.{Place}
 use Rattle.wave_lex.specs.Errors.{Diagnostic, Says, Refusal, with_detail, plainly, caused}
 use Rattle.wave_grammar.specs.SyntaxErrors.{StandsAt}
-use Rattle.wave_grammar.specs.PrefixAutomaton as due
+use Rattle.wave_grammar.specs.PrefixAutomaton as expectation
 use Rattle.wave_grammar.specs.PrefixAutomaton.{Step, step, Shifts, reads, unexpected, empty_tuple, repeated_flag, too_deep, value, first_item, next_item, behind_value}
 use Rattle.std.specs.declared.ops.Range.{Range}
 use Rattle.wave_wasm.specs.Types as type
@@ -31,7 +31,7 @@ goes s [] = s
 goes (reads d forms) (t ∷ more) = goes (step 3 d forms t) more
 goes refusal (t ∷ more) = refusal
 
--- what the last token of a text does where a value is due, and that it ends the value
+-- what the last token of a text does where a value is expected, and that it ends the value
 abbrev last : String → Step
 last text = goes (reads value []) (tokens text)
 
@@ -42,22 +42,22 @@ whole = reads behind_value []
 steps : (map last ("1" ∷ "'x'" ∷ "\"x\"" ∷ "\"\"\"x\"\"\"" ∷ ")" ∷ "1," ∷ "()" ∷ "(1)" ∷ "(1,)" ∷ "[]" ∷ "[1]" ∷ "[1,]" ∷ []) ≡ whole ∷ whole ∷ whole ∷ whole ∷ unexpected ∷ unexpected ∷ empty_tuple ∷ whole ∷ whole ∷ whole ∷ whole ∷ whole ∷ [])
     × (map last ("{}" ∷ "{:}" ∷ "{:," ∷ "{," ∷ "{1: 1, a: 1,}" ∷ "{a: 1}" ∷ "{1: 1, 'x'," ∷ []) ≡ whole ∷ whole ∷ unexpected ∷ unexpected ∷ whole ∷ whole ∷ unexpected ∷ [])
     × (map last ("{a}" ∷ "{a, true,}" ∷ "{a, %a" ∷ "{a, 1" ∷ "{a, true:" ∷ []) ≡ whole ∷ whole ∷ repeated_flag ∷ unexpected ∷ unexpected ∷ [])
-    × (map last ("a(1)" ∷ "some," ∷ "none(" ∷ "true(" ∷ "some(" ∷ "[ok," ∷ "err(" ∷ []) ≡ whole ∷ unexpected ∷ unexpected ∷ unexpected ∷ reads value (due.payload ∷ []) ∷ reads next_item (due.list ∷ []) ∷ reads value (due.payload ∷ []) ∷ [])
-    × (map last ("[[[]" ∷ "[[{a}" ∷ "[[[1" ∷ "[[{a: 1" ∷ []) ≡ reads behind_value (due.list ∷ due.list ∷ []) ∷ reads behind_value (due.list ∷ due.list ∷ []) ∷ too_deep ∷ too_deep ∷ [])
+    × (map last ("a(1)" ∷ "some," ∷ "none(" ∷ "true(" ∷ "some(" ∷ "[ok," ∷ "err(" ∷ []) ≡ whole ∷ unexpected ∷ unexpected ∷ unexpected ∷ reads value (expectation.payload ∷ []) ∷ reads next_item (expectation.list ∷ []) ∷ reads value (expectation.payload ∷ []) ∷ [])
+    × (map last ("[[[]" ∷ "[[{a}" ∷ "[[[1" ∷ "[[{a: 1" ∷ []) ≡ reads behind_value (expectation.list ∷ expectation.list ∷ []) ∷ reads behind_value (expectation.list ∷ expectation.list ∷ []) ∷ too_deep ∷ too_deep ∷ [])
 steps = (refl, refl, refl, refl, refl)
 
 -- tokens lead to the end of a flag; two texts would be trees if a tuple might be empty and a flag repeated
-led : Shifts 100 value [] (tokens "{a, %b") (due.behind_flag (codes "a" ∷ codes "b" ∷ [])) []
+led : Shifts 100 value [] (tokens "{a, %b") (expectation.behind_flag (codes "a" ∷ codes "b" ∷ [])) []
     × TakesLoosely 2 (tokens "[()]") (tree.list (tree.trees (tree.tuple tree.no_trees ∷ []))) [] × TakesLoosely 1 (tokens "{a, a}") (tree.flags (codes "a" ∷ codes "a" ∷ [])) []
 led = ((_, _, refl, (_, _, refl, (_, _, refl, (_, _, refl, (refl, refl))))), inl (_ ∷ [], (_, inr (inl (refl, refl)), inl refl), refl), inr (inr (_, codes "a" ∷ codes "a" ∷ [], omega arith, refl, (_, refl, (_, _, refl, refl, inl refl)), refl)))
 
 -- `[` ends, and what stands there is refused at 1..1; where no level is left, whatever stands there
 end_refused : (e : Diagnostic) → Says e UnexpectedEnd (span 1 1) None
-    → StandsAt UnexpectedEnd e 100 first_item (due.list ∷ []) (record { lexer = record { source = codes "["; start = 0; end = 1 }; taken = 1 }) (record { lexer = record { source = codes "["; start = 1; end = 1 }; taken = 2 })
-end_refused e says = ((record { source = refl; skipped = longest_here gap _ _ refl refl refl refl; start = refl; end = refl }, refl), (λ deep. omega (arith, deep.full)), says)
+    → StandsAt UnexpectedEnd e 100 first_item (expectation.list ∷ []) (record { lexer = record { source = codes "["; start = 0; end = 1 }; taken = 1 }) (record { lexer = record { source = codes "["; start = 1; end = 1 }; taken = 2 })
+end_refused e says = ((record { source = refl; skipped = longest_here whitespace _ _ refl refl refl refl; start = refl; end = refl }, refl), (λ deep. omega (arith, deep.full)), says)
 
 level_refused : (e : Diagnostic) (p : Place) → Says e NestingTooDeep (span p.lexer.start p.lexer.end) None → StandsAt NestingTooDeep e 0 value [] p p
-level_refused e p says = (record { full = omega arith; due = tt; no_close = λ t new h. refl }, refl, says)
+level_refused e p says = (record { full = omega arith; expected = tt; no_close = λ t new h. refl }, refl, says)
 
 -- a leaf, a label of one byte with or without payload, and the fault of `256` at u8
 abbrev pub leaf : ℕ → ℕ → Token → SpannedTree
@@ -129,7 +129,7 @@ names : Fault (type.flags (codes "a" ∷ [])) (at (span 0 6) (placed.flags ((spa
     × Fault (type.variant (type.case_of (codes "b") (type.a_type u8) type.no_cases)) (label 0 6 (codes "b") (a_placed (leaf 2 5 big))) (plainly InvalidValue) (span 2 5)
 names = (inr (inl (none_of (codes "a" ∷ []) (codes "b") refl, (refl, refl))), inr (refl, none_of (codes "a" ∷ []) (codes "b") refl, (refl, refl)), inl ((λ e. cc), (refl, refl)), inr ((λ e. apart _ _ refl e), (refl, refl)), inl (refl, too_large))
 
--- at map<u8, u8> `{inf: 256}`: `InvalidType` 1..4, at the key, which tells the key that is due, and `InvalidValue` 6..9; `{256: 1}`: `InvalidValue` 1..4
+-- at map<u8, u8> `{inf: 256}`: `InvalidType` 1..4, at the key, which tells the key that is expected, and `InvalidValue` 6..9; `{256: 1}`: `InvalidValue` 1..4
 abbrev map_fault : Token → Token → Blame
 map_fault key v = Fault (type.map (type.whole type.u8) u8) (at (span 0 10) (placed.entries (placed.entry (span 1 4) key (leaf 6 9 v) placed.no_entries)))
 

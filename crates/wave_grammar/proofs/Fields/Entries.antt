@@ -7,7 +7,7 @@ use Rattle.wave_wasm.specs.Lists.{AllOf, SomeOf}
 use Rattle.wave_wasm.specs.Names.{AreDistinct, IsOneOf, IsNoneOf}
 use Rattle.wave_wasm.specs.Types as type
 use Rattle.wave_wasm.specs.Types.{Fields, field_names}
-use Rattle.wave_lex.specs.Errors.{Says, Diagnostic, Refusal, refusal_of, field_label_due, repeated_name}
+use Rattle.wave_lex.specs.Errors.{Says, Diagnostic, Refusal, refusal_of, field_label_expected, repeated_name}
 use Rattle.wave_lex.specs.declared.error.ParserErrorKind.TheVariants.{InvalidType, DuplicateField, OutOfMemory}
 use Rattle.wave_grammar.specs.Token.{Token}
 use Rattle.wave_grammar.specs.Token as token
@@ -182,7 +182,7 @@ IsOld names earlier name = IsOneOf names name ⊎ IsOneOf earlier name
 -- no label; or one of an old name
 abbrev pub IsBadKey : List ℕ → List (List ℕ) → List (List ℕ) → NodeTree → Diagnostic → Type 0
 IsBadKey source names earlier key e =
-    (type_of key ≢ kind.Label) × Says e InvalidType (place_of key) (Some field_label_due)
+    (type_of key ≢ kind.Label) × Says e InvalidType (place_of key) (Some field_label_expected)
     ⊎ (type_of key ≡ kind.Label) × IsOld names earlier (name_of (node_text source key))
     × Says e DuplicateField (place_of key) (Some (repeated_name (name_of (node_text source key))))
 

@@ -23,7 +23,7 @@ use Rattle.wave_grammar.specs.SpannedTree.{SpannedTree, at, one, label, no_place
 use Rattle.wave_grammar.specs.Nodes.{key_of, IsNodeOf, IsTokenOf, IsParsedFrom}
 use Rattle.wave_grammar.proofs.ChildNodes.Inside.{Inside, inside}
 use Rattle.wave_grammar.proofs.ChildNodes.Entries.{AreEntriesOf, map_nodes, pairs_count}
-use Rattle.wave_lex.specs.Errors.{Diagnostic, Says, field_label_due, repeated_name}
+use Rattle.wave_lex.specs.Errors.{Diagnostic, Says, field_label_expected, repeated_name}
 use Rattle.wave_lex.specs.declared.error.ParserErrorKind.TheVariants.{InvalidType, DuplicateField, OutOfMemory}
 use Rattle.wave_grammar.specs.declared.form.NodeType.TheVariants as kind
 use Rattle.wave_grammar.proofs.ByKind.Lists.{HasAt}
@@ -175,7 +175,7 @@ refused_key source n ns i k v e set children here h refused = record {
 }
 
 -- the refusal of a key that is no label
-pub refused_label : (source : List ℕ) (n : NodeTree) (ns : List NodeTree) (i : ℕ) (k v : NodeTree) (e : Diagnostic) → type_of n ≡ kind.TupleSet → ns ≡ children_of n → HasAt (node_pairs ns) i (k, v) → FieldsSoFar source (take i (node_pairs ns)) → (type_of k ≢ kind.Label) × Says e InvalidType (place_of k) (Some field_label_due) → RefusesFields source n e
+pub refused_label : (source : List ℕ) (n : NodeTree) (ns : List NodeTree) (i : ℕ) (k v : NodeTree) (e : Diagnostic) → type_of n ≡ kind.TupleSet → ns ≡ children_of n → HasAt (node_pairs ns) i (k, v) → FieldsSoFar source (take i (node_pairs ns)) → (type_of k ≢ kind.Label) × Says e InvalidType (place_of k) (Some field_label_expected) → RefusesFields source n e
 refused_label source n ns i k v e set children here h refused =
     inr (inr (refused_key source n ns i k v e set children here h (inl refused)))
 

@@ -68,12 +68,12 @@ same_flags us ws e = cc
 
 spelled_flags : (n : ℕ) (tokens rest : List Token) (us : List (List ℕ)) → Takes n tokens (form.flags us) rest → AreInOrder (map name_of us)
 spelled_flags zero tokens rest us h = absurd h
-spelled_flags (suc n) (token.paren_open ∷ front) rest us h = absurd (cc h.3)
-spelled_flags (suc n) (token.bracket_open ∷ front) rest us h = absurd (cc h.2)
-spelled_flags (suc n) (token.brace_open ∷ front) rest us (inl h) = absurd (cc h.1)
-spelled_flags (suc n) (token.brace_open ∷ front) rest us (inr (inl h)) = absurd (cc h.1)
-spelled_flags (suc n) (token.brace_open ∷ front) rest us (inr (inr (inl h))) = absurd (cc h.3)
-spelled_flags (suc n) (token.brace_open ∷ front) rest us (inr (inr (inr (ws, some, items, distinct, e)))) =
+spelled_flags (suc n) (token.paren_open ∷ prefix) rest us h = absurd (cc h.3)
+spelled_flags (suc n) (token.bracket_open ∷ prefix) rest us h = absurd (cc h.2)
+spelled_flags (suc n) (token.brace_open ∷ prefix) rest us (inl h) = absurd (cc h.1)
+spelled_flags (suc n) (token.brace_open ∷ prefix) rest us (inr (inl h)) = absurd (cc h.1)
+spelled_flags (suc n) (token.brace_open ∷ prefix) rest us (inr (inr (inl h))) = absurd (cc h.3)
+spelled_flags (suc n) (token.brace_open ∷ prefix) rest us (inr (inr (inr (ws, some, items, distinct, e)))) =
     subst (λ (l : List (List ℕ)). AreInOrder (map name_of l)) (sym (same_flags us (in_order ws) e)) (all_sorted ws distinct)
 spelled_flags (suc n) (token.label text ∷ behind) rest us h = absurd (no_word (word_of text) text n behind rest us h)
 spelled_flags (suc n) (token.number text ∷ behind) rest us h = absurd (cc h.1)

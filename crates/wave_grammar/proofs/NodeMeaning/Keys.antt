@@ -12,7 +12,7 @@ use Rattle.wave_wasm.specs.Types as type
 use Rattle.wave_wasm.specs.Types.{TypeTree, Simple, HasDistinctNames}
 use Rattle.wave_wasm.specs.Values.{Value, Leaf}
 use Rattle.wave_wasm.specs.Values as value
-use Rattle.wave_lex.specs.Tokenization.{Front}
+use Rattle.wave_lex.specs.Tokenization.{Prefix}
 use Rattle.wave_lex.specs.Errors.{Diagnostic, Refusal, refusal_of}
 use Rattle.wave_lex.specs.declared.error.ParserErrorKind.TheVariants.{InvalidType}
 use Rattle.wave_grammar.specs.Token.{Token, lexeme_of}
@@ -55,12 +55,12 @@ word_taken case_word text v payload Inner behind rest h = (refl, tree_text v tex
 -- the label of a tree is no word of another meaning
 label_taken : (Inner : Spelling Tree) (tokens : List Token) (v : List ℕ) (payload : MaybeTree) (rest : List Token) → ATree Inner tokens (tree.label v payload) rest → word_of v ≡ case_word
 label_taken Inner [] v payload rest h = absurd h
-label_taken Inner (token.paren_open ∷ front) v payload rest h = absurd (cc (h.3))
-label_taken Inner (token.bracket_open ∷ front) v payload rest h = absurd (cc (h.2))
-label_taken Inner (token.brace_open ∷ front) v payload rest (inl h) = absurd (cc (h.1))
-label_taken Inner (token.brace_open ∷ front) v payload rest (inr (inl h)) = absurd (cc (h.1))
-label_taken Inner (token.brace_open ∷ front) v payload rest (inr (inr (inl h))) = absurd (cc (h.3))
-label_taken Inner (token.brace_open ∷ front) v payload rest (inr (inr (inr h))) = absurd (cc (h.4))
+label_taken Inner (token.paren_open ∷ prefix) v payload rest h = absurd (cc (h.3))
+label_taken Inner (token.bracket_open ∷ prefix) v payload rest h = absurd (cc (h.2))
+label_taken Inner (token.brace_open ∷ prefix) v payload rest (inl h) = absurd (cc (h.1))
+label_taken Inner (token.brace_open ∷ prefix) v payload rest (inr (inl h)) = absurd (cc (h.1))
+label_taken Inner (token.brace_open ∷ prefix) v payload rest (inr (inr (inl h))) = absurd (cc (h.3))
+label_taken Inner (token.brace_open ∷ prefix) v payload rest (inr (inr (inr h))) = absurd (cc (h.4))
 label_taken Inner (token.label text ∷ behind) v payload rest h =
     let k = word_taken (word_of text) text v payload Inner behind rest h in
     ap word_of k.1 ∙ k.0
@@ -108,12 +108,12 @@ none_of_keywords text apart = (apart keyword.True, (apart keyword.False, (apart 
 
 -- the part is the whole
 whole_place : (source : List ℕ) (p : Range ℕ) (key : Token) → HoldsTokens source p (key ∷ []) → StandsAtTokens source p p
-whole_place source p key (stands, gap, front) =
+whole_place source p key (stands, whitespace, prefix) =
     let o = stands.ordered in
     let fits = length-take (p.end - p.start) (drop p.start source) in
     let past : drop (p.end - p.start) (slice source p) ≡ [] = drop_all (p.end - p.start) (slice source p) (omega arith) in
     let none : p.start - p.start ≡ 0 = omega arith in
-    ((0, 0, ([], refl), gap, none), (key ∷ [], subst (λ r. Front (slice source p) (lexeme_of key ∷ []) r) (sym past) front))
+    ((0, 0, ([], refl), whitespace, none), (key ∷ [], subst (λ r. Prefix (slice source p) (lexeme_of key ∷ []) r) (sym past) prefix))
 
 label_value : (source : List ℕ) (p : Range ℕ) (w : List ℕ) → word_of w ≡ case_word → HoldsTokens source p (token.label w ∷ []) → SpellsEach source (at p (label p w no_placed))
 label_value source p w plain holds =
@@ -222,11 +222,11 @@ module _ {V : Type 0} (tree_value : V → Value) (of : V → TypeTree → Type 0
   fault_spells_none K p key k q (inr h) = λ l spelled. leaf_none K p key k q l h.1 spelled
 
   -- where a fault is the answer the key spells no value
-  pub key_told_none : (K : Simple) (p : Range ℕ) (key : Token) (r : Result V Diagnostic) → MatchResult r (IsKeyRead tree_value of K key) (IsKeyBlamed Full K p key) → MatchResult r (IsKeyRead tree_value of K key) (IsKeyError Full K p key)
-  key_told_none K p key (Ok v) h = h
-  key_told_none K p key (Err e) (inl memory) = inl memory
-  key_told_none K p key (Err e) (inr (inl fault)) = inr (inl (fault, fault_spells_none K p key (refusal_of e) e.span fault))
-  key_told_none K p key (Err e) (inr (inr full)) = inr (inr full)
+  pub key_reported_none : (K : Simple) (p : Range ℕ) (key : Token) (r : Result V Diagnostic) → MatchResult r (IsKeyRead tree_value of K key) (IsKeyBlamed Full K p key) → MatchResult r (IsKeyRead tree_value of K key) (IsKeyError Full K p key)
+  key_reported_none K p key (Ok v) h = h
+  key_reported_none K p key (Err e) (inl memory) = inl memory
+  key_reported_none K p key (Err e) (inr (inl fault)) = inr (inl (fault, fault_spells_none K p key (refusal_of e) e.span fault))
+  key_reported_none K p key (Err e) (inr (inr full)) = inr (inr full)
 
 -- a keyword at another simple type than bool
 pub keyword_fault : (K : Simple) (source : List ℕ) (n : NodeTree) (p : Range ℕ) (key : Token) (e : Diagnostic) → K ≢ type.bool → IsTokenOf source n p key → type_of n ≡ kind.Label → RefusedAs InvalidType n e → LoneKeyFault K p key (refusal_of e) e.span
@@ -234,15 +234,15 @@ keyword_fault K source n p key e apart h labelled refused =
     by K key apart (key_token source n p key h) (at_key InvalidType source n p key (refusal_of e) e.span h (said refused))
   where
     by : (S : Simple) (t : Token) → S ≢ type.bool → IsKeyToken (type_of n) (node_text source n) t → IsRefusalOf InvalidType p (refusal_of e) e.span → LoneKeyFault S p t (refusal_of e) e.span
-    by type.bool t other own told = absurd (other refl)
-    by (type.whole which) (token.label w) other own told = inl ((λ none. cc), (λ l s. cc (s.2)), told)
-    by type.char (token.label w) other own told = inl ((λ none. cc), (λ l s. cc (s.2)), told)
-    by type.string (token.label w) other own told = inl ((λ none. cc), no_spelling w, told)
-    by S (token.number w) other own told = absurd (cc (sym labelled ∙ own.0))
-    by S (token.char w) other own told = absurd (cc (sym labelled ∙ own.0))
-    by S (token.string w) other own told = absurd (cc (sym labelled ∙ own.0))
-    by S (token.multiline w) other own told = absurd (cc (sym labelled ∙ own.0))
-    by S _ other own told = absurd own
+    by type.bool t other own reported = absurd (other refl)
+    by (type.whole which) (token.label w) other own reported = inl ((λ none. cc), (λ l s. cc (s.2)), reported)
+    by type.char (token.label w) other own reported = inl ((λ none. cc), (λ l s. cc (s.2)), reported)
+    by type.string (token.label w) other own reported = inl ((λ none. cc), no_spelling w, reported)
+    by S (token.number w) other own reported = absurd (cc (sym labelled ∙ own.0))
+    by S (token.char w) other own reported = absurd (cc (sym labelled ∙ own.0))
+    by S (token.string w) other own reported = absurd (cc (sym labelled ∙ own.0))
+    by S (token.multiline w) other own reported = absurd (cc (sym labelled ∙ own.0))
+    by S _ other own reported = absurd own
 
 -- a simple type has no names
 pub simple_distinct : (T : TypeTree) (K : Simple) → T ≡ type.simple K → HasDistinctNames T

@@ -52,8 +52,8 @@ string_given source n x l r e own is h = by_result r (subst (λ (z : LinesLeft).
       borrowed_so (IsRunAt source n) (IsUncopied (one_line s)) c to_run from_run borrowed,
     )
     by_result (Err error) (inl (parts, run)) =
-        let (i, bad, told) = (one_line_joins s parts).1 error run in
-        inr (inl (inl (e, x, i, inside_of kind.String source n x e own, bad, told)))
+        let (i, bad, reported) = (one_line_joins s parts).1 error run in
+        inr (inl (inl (e, x, i, inside_of kind.String source n x e own, bad, reported)))
     by_result (Err error) (inr (wants, never)) = inr (inr (wants, λ run. never (to_run run)))
 
 -- what is put together of a multiline string
@@ -75,8 +75,8 @@ multiline_given source n x l r e own opens h = by_result r h
       borrowed_so (IsRunAt source n) (IsUncopied l) c to_run (from_run parts run) borrowed,
     )
     by_result (Err error) (inl (parts, run)) =
-        let (f, bad, told) = ((lines_join x ((place_of n).start + 3)).0 l parts opens).1 error run in
-        inr (inl (inr (e, x, f, inside_of kind.MultilineString source n x e own, bad, told)))
+        let (f, bad, reported) = ((lines_join x ((place_of n).start + 3)).0 l parts opens).1 error run in
+        inr (inl (inr (e, x, f, inside_of kind.MultilineString source n x e own, bad, reported)))
     by_result (Err error) (inr (wants, never)) = inr (inr (wants, λ run. never (to_run run)))
 
 -- what is put together of the parts of a node
@@ -88,8 +88,8 @@ parts_given source n parts r (x, own, inr (e, opens)) h = multiline_given source
 parts_refused : (source : List ℕ) (n : NodeTree) (e : Diagnostic) → GivesParts source n (Err e) → RefusesString source n e
 parts_refused source n e (inl other) = inl other
 parts_refused source n e (inr (is, x, own, refused)) =
-    let (f, bad, told) = (lines_join x ((place_of n).start + 3)).1 e refused in
-    inr (inl (inr (is, x, f, inside_of kind.MultilineString source n x is own, bad, told)))
+    let (f, bad, reported) = (lines_join x ((place_of n).start + 3)).1 e refused in
+    inr (inl (inr (is, x, f, inside_of kind.MultilineString source n x is own, bad, reported)))
 
 -- its refusal is handed on
 pub parts_refused_on : {A : Type 0} (source : List ℕ) (n : NodeTree) (e : Diagnostic) (r : Result (CowStr A) Diagnostic) → IsErrAnd r (λ f. f ≡ e) → GivesParts source n (Err e) → GivesString source n r

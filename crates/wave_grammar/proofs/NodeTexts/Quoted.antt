@@ -112,7 +112,7 @@ key_is (at q s) _ p key quoted e is = absurd quoted
 
 -- the text of a token in quotes has the shape of its class
 pub has_shape : (source : List ℕ) (p : Range ℕ) (tok : Token) → HoldsTokens source p (tok ∷ []) → (cs : List ℕ) × (encode_utf8_all cs ≡ text_of tok) × Matches (shape (lexeme_of tok).0) cs
-has_shape source p tok (stands, gap, (g, k, first, long, text, end)) = (long.is.0.scalars, long.is.0.spelled ∙ sym text, long.is.0.has)
+has_shape source p tok (stands, whitespace, (g, k, first, long, text, end)) = (long.is.0.scalars, long.is.0.spelled ∙ sym text, long.is.0.has)
 
 -- between two equal scalars
 between : (q : ℕ) (p : Regex) (cs : List ℕ) → Matches (shapes.one q then p then shapes.one q) cs → (x : List ℕ) × (cs ≡ q ∷ (x ++ q ∷ []))

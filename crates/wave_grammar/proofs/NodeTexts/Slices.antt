@@ -7,21 +7,21 @@ use Rattle.wave_lex.specs.declared.lex.Token as lex
 use Rattle.wave_lex.specs.declared.lex.Token.TheVariants.{BraceOpen, BraceClose, ParenOpen, ParenClose, BracketOpen, BracketClose, Colon, Comma, Number, LabelOrKeyword, Char, String, MultilineString}
 use Rattle.wave_lex.specs.LongestMatch.{IsPrefixOf}
 use Rattle.wave_lex.specs.Regex.{Regex, alt, seq, empty, Matches, joined}
-use Rattle.wave_lex.specs.Tokens.{shape, gap, blank, comment_text, one}
-use Rattle.wave_lex.specs.Tokenization.{three_quotes, MayStandAt, IsToken, IsLongestToken, IsGap, Lexeme, Front, remainder_of}
+use Rattle.wave_lex.specs.Tokens.{shape, whitespace, blank, comment_text, one}
+use Rattle.wave_lex.specs.Tokenization.{three_quotes, MayStandAt, IsToken, IsLongestToken, IsWhitespace, Lexeme, Prefix, remainder_of}
 use Rattle.wave_lex.specs.Classes.{class_of}
 use Rattle.wave_lex.proofs.RegularShapes.Derivatives.{empty_from, empty_into}
 use Rattle.wave_lex.proofs.RegularShapes.Comparisons.{one_is}
 use Rattle.wave_lex.proofs.Tokenization.Classes.{no_string, token_shows}
-use Rattle.wave_lex.proofs.Tokenization.OneCut.{one_class}
+use Rattle.wave_lex.proofs.Tokenization.OneTokenization.{one_class}
 use Rattle.wave_grammar.specs.Token.{Token, lexeme_of}
 use Rattle.wave_grammar.specs.ParserPosition.{Place, TakesItem, TakesTokens, token_of, text_at}
 
 -- ---- prefixes within a beginning of a text
 
 -- a prefix is one of each beginning that has it
-front_cut : (p : Regex) (r : List ℕ) (k n : ℕ) → k ≤ n → IsPrefixOf p r k → IsPrefixOf p (take n r) k
-front_cut p r k n l f = record {
+prefix_cut : (p : Regex) (r : List ℕ) (k n : ℕ) → k ≤ n → IsPrefixOf p r k → IsPrefixOf p (take n r) k
+prefix_cut p r k n l f = record {
   scalars = f.scalars;
   fits = (let a = length-take n r in let b = f.fits in omega (arith, a, b, l));
   spelled = f.spelled ∙ sym (take-take k n r l);
@@ -29,20 +29,20 @@ front_cut p r k n l f = record {
 }
 
 -- a prefix of a beginning is one of the text
-front_uncut : (p : Regex) (r : List ℕ) (k n : ℕ) → IsPrefixOf p (take n r) k → IsPrefixOf p r k
-front_uncut p r k n f =
+prefix_uncut : (p : Regex) (r : List ℕ) (k n : ℕ) → IsPrefixOf p (take n r) k → IsPrefixOf p r k
+prefix_uncut p r k n f =
     let a = length-take n r in
     let b = f.fits in
     let c : k ≤ n = omega (arith, a, b) in
     record { scalars = f.scalars; fits = omega (arith, a, b); spelled = f.spelled ∙ take-take k n r c; has = f.has }
 
 -- the whitespace before a token is that of each beginning that has it
-pub gap_cut : (s : List ℕ) (g n : ℕ) → g ≤ n → IsGap s g → IsGap (take n s) g
-gap_cut s g n l h = (front_cut gap s g n l h.0, λ j f. h.1 j (front_uncut gap s j n f))
+pub whitespace_cut : (s : List ℕ) (g n : ℕ) → g ≤ n → IsWhitespace s g → IsWhitespace (take n s) g
+whitespace_cut s g n l h = (prefix_cut whitespace s g n l h.0, λ j f. h.1 j (prefix_uncut whitespace s j n f))
 
 -- no whitespace stands at a beginning either
-pub gap_zero : (r : List ℕ) (n : ℕ) → IsGap r 0 → IsGap (take n r) 0
-gap_zero r n h = gap_cut r 0 n (omega arith) h
+pub whitespace_zero : (r : List ℕ) (n : ℕ) → IsWhitespace r 0 → IsWhitespace (take n r) 0
+whitespace_zero r n h = whitespace_cut r 0 n (omega arith) h
 
 may_cut : (c : lex.Token) (r : List ℕ) (k n : ℕ) → MayStandAt r k c → MayStandAt (take n r) k c
 may_cut String r k n h = λ e q. h e (three q)
@@ -63,70 +63,70 @@ may_uncut c r k j t = tt
 -- the longest token is that of each beginning that has it
 token_cut : (r : List ℕ) (k n : ℕ) (c : lex.Token) → k ≤ n → IsLongestToken r k c → IsLongestToken (take n r) k c
 token_cut r k n c l t =
-    let here : IsToken (take n r) k c = (front_cut (shape c) r k n l t.is.0, may_cut c r k n t.is.1) in
+    let here : IsToken (take n r) k c = (prefix_cut (shape c) r k n l t.is.0, may_cut c r k n t.is.1) in
     record {
       is = here;
       longest = λ j d u.
           let same : d ≡ c = one_class (take n r) j k d c u here in
-          let front : IsPrefixOf (shape c) r j = front_uncut (shape c) r j n (subst (λ z. IsPrefixOf (shape z) (take n r) j) same u.0) in
-          t.longest j c (front, may_uncut c r k j t.is);
+          let prefix : IsPrefixOf (shape c) r j = prefix_uncut (shape c) r j n (subst (λ z. IsPrefixOf (shape z) (take n r) j) same u.0) in
+          t.longest j c (prefix, may_uncut c r k j t.is);
     }
 
 -- ---- no whitespace stands where a token does
 
 -- scalars that begin whitespace
-abbrev BeginsGap : ℕ → Type 0
-BeginsGap x = (x ≡ 32) ⊎ (x ≡ 9) ⊎ (x ≡ 10) ⊎ (x ≡ 13) ⊎ (x ≡ 47)
+abbrev BeginsWhitespace : ℕ → Type 0
+BeginsWhitespace x = (x ≡ 32) ⊎ (x ≡ 9) ⊎ (x ≡ 10) ⊎ (x ≡ 13) ⊎ (x ≡ 47)
 
-no_class : (x : ℕ) → BeginsGap x → class_of x ≡ None
+no_class : (x : ℕ) → BeginsWhitespace x → class_of x ≡ None
 no_class x (inl e) = ap class_of e
 no_class x (inr (inl e)) = ap class_of e
 no_class x (inr (inr (inl e))) = ap class_of e
 no_class x (inr (inr (inr (inl e)))) = ap class_of e
 no_class x (inr (inr (inr (inr e)))) = ap class_of e
 
-blank_begins : (x : ℕ) (cs : List ℕ) → Matches blank (x ∷ cs) → BeginsGap x
+blank_begins : (x : ℕ) (cs : List ℕ) → Matches blank (x ∷ cs) → BeginsWhitespace x
 blank_begins x cs (inl (c, e, w)) = let f : x ≡ c = cc in inl (f ∙ one_is 32 c w)
 blank_begins x cs (inr (inl (c, e, w))) = let f : x ≡ c = cc in inr (inl (f ∙ one_is 9 c w))
 blank_begins x cs (inr (inr (inl (c, e, w)))) = let f : x ≡ c = cc in inr (inr (inl (f ∙ one_is 10 c w)))
 blank_begins x cs (inr (inr (inr (c, e, w)))) = let f : x ≡ c = cc in inr (inr (inr (inl (f ∙ one_is 13 c w))))
 
-comment_begins : (x : ℕ) (cs : List ℕ) → Matches comment_text (x ∷ cs) → BeginsGap x
+comment_begins : (x : ℕ) (cs : List ℕ) → Matches comment_text (x ∷ cs) → BeginsWhitespace x
 comment_begins x cs (a, b, e, (a1, a2, e1, (c, e2, w), more), rest) = let f : x ≡ c = cc in inr (inr (inr (inr (f ∙ one_is 47 c w))))
 
 -- the parts of whitespace
 abbrev part : Regex
 part = alt blank (seq comment_text (one 10))
 
-part_begins : (x : ℕ) (cs : List ℕ) → Matches part (x ∷ cs) → BeginsGap x
+part_begins : (x : ℕ) (cs : List ℕ) → Matches part (x ∷ cs) → BeginsWhitespace x
 part_begins x cs (inl h) = blank_begins x cs h
 part_begins x cs (inr ([], b, e, h, k)) = absurd (no_comment h)
   where
     no_comment : Matches comment_text [] → ⊥
     no_comment h = let wrong : false ≡ true = empty_into comment_text h in cc
-part_begins x cs (inr (y ∷ ys, b, e, h, k)) = let f : x ≡ y = cc in subst BeginsGap (sym f) (comment_begins y ys h)
+part_begins x cs (inr (y ∷ ys, b, e, h, k)) = let f : x ≡ y = cc in subst BeginsWhitespace (sym f) (comment_begins y ys h)
 
-parts_begin : (x : ℕ) (cs : List ℕ) (parts : List (List ℕ)) (more : List ℕ) → AllOf (Matches part) parts → Matches (alt empty comment_text) more → x ∷ cs ≡ joined parts ++ more → BeginsGap x
+parts_begin : (x : ℕ) (cs : List ℕ) (parts : List (List ℕ)) (more : List ℕ) → AllOf (Matches part) parts → Matches (alt empty comment_text) more → x ∷ cs ≡ joined parts ++ more → BeginsWhitespace x
 parts_begin x cs [] more h (inl k) e = absurd (let wrong : x ∷ cs ≡ [] = e ∙ k in cc)
 parts_begin x cs [] more h (inr k) e = comment_begins x cs (subst (Matches comment_text) (sym e) k)
 parts_begin x cs ([] ∷ parts) more (h, hs) k e = absurd (let wrong : false ≡ true = empty_into part h in cc)
-parts_begin x cs ((y ∷ ys) ∷ parts) more (h, hs) k e = let f : x ≡ y = cc in subst BeginsGap (sym f) (part_begins y ys h)
+parts_begin x cs ((y ∷ ys) ∷ parts) more (h, hs) k e = let f : x ≡ y = cc in subst BeginsWhitespace (sym f) (part_begins y ys h)
 
-gap_begins : (x : ℕ) (cs : List ℕ) → Matches gap (x ∷ cs) → BeginsGap x
-gap_begins x cs (a, more, e, (parts, f, each), k) = parts_begin x cs parts more each k (e ∙ ap (λ z. z ++ more) f)
+whitespace_begins : (x : ℕ) (cs : List ℕ) → Matches whitespace (x ∷ cs) → BeginsWhitespace x
+whitespace_begins x cs (a, more, e, (parts, f, each), k) = parts_begin x cs parts more each k (e ∙ ap (λ z. z ++ more) f)
 
-gap_empty : (r : List ℕ) (k : ℕ) (c : lex.Token) → IsToken r k c → (j : ℕ) (cs : List ℕ) → j ≤ length r → encode_utf8_all cs ≡ take j r → Matches gap cs → j ≤ 0
-gap_empty r k c t j [] l e h = let a : 0 ≡ length (take j r) = ap length e in let b = length-take-le j r l in omega (arith, a, b)
-gap_empty r k c t j (x ∷ cs) l e h =
+whitespace_empty : (r : List ℕ) (k : ℕ) (c : lex.Token) → IsToken r k c → (j : ℕ) (cs : List ℕ) → j ≤ length r → encode_utf8_all cs ≡ take j r → Matches whitespace cs → j ≤ 0
+whitespace_empty r k c t j [] l e h = let a : 0 ≡ length (take j r) = ap length e in let b = length-take-le j r l in omega (arith, a, b)
+whitespace_empty r k c t j (x ∷ cs) l e h =
     let begins : r ≡ encode_utf8 x ++ (encode_utf8_all cs ++ drop j r) =
     sym (take-append-drop j r) ∙ (ap (λ z. z ++ drop j r) (sym e) ∙ append_assoc (encode_utf8 x) (encode_utf8_all cs) (drop j r)) in
     let shown = token_shows r (encode_utf8_all cs ++ drop j r) k x c begins t in
-    let none = no_class x (gap_begins x cs h) in
+    let none = no_class x (whitespace_begins x cs h) in
     absurd (let wrong : None ≡ Some _ = sym none ∙ shown in cc)
 
 -- where a token stands there is no whitespace
-pub gap_none : (r : List ℕ) (k : ℕ) (c : lex.Token) → IsToken r k c → IsGap r 0
-gap_none r k c t = (record { scalars = []; fits = omega arith; spelled = refl; has = empty_from gap refl }, λ j f. gap_empty r k c t j f.scalars f.fits f.spelled f.has)
+pub whitespace_none : (r : List ℕ) (k : ℕ) (c : lex.Token) → IsToken r k c → IsWhitespace r 0
+whitespace_none r k c t = (record { scalars = []; fits = omega arith; spelled = refl; has = empty_from whitespace refl }, λ j f. whitespace_empty r k c t j f.scalars f.fits f.spelled f.has)
 
 -- ---- tokens by their class and text
 
@@ -161,7 +161,7 @@ pub record Taken (p q : Place) (c : lex.Token) : Type 0 where
   pub g : ℕ
   pub k : ℕ
   pub source : q.lexer.source ≡ p.lexer.source
-  pub gap_is : IsGap (remainder_of p.lexer) g
+  pub whitespace_is : IsWhitespace (remainder_of p.lexer) g
   pub token_is : IsLongestToken (drop g (remainder_of p.lexer)) k c
   pub start : q.lexer.start ≡ p.lexer.end + g
   pub end : q.lexer.end ≡ p.lexer.end + g + k
@@ -175,7 +175,7 @@ taken_is p q c ((g, k, h, t), n) =
       g = g;
       k = k;
       source = h.source;
-      gap_is = h.skipped;
+      whitespace_is = h.skipped;
       token_is = t;
       start = h.start;
       end = h.end;
@@ -201,12 +201,12 @@ tokens_source p q [] e = ap (λ z. z.lexer.source) (sym e)
 tokens_source p q (t ∷ ts) (m, (c, h, e), more) = tokens_source m q ts more ∙ (taken_is p m c h).source
 
 -- the tokens that are taken are a prefix of each beginning of what is left that has them
-pub tokens_front : (p q : Place) (ts : List Token) (n : ℕ) → TakesTokens p ts q → q.lexer.end ≤ p.lexer.end + n →
-    Front (take n (remainder_of p.lexer)) (map lexeme_of ts) (take (n - (q.lexer.end - p.lexer.end)) (remainder_of q.lexer))
-tokens_front p q [] n e l =
+pub tokens_prefix : (p q : Place) (ts : List Token) (n : ℕ) → TakesTokens p ts q → q.lexer.end ≤ p.lexer.end + n →
+    Prefix (take n (remainder_of p.lexer)) (map lexeme_of ts) (take (n - (q.lexer.end - p.lexer.end)) (remainder_of q.lexer))
+tokens_prefix p q [] n e l =
     let same : q.lexer.end - p.lexer.end ≡ 0 = (let a = ap (λ z. z.lexer.end) e in omega (arith, a)) in
     ap (λ z. take n (remainder_of z.lexer)) e ∙ ap (λ z. take z (remainder_of q.lexer)) (omega (arith, same))
-tokens_front p q (t ∷ ts) n (m, (c, h, e), more) l =
+tokens_prefix p q (t ∷ ts) n (m, (c, h, e), more) l =
     let one = taken_is p m c h in
     let r = remainder_of p.lexer in
     let a = one.end in
@@ -219,12 +219,12 @@ tokens_front p q (t ∷ ts) n (m, (c, h, e), more) l =
     let lexeme : lexeme_of t ≡ (c, text_at m) = ap lexeme_of e ∙ (ap (λ z. lexeme_of (token_of c z)) one.text ∙ (lexeme_is c (drop one.g r) one.k one.token_is.is ∙ ap (λ z. (c, z)) (sym one.text))) in
     let behind : take (n - (one.g + one.k)) (remainder_of m.lexer) ≡ drop (one.g + one.k) (take n r) = ap (take (n - (one.g + one.k))) one.left ∙ sym (drop_cut n (one.g + one.k) r both_fit) in
     let rest_is : n - (one.g + one.k) - (q.lexer.end - m.lexer.end) ≡ n - (q.lexer.end - p.lexer.end) = omega (arith, a, b, l) in
-    let rest = tokens_front m q ts (n - (one.g + one.k)) more (omega (arith, a, b, l)) in (
+    let rest = tokens_prefix m q ts (n - (one.g + one.k)) more (omega (arith, a, b, l)) in (
       one.g,
       one.k,
-      gap_cut r one.g n g_fits one.gap_is,
+      whitespace_cut r one.g n g_fits one.whitespace_is,
       subst (λ z. IsLongestToken z one.k (lexeme_of t).0) (sym cut) (subst (λ z. IsLongestToken (take (n - one.g) (drop one.g r)) one.k z) (ap (λ (z : Lexeme). z.0) (sym lexeme)) (token_cut (drop one.g r) one.k (n - one.g) c k_fits one.token_is)),
       ap (λ (z : Lexeme). z.1) lexeme ∙ text_is,
-      subst (λ z. Front z (map lexeme_of ts) (take (n - (q.lexer.end - p.lexer.end)) (remainder_of q.lexer))) behind
-          (subst (λ z. Front (take (n - (one.g + one.k)) (remainder_of m.lexer)) (map lexeme_of ts) (take z (remainder_of q.lexer))) rest_is rest),
+      subst (λ z. Prefix z (map lexeme_of ts) (take (n - (q.lexer.end - p.lexer.end)) (remainder_of q.lexer))) behind
+          (subst (λ z. Prefix (take (n - (one.g + one.k)) (remainder_of m.lexer)) (map lexeme_of ts) (take z (remainder_of q.lexer))) rest_is rest),
     )

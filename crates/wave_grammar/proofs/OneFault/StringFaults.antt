@@ -8,7 +8,7 @@ use Rattle.wave_lex.proofs.StringDecoding.OneMeaning.{drops_once, ends_once, len
 use Rattle.wave_lex.proofs.MultilineStrings.Lines.{closing_last}
 use Rattle.wave_lex.proofs.StringDecoding.Faults.{bad_escape_refuses, bad_line, opens_well}
 
--- where one text begins two ways, the longer front goes on from the shorter
+-- where one text begins two ways, the longer prefix goes on from the shorter
 goes_on : (f g x y : List ℕ) → f ++ x ≡ g ++ y → length f < length g → (b : ℕ) × (m : List ℕ) × (g ≡ f ++ b ∷ m) × (x ≡ b ∷ (m ++ y))
 goes_on f [] x y e h = absurd (omega arith)
 goes_on [] (b ∷ g) x y e h = (b, g, refl, e)

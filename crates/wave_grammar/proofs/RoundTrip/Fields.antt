@@ -16,7 +16,7 @@ use Rattle.wave_lex.specs.Labels.{IsLabel}
 use Rattle.wave_grammar.specs.Token.{brace_open, brace_close, colon}
 use Rattle.wave_grammar.specs.CommaSeparated.{Spelling, Listed}
 use Rattle.wave_grammar.specs.TypedGrammar.{Named, EmptyBraces, look_up, IsOption, FieldIs, Fills}
-use Rattle.wave_grammar.proofs.RoundTrip.Cuts.{Writes, WritesField}
+use Rattle.wave_grammar.proofs.RoundTrip.Tokenizes.{Writes, WritesField}
 use Rattle.wave_wasm.proofs.Names.Subsequences.{same_bytes, unlike}
 use Rattle.wave_grammar.proofs.RoundTrip.Depth.{height, height_of_fields}
 use Rattle.wave_grammar.proofs.RoundTrip.Injective.{Prints, brace_open_cut, brace_close_cut, bare_colon_cut}
@@ -135,7 +135,7 @@ fields_print type.no_fields n no_fields labels h l = tt
 fields_print (type.field name T more) n (field other v others) labels (same, p, h) l =
     let rest : AllPrint (Named (WritesField more n)) (printed_fields others) (written_fields others) = fields_print more n others labels.1 h (omega arith) in
     let wider : AllPrint (Named (WritesField (type.field name T more) n)) (printed_fields others) (written_fields others) =
-    all_print (Named (WritesField more n)) (Named (WritesField (type.field name T more) n)) (λ tokens e behind k. let (text, front, f, g, i) = k in (text, front, f, g, inr i)) (printed_fields others) (written_fields others) rest in
+    all_print (Named (WritesField more n)) (Named (WritesField (type.field name T more) n)) (λ tokens e behind k. let (text, prefix, f, g, i) = k in (text, prefix, f, g, inr i)) (printed_fields others) (written_fields others) rest in
     by_test (is_no_option v) wider (λ low. p n low) l
   where
     by_test : (t : Bool) → AllPrint (Named (WritesField (type.field name T more) n)) (printed_fields others) (written_fields others)

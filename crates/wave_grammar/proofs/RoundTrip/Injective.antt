@@ -9,7 +9,7 @@ use Rattle.wave_lex.specs.declared.lex.Token.TheVariants as class
 use Rattle.wave_lex.specs.Regex.{Matches}
 use Rattle.wave_lex.specs.Tokens.{label_or_keyword}
 use Rattle.wave_lex.proofs.RegularShapes.LabelWords.{spelled_by_itself}
-use Rattle.wave_grammar.specs.Token.{Token, CutsInto, brace_open, brace_close, paren_open, paren_close, bracket_open, bracket_close, colon, comma, label}
+use Rattle.wave_grammar.specs.Token.{Token, TokenizesTo, brace_open, brace_close, paren_open, paren_close, bracket_open, bracket_close, colon, comma, label}
 use Rattle.wave_grammar.specs.CommaSeparated.{Spelling}
 use Rattle.wave_grammar.specs.TypedGrammar.{Reads}
 use Rattle.wave_grammar.specs.Tree.{Tree, Takes, levels}
@@ -21,41 +21,41 @@ use Rattle.wave_grammar.proofs.RoundTrip.Tokens.{Stops, mark_cut, space_cut, sto
 
 -- before the end or a mark, after which the tokens are known, the text has tokens that spell the item
 abbrev pub Prints : {A : Type 0} → Spelling A → List ℕ → A → Type 0
-Prints Item x a = (r : List ℕ) (rest : List Token) → Stops r → CutsInto r rest → (tokens : List Token) × CutsInto (x ++ r) tokens × Item tokens a rest
+Prints Item x a = (r : List ℕ) (rest : List Token) → Stops r → TokenizesTo r rest → (tokens : List Token) × TokenizesTo (x ++ r) tokens × Item tokens a rest
 
 -- before the end or a mark, after which the tokens are known, the text is this one token
 abbrev pub IsOneToken : List ℕ → Token → Type 0
-IsOneToken x token = (r : List ℕ) (rest : List Token) → Stops r → CutsInto r rest → CutsInto (x ++ r) (token ∷ rest)
+IsOneToken x token = (r : List ℕ) (rest : List Token) → Stops r → TokenizesTo r rest → TokenizesTo (x ++ r) (token ∷ rest)
 
 -- ---- marks
 
-pub brace_open_cut : (r : List ℕ) (rest : List Token) → CutsInto r rest → CutsInto (123 ∷ r) (brace_open ∷ rest)
+pub brace_open_cut : (r : List ℕ) (rest : List Token) → TokenizesTo r rest → TokenizesTo (123 ∷ r) (brace_open ∷ rest)
 brace_open_cut r rest cut = mark_cut class.BraceOpen 123 r _ refl (123, refl, refl) refl tt cut
 
-pub brace_close_cut : (r : List ℕ) (rest : List Token) → CutsInto r rest → CutsInto (125 ∷ r) (brace_close ∷ rest)
+pub brace_close_cut : (r : List ℕ) (rest : List Token) → TokenizesTo r rest → TokenizesTo (125 ∷ r) (brace_close ∷ rest)
 brace_close_cut r rest cut = mark_cut class.BraceClose 125 r _ refl (125, refl, refl) refl tt cut
 
-pub paren_open_cut : (r : List ℕ) (rest : List Token) → CutsInto r rest → CutsInto (40 ∷ r) (paren_open ∷ rest)
+pub paren_open_cut : (r : List ℕ) (rest : List Token) → TokenizesTo r rest → TokenizesTo (40 ∷ r) (paren_open ∷ rest)
 paren_open_cut r rest cut = mark_cut class.ParenOpen 40 r _ refl (40, refl, refl) refl tt cut
 
-pub paren_close_cut : (r : List ℕ) (rest : List Token) → CutsInto r rest → CutsInto (41 ∷ r) (paren_close ∷ rest)
+pub paren_close_cut : (r : List ℕ) (rest : List Token) → TokenizesTo r rest → TokenizesTo (41 ∷ r) (paren_close ∷ rest)
 paren_close_cut r rest cut = mark_cut class.ParenClose 41 r _ refl (41, refl, refl) refl tt cut
 
-pub bracket_open_cut : (r : List ℕ) (rest : List Token) → CutsInto r rest → CutsInto (91 ∷ r) (bracket_open ∷ rest)
+pub bracket_open_cut : (r : List ℕ) (rest : List Token) → TokenizesTo r rest → TokenizesTo (91 ∷ r) (bracket_open ∷ rest)
 bracket_open_cut r rest cut = mark_cut class.BracketOpen 91 r _ refl (91, refl, refl) refl tt cut
 
-pub bracket_close_cut : (r : List ℕ) (rest : List Token) → CutsInto r rest → CutsInto (93 ∷ r) (bracket_close ∷ rest)
+pub bracket_close_cut : (r : List ℕ) (rest : List Token) → TokenizesTo r rest → TokenizesTo (93 ∷ r) (bracket_close ∷ rest)
 bracket_close_cut r rest cut = mark_cut class.BracketClose 93 r _ refl (93, refl, refl) refl tt cut
 
 -- a colon or comma, and the space after it
-pub colon_cut : (r : List ℕ) (rest : List Token) → CutsInto r rest → CutsInto (58 ∷ 32 ∷ r) (colon ∷ rest)
+pub colon_cut : (r : List ℕ) (rest : List Token) → TokenizesTo r rest → TokenizesTo (58 ∷ 32 ∷ r) (colon ∷ rest)
 colon_cut r rest cut = mark_cut class.Colon 58 (32 ∷ r) _ refl (58, refl, refl) refl tt (space_cut r _ cut)
 
-pub comma_cut : (r : List ℕ) (rest : List Token) → CutsInto r rest → CutsInto (44 ∷ 32 ∷ r) (comma ∷ rest)
+pub comma_cut : (r : List ℕ) (rest : List Token) → TokenizesTo r rest → TokenizesTo (44 ∷ 32 ∷ r) (comma ∷ rest)
 comma_cut r rest cut = mark_cut class.Comma 44 (32 ∷ r) _ refl (44, refl, refl) refl tt (space_cut r _ cut)
 
 -- a colon with no space, as in `{:}`
-pub bare_colon_cut : (r : List ℕ) (rest : List Token) → CutsInto r rest → CutsInto (58 ∷ r) (colon ∷ rest)
+pub bare_colon_cut : (r : List ℕ) (rest : List Token) → TokenizesTo r rest → TokenizesTo (58 ∷ r) (colon ∷ rest)
 bare_colon_cut r rest cut = mark_cut class.Colon 58 r _ refl (58, refl, refl) refl tt cut
 
 -- a label
@@ -79,7 +79,7 @@ read_back T n v prints =
       record {
         tokens = tokens;
         tree = t;
-        cut = subst (λ (z : List ℕ). CutsInto z tokens) (append-nil (text v)) cut;
+        cut = subst (λ (z : List ℕ). TokenizesTo z tokens) (append-nil (text v)) cut;
         spelled = i;
         read = q;
       },

@@ -11,9 +11,9 @@ use Rattle.wave_wasm.specs.Text.{leaf_text}
 use Rattle.wave_lex.specs.declared.lex.Token.TheVariants as class
 use Rattle.wave_lex.specs.Tokens.{label_or_keyword}
 use Rattle.wave_lex.proofs.RegularShapes.Derivatives.{matches_from}
-use Rattle.wave_lex.proofs.Tokenization.OneCut.{cuts_once}
+use Rattle.wave_lex.proofs.Tokenization.OneTokenization.{cuts_once}
 use Rattle.wave_lex.proofs.LongestPrefix.ByComputing.{ascii_spelled}
-use Rattle.wave_grammar.specs.Token.{Token, CutsInto, lexeme_of, label, number, brace_open}
+use Rattle.wave_grammar.specs.Token.{Token, TokenizesTo, lexeme_of, label, number, brace_open}
 use Rattle.wave_grammar.specs.ParserPosition.{token_of}
 use Rattle.wave_grammar.specs.LeafTokens.{Spells}
 use Rattle.wave_grammar.specs.TypedGrammar.{Reads}
@@ -33,7 +33,7 @@ same_tokens [] = refl
 same_tokens (t ∷ ts) = λ i. same_token t i ∷ same_tokens ts i
 
 -- a text is tokenized into one list of tokens
-pub one_cut_into : (s : List ℕ) (ts us : List Token) → CutsInto s ts → CutsInto s us → ts ≡ us
+pub one_cut_into : (s : List ℕ) (ts us : List Token) → TokenizesTo s ts → TokenizesTo s us → ts ≡ us
 one_cut_into s ts us a b = sym (same_tokens ts) ∙ (ap (map (λ l. token_of l.0 l.1)) (cuts_once s (map lexeme_of ts) (map lexeme_of us) a b) ∙ same_tokens us)
 
 -- ---- one token

@@ -8,7 +8,7 @@ use Rattle.wave_grammar.specs.Token.{Token, bracket_close}
 use Rattle.wave_grammar.specs.CommaSeparated.{Spelling}
 use Rattle.wave_grammar.specs.TypedGrammar as r
 use Rattle.wave_grammar.proofs.Unambiguity.Values.{Agree, NeverBegins, Begins, IsStart, IsFlatStart, never-agree, provided-agree, list-agree, fixed-agree, tuple-agree, first-agree, then-agree, end-agree, payload-agree, bare-agree, simple-agree, enum-agree, variant-agree, record-agree, flags-agree, map-agree, option-agree, result-agree, one-none, spells-start, case_name-start, flat_is-start}
-use Rattle.wave_grammar.proofs.RoundTrip.Cuts.{EmptyTuple, Writes, WritesPayload, WritesTuple, WritesFurther, WritesField, WritesCase}
+use Rattle.wave_grammar.proofs.RoundTrip.Tokenizes.{EmptyTuple, Writes, WritesPayload, WritesTuple, WritesFurther, WritesField, WritesCase}
 
 -- ---- which token comes first
 
@@ -20,7 +20,7 @@ start (type.list E) n tokens v rest (l, (items, (inside, e, h), f)) = subst (Beg
 start (type.fixed E count) n tokens v rest (l, (items, (inside, e, h), long, f)) = subst (Begins IsStart) (sym e) tt
 start (type.record_type fs) n tokens v rest (l, (found, all, inl (e, f), d, k, g)) = subst (Begins IsStart) (sym e) tt
 start (type.record_type fs) n tokens v rest (l, (found, all, inr ((inside, e, h), m), d, k, g)) = subst (Begins IsStart) (sym e) tt
-start (type.tuple types) n tokens v rest (l, (items, front, e, h, f)) = subst (Begins IsStart) (sym e) tt
+start (type.tuple types) n tokens v rest (l, (items, prefix, e, h, f)) = subst (Begins IsStart) (sym e) tt
 start (type.variant cs) n tokens v rest (l, (name, payload, behind, h, k, e)) = flat_is-start tokens (case_name-start tokens name behind h)
 start (type.enum names) n tokens v rest (l, (name, h, k, e)) = flat_is-start tokens (case_name-start tokens name rest h)
 start (type.option P) n tokens v rest (l, inl (e, f)) = subst (Begins IsStart) (sym e) tt
@@ -42,12 +42,12 @@ empty-agree tokens a b r s (e, f) (g, h) = (cc, cc)
 -- an option, none of whose values stands for it
 plain_option-agree : (P Q : Spelling Value) (H K : Type 0) → Agree P Q → Agree (r.Provided H (r.AnOption P)) (r.Provided K (r.AnOption Q))
 plain_option-agree P Q H K agree tokens a b rest others p q =
-    option-agree P Q r.Never r.Never agree never-agree (λ front v behind h. absurd h) (λ front v behind h. absurd h) H K tokens a b rest others (inl p) (inl q)
+    option-agree P Q r.Never r.Never agree never-agree (λ prefix v behind h. absurd h) (λ prefix v behind h. absurd h) H K tokens a b rest others (inl p) (inl q)
 
 -- a result, none of whose values stands for it
 plain_result-agree : (P Q P' Q' : Spelling MaybeValue) (H K : Type 0) → Agree P Q → Agree P' Q' → Agree (r.Provided H (r.AResult P P')) (r.Provided K (r.AResult Q Q'))
 plain_result-agree P Q P' Q' H K one two tokens a b rest others p q =
-    result-agree P Q P' Q' r.Never r.Never one two never-agree (λ front v behind h. absurd h) (λ front v behind h. absurd h) H K tokens a b rest others (inl p) (inl q)
+    result-agree P Q P' Q' r.Never r.Never one two never-agree (λ prefix v behind h. absurd h) (λ prefix v behind h. absurd h) H K tokens a b rest others (inl p) (inl q)
 
 field-named : (fs : Fields) (n : ℕ) (name : List ℕ) (tokens : List Token) (w : Value) (rest : List Token) → WritesField fs n name tokens w rest → IsOneOf (field_names fs) name
 field-named type.no_fields n name tokens w rest h = absurd h

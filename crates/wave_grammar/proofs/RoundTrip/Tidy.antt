@@ -37,7 +37,7 @@ Gives {A} P Q = (tokens : List Token) (a : A) (rest : List Token) → P tokens a
 
 further_all : {A : Type 0} (close : Token) (P : Spelling A) (Q : A → Type 0) → Gives P Q → Gives (FurtherItems close P) (AllOf Q)
 further_all close P Q gives tokens [] rest h = tt
-further_all close P Q gives tokens (a ∷ items) rest (front, behind, e, p, h) = (gives front a behind p, further_all close P Q gives behind items rest h)
+further_all close P Q gives tokens (a ∷ items) rest (prefix, behind, e, p, h) = (gives prefix a behind p, further_all close P Q gives behind items rest h)
 
 items_all : {A : Type 0} (close : Token) (P : Spelling A) (Q : A → Type 0) → Gives P Q → Gives (Items close P) (AllOf Q)
 items_all close P Q gives tokens [] rest h = tt
@@ -76,8 +76,8 @@ fixed_tidy E count n P gives tokens v rest (some, (items, h, long, e)) =
     moved (type.fixed E count) n v (value.fixed (values items)) e (strictly (type.fixed E count) n (value.fixed (values items)) (ap value.fixed f) (omega arith))
 
 tuple_tidy : (Ts : Types) (n : ℕ) (P : Spelling (List Value)) → Gives P (AllOf (IsTidy (2 * (n - 1)))) → Gives (r.Provided (0 < n) (r.ATuple P)) (IsTidyAt (type.tuple Ts) n)
-tuple_tidy Ts n P gives tokens v rest (some, (items, front, e, h, f)) =
-    let (g, l) = tidy_items (2 * (n - 1)) items (gives front items rest h) in
+tuple_tidy Ts n P gives tokens v rest (some, (items, prefix, e, h, f)) =
+    let (g, l) = tidy_items (2 * (n - 1)) items (gives prefix items rest h) in
     moved (type.tuple Ts) n v (value.tuple (values items)) f (strictly (type.tuple Ts) n (value.tuple (values items)) (ap value.tuple g) (omega arith))
 
 -- what is found under a name
@@ -109,7 +109,7 @@ fields_tidy (type.field name T more) b found all h (v, others, is, fills, e) =
     subst (λ (z : FieldValues). (merged_fields z ≡ z) × (height_of_fields z ≤ b)) (sym e) (cc, omega arith)
 
 named_tidy : (b : ℕ) (P : List ℕ → Spelling Value) → ((name : List ℕ) → Gives (P name) (IsTidy b)) → Gives (r.Named P) (λ e. IsTidy b e.1)
-named_tidy b P gives tokens e rest (text, front, f, g, p) = gives e.0 front e.1 rest p
+named_tidy b P gives tokens e rest (text, prefix, f, g, p) = gives e.0 prefix e.1 rest p
 
 record_tidy : (fs : Fields) (n : ℕ) (P : List ℕ → Spelling Value) → ((name : List ℕ) → Gives (P name) (IsTidy (2 * (n - 1)))) → Gives (r.Provided (0 < n) (r.ARecord fs P)) (IsTidyAt (type.record_type fs) n)
 record_tidy fs n P gives tokens v rest (some, (found, all, braces, distinct, fills, e)) =
@@ -126,8 +126,8 @@ variant_tidy cs n P gives tokens v rest (some, (name, payload, behind, h, p, e))
     moved (type.variant cs) n v (value.variant name payload) e (strictly (type.variant cs) n (value.variant name payload) (ap (value.variant name) f) (omega arith))
 
 payload_tidy : (b : ℕ) (P : Spelling Value) → Gives P (IsTidy b) → Gives (r.Payload P) (IsTidyMaybe b)
-payload_tidy b P gives tokens payload rest (w, (front, e, p), f) =
-    let (g, l) = gives front w (paren_close ∷ rest) p in
+payload_tidy b P gives tokens payload rest (w, (prefix, e, p), f) =
+    let (g, l) = gives prefix w (paren_close ∷ rest) p in
     subst (λ (z : MaybeValue). IsTidyMaybe b z) (sym f) (ap a_value g, l)
 
 bare_tidy : (b : ℕ) → Gives r.Bare (IsTidyMaybe b)
@@ -136,8 +136,8 @@ bare_tidy b tokens payload rest (e, f) = subst (λ (z : MaybeValue). IsTidyMaybe
 option_tidy : (P : TypeTree) (n : ℕ) → Gives (Reads P (n - 1)) (IsTidy (2 * (n - 1))) → Gives (Reads P n) (IsTidyAt P n) → Gives (Reads (type.option P) n) (IsTidyAt (type.option P) n)
 option_tidy P n inner flat tokens v rest (inl (some, inl (e, f))) =
     moved (type.option P) n v (value.option no_value) f (strictly (type.option P) n (value.option no_value) refl (omega arith))
-option_tidy P n inner flat tokens v rest (inl (some, inr (w, (behind, e, (front, f, p)), g))) =
-    let (k, l) = inner front w (paren_close ∷ rest) p in
+option_tidy P n inner flat tokens v rest (inl (some, inr (w, (behind, e, (prefix, f, p)), g))) =
+    let (k, l) = inner prefix w (paren_close ∷ rest) p in
     moved (type.option P) n v (value.option (a_value w)) g (strictly (type.option P) n (value.option (a_value w)) (ap (λ (z : Value). value.option (a_value z)) k) (omega arith))
 option_tidy P n inner flat tokens v rest (inr (w, (is_flat, p), e)) =
     let (k, l, less) = flat tokens w rest p in
@@ -165,7 +165,7 @@ tidy_entries b (e ∷ es) h =
     (ap (λ (z : Value). (e.0, z) ∷ merged_entries (entries es)) h.0.1.0 ∙ ap (λ (z : List (Leaf × Value)). e ∷ z) f, omega arith)
 
 keyed_tidy : (K : Simple) (b : ℕ) (P : Spelling Value) → Gives P (IsTidy b) → Gives (r.Keyed K P) (λ e. Unit {0} × IsTidy b e.1)
-keyed_tidy K b P gives tokens e rest (token, front, f, k, p) = (tt, gives front e.1 rest p)
+keyed_tidy K b P gives tokens e rest (token, prefix, f, k, p) = (tt, gives prefix e.1 rest p)
 
 map_tidy : (K : Simple) (V : TypeTree) (n : ℕ) (P : Spelling Value) → Gives P (IsTidy (2 * (n - 1))) → Gives (r.Provided (0 < n) (r.AMap K P)) (IsTidyAt (type.map K V) n)
 map_tidy K V n P gives tokens v rest (some, (pairs, braces, e)) =
@@ -204,7 +204,7 @@ first_tidy : (b : ℕ) (P : Spelling Value) (Further : Spelling (List Value)) �
 first_tidy b P Further one others tokens items rest (w, more, behind, p, h, e) = subst (AllOf (IsTidy b)) (sym e) (one tokens w behind p, others behind more rest h)
 
 then_tidy : (b : ℕ) (P : Spelling Value) (Further : Spelling (List Value)) → Gives P (IsTidy b) → Gives Further (AllOf (IsTidy b)) → Gives (r.Then P Further) (AllOf (IsTidy b))
-then_tidy b P Further one others tokens items rest (front, f, h) = first_tidy b P Further one others front items rest h
+then_tidy b P Further one others tokens items rest (prefix, f, h) = first_tidy b P Further one others prefix items rest h
 
 end_tidy : (b : ℕ) → Gives r.End (AllOf (IsTidy b))
 end_tidy b tokens items rest (h, e) = subst (AllOf (IsTidy b)) (sym e) tt

@@ -32,8 +32,8 @@ Reading {A} P Q = (tokens : List Token) (a : A) (rest : List Token) → AreUtf8 
 further_typed : {A : Type 0} (close : Token) (P : Spelling A) (Q : A → Type 0) → Reading P Q → Reading (FurtherItems close P) (AllOf Q)
 further_typed close P Q reading tokens [] rest u (inl e) = (tt, (subst AreUtf8 e u).1)
 further_typed close P Q reading tokens [] rest u (inr e) = (tt, (subst AreUtf8 e u).1.1)
-further_typed close P Q reading tokens (a ∷ items) rest u (front, behind, e, p, h) =
-    let (q, v) = reading front a behind (subst AreUtf8 e u).1 p in
+further_typed close P Q reading tokens (a ∷ items) rest u (prefix, behind, e, p, h) =
+    let (q, v) = reading prefix a behind (subst AreUtf8 e u).1 p in
     let (all, w) = further_typed close P Q reading behind items rest v h in ((q, all), w)
 
 items_typed : {A : Type 0} (close : Token) (P : Spelling A) (Q : A → Type 0) → Reading P Q → Reading (Items close P) (AllOf Q)
@@ -62,8 +62,8 @@ fixed_typed E count n P reading tokens v rest u (some, (items, h, long, e)) =
     let (all, w) = listed_typed bracket_open bracket_close P (HasType E) reading tokens items rest u h in ((items, all, long, e), w)
 
 tuple_typed : (Ts : Types) (n : ℕ) (P : Spelling (List Value)) → Reading P (HasTypes Ts) → Reading (r.Provided (0 < n) (r.ATuple P)) (HasType (type.tuple Ts))
-tuple_typed Ts n P reading tokens v rest u (some, (items, front, e, h, f)) =
-    let (all, w) = reading front items rest (subst AreUtf8 e u).1 h in ((items, all, f), w)
+tuple_typed Ts n P reading tokens v rest u (some, (items, prefix, e, h, f)) =
+    let (all, w) = reading prefix items rest (subst AreUtf8 e u).1 h in ((items, all, f), w)
 
 first_typed : (T : TypeTree) (more : Types) (P : Spelling Value) (Further : Spelling (List Value)) → Reading P (HasType T) → Reading Further (HasTypes more) → Reading (r.First P Further) (HasTypes (type.type_and T more))
 first_typed T more P Further one others tokens items rest u (w, ws, behind, p, h, e) =
@@ -71,7 +71,7 @@ first_typed T more P Further one others tokens items rest u (w, ws, behind, p, h
     let (all, x) = others behind ws rest v h in ((w, ws, q, all, e), x)
 
 then_typed : (T : TypeTree) (more : Types) (P : Spelling Value) (Further : Spelling (List Value)) → Reading P (HasType T) → Reading Further (HasTypes more) → Reading (r.Then P Further) (HasTypes (type.type_and T more))
-then_typed T more P Further one others tokens items rest u (front, e, h) = first_typed T more P Further one others front items rest (subst AreUtf8 e u).1 h
+then_typed T more P Further one others tokens items rest u (prefix, e, h) = first_typed T more P Further one others prefix items rest (subst AreUtf8 e u).1 h
 
 end_typed : Reading r.End (HasTypes type.no_types)
 end_typed tokens items rest u (inl e, f) = (f, (subst AreUtf8 e u).1)
@@ -128,7 +128,7 @@ filled_typed (type.field name T more) found all d h (v, others, is, fills, e) =
     past other w one f = later other w one (h other w (inr one) f)
 
 named_typed : (fs : Fields) (P : List ℕ → Spelling Value) → ((name : List ℕ) → Reading (P name) (IsOfField fs name)) → Reading (r.Named P) (λ e. IsOfField fs e.0 e.1)
-named_typed fs P reading tokens e rest u (text, front, f, g, p) = reading e.0 front e.1 rest (subst AreUtf8 f u).1.1 p
+named_typed fs P reading tokens e rest u (text, prefix, f, g, p) = reading e.0 prefix e.1 rest (subst AreUtf8 f u).1.1 p
 
 record_typed : (fs : Fields) (n : ℕ) (P : List ℕ → Spelling Value) → AreDistinct (field_names fs) → ((name : List ℕ) → Reading (P name) (IsOfField fs name)) → Reading (r.Provided (0 < n) (r.ARecord fs P)) (HasType (type.record_type fs))
 record_typed fs n P distinct reading tokens v rest u (some, (found, all, braces, d, fills, e)) =
@@ -152,13 +152,13 @@ bare_typed : Reading r.Bare (HasPayload type.no_type)
 bare_typed tokens payload rest u (e, f) = (f, subst AreUtf8 e u)
 
 payload_typed : (T : TypeTree) (P : Spelling Value) → Reading P (HasType T) → Reading (r.Payload P) (HasPayload (type.a_type T))
-payload_typed T P reading tokens payload rest u (w, (front, e, p), f) =
-    let (h, v) = reading front w (paren_close ∷ rest) (subst AreUtf8 e u).1 p in ((w, h, f), v.1)
+payload_typed T P reading tokens payload rest u (w, (prefix, e, p), f) =
+    let (h, v) = reading prefix w (paren_close ∷ rest) (subst AreUtf8 e u).1 p in ((w, h, f), v.1)
 
 option_typed : (P : TypeTree) (n : ℕ) → Reading (Reads P (n - 1)) (HasType P) → Reading (Reads P n) (HasType P) → Reading (Reads (type.option P) n) (HasType (type.option P))
 option_typed P n inner flat tokens v rest u (inl (some, inl (e, f))) = (inl f, (subst AreUtf8 e u).1)
-option_typed P n inner flat tokens v rest u (inl (some, inr (w, (behind, e, (front, f, p)), g))) =
-    let (h, x) = inner front w (paren_close ∷ rest) (subst AreUtf8 f (subst AreUtf8 e u).1).1 p in (inr (w, h, g), x.1)
+option_typed P n inner flat tokens v rest u (inl (some, inr (w, (behind, e, (prefix, f, p)), g))) =
+    let (h, x) = inner prefix w (paren_close ∷ rest) (subst AreUtf8 f (subst AreUtf8 e u).1).1 p in (inr (w, h, g), x.1)
 option_typed P n inner flat tokens v rest u (inr (w, (is_flat, p), e)) = let (h, x) = flat tokens w rest u p in (inr (w, h, e), x)
 
 result_typed : (A B : MaybeType) (n : ℕ) → Reading (ReadsPayload A (n - 1)) (HasPayload A) → Reading (ReadsPayload B (n - 1)) (HasPayload B) → Reading (ReadsFlat A n) (λ w. HasPayload A (a_value w))
@@ -191,9 +191,9 @@ flags_typed names n tokens v rest u (some, (found, h, d, of, e)) =
     ((found_in found names, found_picked found names, e), (listed_typed brace_open brace_close r.Name (λ name. Unit {0}) name_typed tokens found rest u h).1)
 
 keyed_typed : (K : Simple) (V : TypeTree) (P : Spelling Value) → Reading P (HasType V) → Reading (r.Keyed K P) (λ e. IsLeafOf K e.0 × HasType V e.1)
-keyed_typed K V P reading tokens e rest u (token, front, f, k, p) =
+keyed_typed K V P reading tokens e rest u (token, prefix, f, k, p) =
     let w = subst AreUtf8 f u in
-    let (h, x) = reading front e.1 rest w.1.1 p in ((spelled_sound K token e.0 w.0 k, h), x)
+    let (h, x) = reading prefix e.1 rest w.1.1 p in ((spelled_sound K token e.0 w.0 k, h), x)
 
 map_typed : (K : Simple) (V : TypeTree) (n : ℕ) (P : Spelling Value) → Reading P (HasType V) → Reading (r.Provided (0 < n) (r.AMap K P)) (HasType (type.map K V))
 map_typed K V n P reading tokens v rest u (some, (pairs, braces, e)) =

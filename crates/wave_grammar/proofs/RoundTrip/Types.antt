@@ -16,7 +16,7 @@ use Rattle.wave_lex.specs.Labels.{IsLabel, HasLabels}
 use Rattle.wave_lex.specs.Tokens.{label_or_keyword}
 use Rattle.wave_lex.proofs.RegularShapes.Derivatives.{matches_from}
 use Rattle.wave_grammar.specs.TypedGrammar.{InParens, Keyed, Name, Named}
-use Rattle.wave_grammar.proofs.RoundTrip.Cuts.{Writes, WritesPayload, WritesCase, WritesField}
+use Rattle.wave_grammar.proofs.RoundTrip.Tokenizes.{Writes, WritesPayload, WritesCase, WritesField}
 use Rattle.wave_grammar.proofs.RoundTrip.Depth.{height, height_of_maybe, height_of_values, height_of_entries}
 use Rattle.wave_grammar.proofs.RoundTrip.Names.{case_token, merge_twice, merge_keeps}
 use Rattle.wave_wasm.proofs.Names.Subsequences.{picked_distinct, picked_of, picked_all, picked_found}
@@ -64,8 +64,8 @@ fixed_row E vs h n l r rest s cut =
 tuple_row : (Ts : Types) (vs : List Value) → ((n : ℕ) → height_of_values (merged_values (values vs)) ≤ n → TuplePrints Ts n (printed_items (merged_values (values vs))) (map merged vs))
     → IsPrinted (type.tuple Ts) (merged (value.tuple (values vs)))
 tuple_row Ts vs h n l r rest s cut =
-    let (front, c, i) = tuple_print Ts (n - 1) _ (map merged vs) (h (n - 1) (omega arith)) r rest cut in
-    (_, c, (omega arith, (map merged vs, front, refl, i, ap value.tuple (merged_map vs))))
+    let (prefix, c, i) = tuple_print Ts (n - 1) _ (map merged vs) (h (n - 1) (omega arith)) r rest cut in
+    (_, c, (omega arith, (map merged vs, prefix, refl, i, ap value.tuple (merged_map vs))))
 
 -- ---- records
 

@@ -14,23 +14,23 @@ use Rattle.wave_wasm.specs.Types as type
 use Rattle.wave_wasm.specs.Types.{Simple}
 use Rattle.wave_wasm.specs.Values.{Leaf}
 use Rattle.wave_wasm.specs.HasType.{IsLeafOf}
-use Rattle.wave_lex.specs.Tokenization.{Front, three_quotes}
-use Rattle.wave_lex.specs.Tokens.{shape, gap}
+use Rattle.wave_lex.specs.Tokenization.{Prefix, three_quotes}
+use Rattle.wave_lex.specs.Tokens.{shape, whitespace}
 use Rattle.wave_lex.specs.Strings.{IsEscape, short_escape, StringPiece, Decodes, StringMeans}
 use Rattle.wave_lex.specs.Multiline.{pieces, put_first, spaces, DropsReturn, LineMeans, LinesMean, in_lines, DecodesLines, MultilineMeans}
 use Rattle.wave_lex.proofs.StringDecoding.OneMeaning.{plain_into, escape_head, decodes_once}
 use Rattle.wave_lex.proofs.StringDecoding.Parts.{AllPlain}
 use Rattle.wave_lex.proofs.LongestPrefix.ByComputing.{is_ascii, ascii_spelled}
-use Rattle.wave_lex.proofs.LongestPrefix.MachineWalks.{front_boundary}
-use Rattle.wave_grammar.specs.Token.{Token, CutsInto, lexeme_of, text_of}
+use Rattle.wave_lex.proofs.LongestPrefix.MachineWalks.{prefix_boundary}
+use Rattle.wave_grammar.specs.Token.{Token, TokenizesTo, lexeme_of, text_of}
 use Rattle.wave_grammar.specs.LeafTokens.{Spells}
 use Rattle.wave_grammar.proofs.RoundTrip.Escapes.{all_plain, digits_ascii}
 
 -- ---- parts of a text
 
 -- the prefix of a text, where what follows is UTF-8
-pub front_utf8 : (x y : List ℕ) → IsUtf8 (x ++ y) → IsUtf8 y → IsUtf8 x
-front_utf8 x y u v = subst IsUtf8 (take-append_seam x y) (IsUtf8-take (x ++ y) (length x) u (IsCharBoundary-at_seam (x ++ y) x y refl v))
+pub prefix_utf8 : (x y : List ℕ) → IsUtf8 (x ++ y) → IsUtf8 y → IsUtf8 x
+prefix_utf8 x y u v = subst IsUtf8 (take-append_seam x y) (IsUtf8-take (x ++ y) (length x) u (IsCharBoundary-at_seam (x ++ y) x y refl v))
 
 -- what follows a prefix of ASCII
 pub ascii_off : (x y : List ℕ) → is_ascii x ≡ true → IsUtf8 (x ++ y) → IsUtf8 y
@@ -45,19 +45,19 @@ one_utf8 c s l = subst IsUtf8 (encode_ascii c l) (IsUtf8-encode c s)
 
 -- ---- the texts of tokens
 
-texts_of_front : (tokens : List Token) (s r : List ℕ) → IsUtf8 s → Front s (map lexeme_of tokens) r → AllOf (λ t. IsUtf8 (text_of t)) tokens
-texts_of_front [] s r u f = tt
-texts_of_front (t ∷ tokens) s r u (g, k, gap_is, long, text, front) =
-    let there : IsCharBoundary s g = front_boundary gap s g u gap_is.0 in
+texts_of_prefix : (tokens : List Token) (s r : List ℕ) → IsUtf8 s → Prefix s (map lexeme_of tokens) r → AllOf (λ t. IsUtf8 (text_of t)) tokens
+texts_of_prefix [] s r u f = tt
+texts_of_prefix (t ∷ tokens) s r u (g, k, whitespace_is, long, text, prefix) =
+    let there : IsCharBoundary s g = prefix_boundary whitespace s g u whitespace_is.0 in
     let v : IsUtf8 (drop g s) = IsUtf8-drop s g u there in
-    let end : IsCharBoundary (drop g s) k = front_boundary (shape (lexeme_of t).0) (drop g s) k v long.is.0 in (
+    let end : IsCharBoundary (drop g s) k = prefix_boundary (shape (lexeme_of t).0) (drop g s) k v long.is.0 in (
       subst IsUtf8 (sym text) (IsUtf8-take (drop g s) k v end),
-      texts_of_front tokens (drop (g + k) s) r (IsUtf8-drop s (g + k) u (IsCharBoundary-from_rest s g k there.0 end)) front,
+      texts_of_prefix tokens (drop (g + k) s) r (IsUtf8-drop s (g + k) u (IsCharBoundary-from_rest s g k there.0 end)) prefix,
     )
 
 -- each token of a text is UTF-8
-pub texts_utf8 : (s : List ℕ) (tokens : List Token) → IsUtf8 s → CutsInto s tokens → AllOf (λ t. IsUtf8 (text_of t)) tokens
-texts_utf8 s tokens u cut = texts_of_front tokens s cut.0 u cut.1
+pub texts_utf8 : (s : List ℕ) (tokens : List Token) → IsUtf8 s → TokenizesTo s tokens → AllOf (λ t. IsUtf8 (text_of t)) tokens
+texts_utf8 s tokens u cut = texts_of_prefix tokens s cut.0 u cut.1
 
 -- ---- decoding
 
@@ -188,7 +188,7 @@ line_utf8 k line t u (y, (x, e, drops), d) =
     decodes_utf8 y t (without drops v) d
   where
     without : DropsReturn x y → IsUtf8 x → IsUtf8 y
-    without (inl f) v = front_utf8 y (13 ∷ []) (subst IsUtf8 f v) (one_utf8 13 refl (ltb-true 13 128 refl))
+    without (inl f) v = prefix_utf8 y (13 ∷ []) (subst IsUtf8 f v) (one_utf8 13 refl (ltb-true 13 128 refl))
     without (inr f) v = subst IsUtf8 f.0 v
 
 lines_utf8 : (k : ℕ) (lines ts : List (List ℕ)) → AllOf IsUtf8 lines → LinesMean k lines ts → AllOf IsUtf8 ts
@@ -202,16 +202,16 @@ joined_utf8 (t ∷ []) h = h.0
 joined_utf8 (t ∷ u ∷ ts) h =
     IsUtf8-append t (10 ∷ in_lines (u ∷ ts)) h.0 (IsUtf8-append (10 ∷ []) (in_lines (u ∷ ts)) (one_utf8 10 refl (ltb-true 10 128 refl)) (joined_utf8 (u ∷ ts) h.1))
 
-fronts_all : {A : Type 0} (P : A → Type 0) (xs ys : List A) → AllOf P (xs ++ ys) → AllOf P xs
-fronts_all P [] ys h = tt
-fronts_all P (x ∷ xs) ys h = (h.0, fronts_all P xs ys h.1)
+prefixes_all : {A : Type 0} (P : A → Type 0) (xs ys : List A) → AllOf P (xs ++ ys) → AllOf P xs
+prefixes_all P [] ys h = tt
+prefixes_all P (x ∷ xs) ys h = (h.0, prefixes_all P xs ys h.1)
 
 decodes_lines_utf8 : (s t : List ℕ) → IsUtf8 s → DecodesLines s t → IsUtf8 t
 decodes_lines_utf8 s t (cs, (h, e)) d =
     let (p, ps, f, u, all) = pieces_utf8 cs h in
     let same : p ∷ ps ≡ d.first ∷ (d.between ++ spaces d.indent ∷ []) = sym f ∙ (ap pieces e ∙ d.cut) in
     let rest : ps ≡ d.between ++ spaces d.indent ∷ [] = cc in
-    let lines = fronts_all IsUtf8 d.between (spaces d.indent ∷ []) (subst (AllOf IsUtf8) rest all) in
+    let lines = prefixes_all IsUtf8 d.between (spaces d.indent ∷ []) (subst (AllOf IsUtf8) rest all) in
     subst IsUtf8 (sym d.joins) (joined_utf8 d.texts (lines_utf8 d.indent d.between d.texts lines d.lines))
 
 -- ---- values of one token
@@ -219,12 +219,12 @@ decodes_lines_utf8 s t (cs, (h, e)) d =
 string_utf8 : (token s : List ℕ) → IsUtf8 token → StringMeans token s → IsUtf8 s
 string_utf8 token s u (x, e, d) =
     let v : IsUtf8 (x ++ 34 ∷ []) = ascii_off (34 ∷ []) (x ++ 34 ∷ []) refl (subst IsUtf8 e u) in
-    decodes_utf8 x s (front_utf8 x (34 ∷ []) v (one_utf8 34 refl (ltb-true 34 128 refl))) d
+    decodes_utf8 x s (prefix_utf8 x (34 ∷ []) v (one_utf8 34 refl (ltb-true 34 128 refl))) d
 
 multiline_utf8 : (token s : List ℕ) → IsUtf8 token → MultilineMeans token s → IsUtf8 s
 multiline_utf8 token s u (x, e, d) =
     let v : IsUtf8 (x ++ three_quotes) = ascii_off three_quotes (x ++ three_quotes) refl (subst IsUtf8 e u) in
-    decodes_lines_utf8 x s (front_utf8 x three_quotes v (three_quotes, (refl, ascii_spelled three_quotes refl))) d
+    decodes_lines_utf8 x s (prefix_utf8 x three_quotes v (three_quotes, (refl, ascii_spelled three_quotes refl))) d
 
 -- a token of UTF-8 spells a sound value of its type
 pub spelled_sound : (S : Simple) (token : Token) (one : Leaf) → IsUtf8 (text_of token) → Spells S token one → IsLeafOf S one

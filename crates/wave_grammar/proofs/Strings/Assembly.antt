@@ -17,21 +17,21 @@ use Rattle.std.specs.declared.borrow.CowStr.{CowStr}
 use Rattle.std.specs.declared.borrow.CowStr.TheVariants.{Borrowed, Owned}
 
 -- one part more
-pub one_more : (first left next : LinesLeft) (front text longer : List ℕ) (p : StringPart) → CameSoFar first left front text → LinePartIs left (Some (Ok p)) next → longer ≡ text ++ part_text p → CameSoFar first next front longer
-one_more first left next front text longer p (parts, run, e) step grown = (
+pub one_more : (first left next : LinesLeft) (prefix text longer : List ℕ) (p : StringPart) → CameSoFar first left prefix text → LinePartIs left (Some (Ok p)) next → longer ≡ text ++ part_text p → CameSoFar first next prefix longer
+one_more first left next prefix text longer p (parts, run, e) step grown = (
   parts ++ p ∷ [],
   run_more first left next parts p run step,
-  grown ∙ (ap (λ (z : List ℕ). z ++ part_text p) e ∙ (append_assoc front (part_texts parts) (part_text p) ∙ ap (λ (z : List ℕ). front ++ z) (sym (texts_more parts p)))),
+  grown ∙ (ap (λ (z : List ℕ). z ++ part_text p) e ∙ (append_assoc prefix (part_texts parts) (part_text p) ∙ ap (λ (z : List ℕ). prefix ++ z) (sym (texts_more parts p)))),
 )
 
 -- all parts that come, before the end or a refusal
-pub followed_by : (first left : LinesLeft) (front text : List ℕ) (end : Option Diagnostic) → CameSoFar first left front text → LinesRunTo left [] end → (parts : List StringPart) × LinesRunTo first parts end × (text ≡ front ++ part_texts parts)
-followed_by first left front text None (parts, run, e) (next, step) = (parts, run_ended first left next parts run step, e)
-followed_by first left front text (Some f) (parts, run, e) (next, step) = (parts, run_refused first left next parts f run step, e)
+pub followed_by : (first left : LinesLeft) (prefix text : List ℕ) (end : Option Diagnostic) → CameSoFar first left prefix text → LinesRunTo left [] end → (parts : List StringPart) × LinesRunTo first parts end × (text ≡ prefix ++ part_texts parts)
+followed_by first left prefix text None (parts, run, e) (next, step) = (parts, run_ended first left next parts run step, e)
+followed_by first left prefix text (Some f) (parts, run, e) (next, step) = (parts, run_refused first left next parts f run step, e)
 
 -- the parts behind a text that begins empty
-pub copied_from : (first left : LinesLeft) (empty front text : List ℕ) (end : Option Diagnostic) → empty ≡ [] → CameSoFar first left (empty ++ front) text → LinesRunTo left [] end → (parts : List StringPart) × LinesRunTo first parts end × (text ≡ front ++ part_texts parts)
-copied_from first left empty front text end e so_far = followed_by first left front text end (subst (λ (z : List ℕ). CameSoFar first left (z ++ front) text) e so_far)
+pub copied_from : (first left : LinesLeft) (empty prefix text : List ℕ) (end : Option Diagnostic) → empty ≡ [] → CameSoFar first left (empty ++ prefix) text → LinesRunTo left [] end → (parts : List StringPart) × LinesRunTo first parts end × (text ≡ prefix ++ part_texts parts)
+copied_from first left empty prefix text end e so_far = followed_by first left prefix text end (subst (λ (z : List ℕ). CameSoFar first left (z ++ prefix) text) e so_far)
 
 -- ---- a part before the others
 
@@ -41,11 +41,11 @@ borrowed_so P Q (Borrowed s) to from h = from h
 borrowed_so P Q (Owned s) to from h = λ p. h (to p)
 
 -- a part before what is put together
-pub one_in_front : {A : Type 0} (P Q : Type 0) (front longer : List ℕ) (l m : LinesLeft) (p : StringPart) (place : Range ℕ) (r : Result (CowStr A) Diagnostic) → LinePartIs l (Some (Ok p)) m → longer ≡ front ++ part_text p → (P → Q) → (Q → P) → PutTogether Q longer m place r → PutTogether P front l place r
-one_in_front P Q front longer l m p place (Ok c) step e to from ((parts, run, text), borrowed) =
-    ((p ∷ parts, (m, step, run), text ∙ (ap (λ (z : List ℕ). z ++ part_texts parts) e ∙ append_assoc front (part_text p) (part_texts parts))), borrowed_so P Q c to from borrowed)
-one_in_front P Q front longer l m p place (Err e) step same to from (inl (parts, run)) = inl (p ∷ parts, (m, step, run))
-one_in_front P Q front longer l m p place (Err e) step same to from (inr (wants, never)) = inr (wants, λ h. never (to h))
+pub one_in_front : {A : Type 0} (P Q : Type 0) (prefix longer : List ℕ) (l m : LinesLeft) (p : StringPart) (place : Range ℕ) (r : Result (CowStr A) Diagnostic) → LinePartIs l (Some (Ok p)) m → longer ≡ prefix ++ part_text p → (P → Q) → (Q → P) → PutTogether Q longer m place r → PutTogether P prefix l place r
+one_in_front P Q prefix longer l m p place (Ok c) step e to from ((parts, run, text), borrowed) =
+    ((p ∷ parts, (m, step, run), text ∙ (ap (λ (z : List ℕ). z ++ part_texts parts) e ∙ append_assoc prefix (part_text p) (part_texts parts))), borrowed_so P Q c to from borrowed)
+one_in_front P Q prefix longer l m p place (Err e) step same to from (inl (parts, run)) = inl (p ∷ parts, (m, step, run))
+one_in_front P Q prefix longer l m p place (Err e) step same to from (inr (wants, never)) = inr (wants, λ h. never (to h))
 
 -- where nothing is left of a line no part of it comes
 none_in_line : (old new : Undecoded) (p : StringPart) → PartIs old (Some (Ok p)) new → old.rest ≡ [] → ⊥

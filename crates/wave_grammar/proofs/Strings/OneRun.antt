@@ -18,9 +18,9 @@ plain_append : (x y : List ℕ) → IsPlain x → IsPlain y → IsPlain (x ++ y)
 plain_append [] y h k = k
 plain_append (b ∷ x) y h k = (h.0, plain_append x y h.1 k)
 
-plain_front : (x y : List ℕ) → IsPlain (x ++ y) → IsPlain x
-plain_front [] y h = tt
-plain_front (b ∷ x) y h = (h.0, plain_front x y h.1)
+plain_prefix : (x y : List ℕ) → IsPlain (x ++ y) → IsPlain x
+plain_prefix [] y h = tt
+plain_prefix (b ∷ x) y h = (h.0, plain_prefix x y h.1)
 
 plain_behind : (x y : List ℕ) → IsPlain (x ++ y) → IsPlain y
 plain_behind [] y h = h
@@ -81,7 +81,7 @@ returned_plain x y (inl e) h = subst IsPlain (sym e) (plain_append y (13 ∷ [])
 returned_plain x y (inr (e, n)) h = subst IsPlain (sym e) h
 
 dropped_plain : (x y : List ℕ) → DropsReturn x y → IsPlain x → IsPlain y
-dropped_plain x y (inl e) h = plain_front y (13 ∷ []) (subst IsPlain e h)
+dropped_plain x y (inl e) h = plain_prefix y (13 ∷ []) (subst IsPlain e h)
 dropped_plain x y (inr (e, n)) h = subst IsPlain e h
 
 -- one run at the beginning is one run of all lines

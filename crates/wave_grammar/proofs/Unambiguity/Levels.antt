@@ -18,8 +18,8 @@ Fits m P Q = (tokens : List Token) (t : Tree) (rest : List Token) → levels t �
 -- further items
 items-within : (n : ℕ) (close : Token) (P : Spelling Tree) → Within n P → (tokens : List Token) (items : List Tree) (rest : List Token) → FurtherItems close P tokens items rest → levels_of_trees (trees items) ≤ n
 items-within n close P within tokens [] rest h = omega arith
-items-within n close P within tokens (t ∷ more) rest (front, behind, e, p, h) =
-    let one = within front t behind p in let all = items-within n close P within behind more rest h in omega arith
+items-within n close P within tokens (t ∷ more) rest (prefix, behind, e, p, h) =
+    let one = within prefix t behind p in let all = items-within n close P within behind more rest h in omega arith
 
 -- items
 pub all-within : (n : ℕ) (close : Token) (P : Spelling Tree) → Within n P → (tokens : List Token) (items : List Tree) (rest : List Token) → Items close P tokens items rest → levels_of_trees (trees items) ≤ n
@@ -30,7 +30,7 @@ all-within n close P within tokens (t ∷ more) rest (behind, p, h) =
 -- further entries
 keys-within : (n : ℕ) (close : Token) (P : Spelling Tree) → Within n P → (tokens : List Token) (es : List (Token × Tree)) (rest : List Token) → FurtherItems close (KeyAnd P) tokens es rest → levels_of_entries (tree_entries es) ≤ n
 keys-within n close P within tokens [] rest h = omega arith
-keys-within n close P within tokens (t ∷ more) rest (front, behind, e, (inside, f, k, p), h) =
+keys-within n close P within tokens (t ∷ more) rest (prefix, behind, e, (inside, f, k, p), h) =
     let one = within inside t.1 behind p in let all = keys-within n close P within behind more rest h in omega arith
 
 -- entries
@@ -42,14 +42,14 @@ entries-within n close P within tokens (t ∷ more) rest (behind, (inside, f, k,
 -- a payload, or none
 maybe-within : (n : ℕ) (P : Spelling Tree) → Within n P → (tokens : List Token) (payload : MaybeTree) (rest : List Token) → MaybeInParens P tokens payload rest → levels_of_maybe payload ≤ n
 maybe-within n P within tokens payload rest (inl (e, apart, f)) = let g : levels_of_maybe payload ≡ 0 = ap levels_of_maybe f in omega arith
-maybe-within n P within tokens payload rest (inr (t, (front, e, p), f)) =
-    let one = within front t (paren_close ∷ rest) p in let g : levels_of_maybe payload ≡ levels t = ap levels_of_maybe f in omega arith
+maybe-within n P within tokens payload rest (inr (t, (prefix, e, p), f)) =
+    let one = within prefix t (paren_close ∷ rest) p in let g : levels_of_maybe payload ≡ levels t = ap levels_of_maybe f in omega arith
 
 -- what stands after a label
 word-within : (n : ℕ) (w : Word) (text : List ℕ) (P : Spelling Tree) → Within n P → (tokens : List Token) (t : Tree) (rest : List Token) → BehindWord w text P tokens t rest → levels t ≤ n + 1
 word-within n leaf_word text P within tokens t rest (e, f) = let g = ap levels f in omega arith
 word-within n none_word text P within tokens t rest (e, f) = let g = ap levels f in omega arith
-word-within n some_word text P within tokens t rest (u, (front, e, p), f) = let one = within front u (paren_close ∷ rest) p in let g = ap levels f in omega arith
+word-within n some_word text P within tokens t rest (u, (prefix, e, p), f) = let one = within prefix u (paren_close ∷ rest) p in let g = ap levels f in omega arith
 word-within n ok_word text P within tokens t rest (u, p, f) = let one = maybe-within n P within tokens u rest p in let g = ap levels f in omega arith
 word-within n err_word text P within tokens t rest (u, p, f) = let one = maybe-within n P within tokens u rest p in let g = ap levels f in omega arith
 word-within n case_word text P within tokens t rest (u, p, f) = let one = maybe-within n P within tokens u rest p in let g = ap levels f in omega arith
@@ -57,12 +57,12 @@ word-within n case_word text P within tokens t rest (u, p, f) = let one = maybe-
 -- a tree over trees within n levels is within one more
 tree-within : (n : ℕ) (P : Spelling Tree) → Within n P → Within (n + 1) (ATree P)
 tree-within n P within [] t rest h = absurd h
-tree-within n P within (paren_open ∷ front) t rest (items, l, h, e) = let all = all-within n paren_close P within front items rest h in let g = ap levels e in omega arith
-tree-within n P within (bracket_open ∷ front) t rest (items, h, e) = let all = all-within n bracket_close P within front items rest h in let g = ap levels e in omega arith
-tree-within n P within (brace_open ∷ front) t rest (inl (e, f)) = let g = ap levels f in omega arith
-tree-within n P within (brace_open ∷ front) t rest (inr (inl (e, f))) = let g = ap levels f in omega arith
-tree-within n P within (brace_open ∷ front) t rest (inr (inr (inl (es, l, h, f)))) = let all = entries-within n brace_close P within front es rest h in let g = ap levels f in omega arith
-tree-within n P within (brace_open ∷ front) t rest (inr (inr (inr (texts, l, h, d, f)))) = let g = ap levels f in omega arith
+tree-within n P within (paren_open ∷ prefix) t rest (items, l, h, e) = let all = all-within n paren_close P within prefix items rest h in let g = ap levels e in omega arith
+tree-within n P within (bracket_open ∷ prefix) t rest (items, h, e) = let all = all-within n bracket_close P within prefix items rest h in let g = ap levels e in omega arith
+tree-within n P within (brace_open ∷ prefix) t rest (inl (e, f)) = let g = ap levels f in omega arith
+tree-within n P within (brace_open ∷ prefix) t rest (inr (inl (e, f))) = let g = ap levels f in omega arith
+tree-within n P within (brace_open ∷ prefix) t rest (inr (inr (inl (es, l, h, f)))) = let all = entries-within n brace_close P within prefix es rest h in let g = ap levels f in omega arith
+tree-within n P within (brace_open ∷ prefix) t rest (inr (inr (inr (texts, l, h, d, f)))) = let g = ap levels f in omega arith
 tree-within n P within (label text ∷ behind) t rest h = word-within n (word_of text) text P within behind t rest h
 tree-within n P within (number text ∷ behind) t rest (e, f) = let g = ap levels f in omega arith
 tree-within n P within (char text ∷ behind) t rest (e, f) = let g = ap levels f in omega arith
@@ -81,8 +81,8 @@ takes-levels (suc n) tokens t rest h = let k = tree-within n (Takes n) (takes-le
 further-fits : (m : ℕ) (close : Token) (P Q : Spelling Tree) → Fits m P Q → (tokens : List Token) (items : List Tree) (rest : List Token) → levels_of_trees (trees items) ≤ m →
     FurtherItems close P tokens items rest → FurtherItems close Q tokens items rest
 further-fits m close P Q fits tokens [] rest l h = h
-further-fits m close P Q fits tokens (t ∷ more) rest l (front, behind, e, p, h) =
-    (front, behind, e, fits front t behind (omega arith) p, further-fits m close P Q fits behind more rest (omega arith) h)
+further-fits m close P Q fits tokens (t ∷ more) rest l (prefix, behind, e, p, h) =
+    (prefix, behind, e, fits prefix t behind (omega arith) p, further-fits m close P Q fits behind more rest (omega arith) h)
 
 -- items
 items-fit : (m : ℕ) (close : Token) (P Q : Spelling Tree) → Fits m P Q → (tokens : List Token) (items : List Tree) (rest : List Token) → levels_of_trees (trees items) ≤ m →
@@ -94,8 +94,8 @@ items-fit m close P Q fits tokens (t ∷ more) rest l (behind, p, h) = (behind, 
 further-keys-fit : (m : ℕ) (close : Token) (P Q : Spelling Tree) → Fits m P Q → (tokens : List Token) (es : List (Token × Tree)) (rest : List Token) → levels_of_entries (tree_entries es) ≤ m →
     FurtherItems close (KeyAnd P) tokens es rest → FurtherItems close (KeyAnd Q) tokens es rest
 further-keys-fit m close P Q fits tokens [] rest l h = h
-further-keys-fit m close P Q fits tokens (t ∷ more) rest l (front, behind, e, (inside, f, k, p), h) =
-    (front, behind, e, (inside, f, k, fits inside t.1 behind (omega arith) p), further-keys-fit m close P Q fits behind more rest (omega arith) h)
+further-keys-fit m close P Q fits tokens (t ∷ more) rest l (prefix, behind, e, (inside, f, k, p), h) =
+    (prefix, behind, e, (inside, f, k, fits inside t.1 behind (omega arith) p), further-keys-fit m close P Q fits behind more rest (omega arith) h)
 
 -- entries
 keys-fit : (m : ℕ) (close : Token) (P Q : Spelling Tree) → Fits m P Q → (tokens : List Token) (es : List (Token × Tree)) (rest : List Token) → levels_of_entries (tree_entries es) ≤ m →
@@ -107,14 +107,14 @@ keys-fit m close P Q fits tokens (t ∷ more) rest l (behind, (inside, f, k, p),
 -- a payload, or none
 maybe-fits : (m : ℕ) (P Q : Spelling Tree) → Fits m P Q → (tokens : List Token) (payload : MaybeTree) (rest : List Token) → levels_of_maybe payload ≤ m → MaybeInParens P tokens payload rest → MaybeInParens Q tokens payload rest
 maybe-fits m P Q fits tokens payload rest l (inl h) = inl h
-maybe-fits m P Q fits tokens payload rest l (inr (t, (front, e, p), f)) =
-    let g : levels_of_maybe payload ≡ levels t = ap levels_of_maybe f in inr (t, (front, e, fits front t (paren_close ∷ rest) (omega arith) p), f)
+maybe-fits m P Q fits tokens payload rest l (inr (t, (prefix, e, p), f)) =
+    let g : levels_of_maybe payload ≡ levels t = ap levels_of_maybe f in inr (t, (prefix, e, fits prefix t (paren_close ∷ rest) (omega arith) p), f)
 
 -- what stands after a label
 word-fits : (m : ℕ) (w : Word) (text : List ℕ) (P Q : Spelling Tree) → Fits m P Q → (tokens : List Token) (t : Tree) (rest : List Token) → levels t ≤ m + 1 → BehindWord w text P tokens t rest → BehindWord w text Q tokens t rest
 word-fits m leaf_word text P Q fits tokens t rest l h = h
 word-fits m none_word text P Q fits tokens t rest l h = h
-word-fits m some_word text P Q fits tokens t rest l (u, (front, e, p), f) = let g = ap levels f in (u, (front, e, fits front u (paren_close ∷ rest) (omega arith) p), f)
+word-fits m some_word text P Q fits tokens t rest l (u, (prefix, e, p), f) = let g = ap levels f in (u, (prefix, e, fits prefix u (paren_close ∷ rest) (omega arith) p), f)
 word-fits m ok_word text P Q fits tokens t rest l (u, p, f) = let g = ap levels f in (u, maybe-fits m P Q fits tokens u rest (omega arith) p, f)
 word-fits m err_word text P Q fits tokens t rest l (u, p, f) = let g = ap levels f in (u, maybe-fits m P Q fits tokens u rest (omega arith) p, f)
 word-fits m case_word text P Q fits tokens t rest l (u, p, f) = let g = ap levels f in (u, maybe-fits m P Q fits tokens u rest (omega arith) p, f)
@@ -122,12 +122,12 @@ word-fits m case_word text P Q fits tokens t rest l (u, p, f) = let g = ap level
 -- a tree over trees that fit
 tree-fits : (m : ℕ) (P Q : Spelling Tree) → Fits m P Q → Fits (m + 1) (ATree P) (ATree Q)
 tree-fits m P Q fits [] t rest l h = absurd h
-tree-fits m P Q fits (paren_open ∷ front) t rest l (items, some, h, e) = let g = ap levels e in (items, some, items-fit m paren_close P Q fits front items rest (omega arith) h, e)
-tree-fits m P Q fits (bracket_open ∷ front) t rest l (items, h, e) = let g = ap levels e in (items, items-fit m bracket_close P Q fits front items rest (omega arith) h, e)
-tree-fits m P Q fits (brace_open ∷ front) t rest l (inl h) = inl h
-tree-fits m P Q fits (brace_open ∷ front) t rest l (inr (inl h)) = inr (inl h)
-tree-fits m P Q fits (brace_open ∷ front) t rest l (inr (inr (inl (es, some, h, f)))) = let g = ap levels f in inr (inr (inl (es, some, keys-fit m brace_close P Q fits front es rest (omega arith) h, f)))
-tree-fits m P Q fits (brace_open ∷ front) t rest l (inr (inr (inr h))) = inr (inr (inr h))
+tree-fits m P Q fits (paren_open ∷ prefix) t rest l (items, some, h, e) = let g = ap levels e in (items, some, items-fit m paren_close P Q fits prefix items rest (omega arith) h, e)
+tree-fits m P Q fits (bracket_open ∷ prefix) t rest l (items, h, e) = let g = ap levels e in (items, items-fit m bracket_close P Q fits prefix items rest (omega arith) h, e)
+tree-fits m P Q fits (brace_open ∷ prefix) t rest l (inl h) = inl h
+tree-fits m P Q fits (brace_open ∷ prefix) t rest l (inr (inl h)) = inr (inl h)
+tree-fits m P Q fits (brace_open ∷ prefix) t rest l (inr (inr (inl (es, some, h, f)))) = let g = ap levels f in inr (inr (inl (es, some, keys-fit m brace_close P Q fits prefix es rest (omega arith) h, f)))
+tree-fits m P Q fits (brace_open ∷ prefix) t rest l (inr (inr (inr h))) = inr (inr (inr h))
 tree-fits m P Q fits (label text ∷ behind) t rest l h = word-fits m (word_of text) text P Q fits behind t rest l h
 tree-fits m P Q fits (number text ∷ behind) t rest l h = h
 tree-fits m P Q fits (char text ∷ behind) t rest l h = h

@@ -8,29 +8,29 @@ use Rattle.wave_grammar.specs.CommaSeparated.{Spelling, Closes, FurtherItems, It
 use Rattle.wave_grammar.specs.TypedGrammar.{Behind, InParens, Named, Keyed, Name, CaseName, EmptyBraces, ASimple, AList, AFixedList, ATuple, ARecord, Flags, AMap, AVariant, AnEnum, AnOption, AResult, Stands, Bare, Payload, First, Then, End, Provided, Either, Never, Reads, ReadsPayload, ReadsFlat, ReadsTuple, ReadsFurther, ReadsField, ReadsCase}
 
 -- the tokens that it takes, and that it takes them before any rest
-abbrev pub Fronts : {A : Type 0} → Spelling A → List Token → A → List Token → Type 0
-Fronts P tokens a rest = (front : List Token) × (tokens ≡ front ++ rest) × ((x : List Token) → P (front ++ x) a x)
+abbrev pub Prefixes : {A : Type 0} → Spelling A → List Token → A → List Token → Type 0
+Prefixes P tokens a rest = (prefix : List Token) × (tokens ≡ prefix ++ rest) × ((x : List Token) → P (prefix ++ x) a x)
 
 -- each reading takes a prefix
 abbrev pub Framed : {A : Type 0} → Spelling A → Type 0
-Framed {A} P = (tokens : List Token) (a : A) (rest : List Token) → P tokens a rest → Fronts P tokens a rest
+Framed {A} P = (tokens : List Token) (a : A) (rest : List Token) → P tokens a rest → Prefixes P tokens a rest
 
 -- two spellings in a row
-in_row : {A B : Type 0} (P : Spelling A) (Q : Spelling B) (tokens middle rest : List Token) (a : A) (b : B) → Fronts P tokens a middle → Fronts Q middle b rest →
-    (front : List Token) × (tokens ≡ front ++ rest) × ((x : List Token) → (y : List Token) × P (front ++ x) a y × Q y b x)
+in_row : {A B : Type 0} (P : Spelling A) (Q : Spelling B) (tokens middle rest : List Token) (a : A) (b : B) → Prefixes P tokens a middle → Prefixes Q middle b rest →
+    (prefix : List Token) × (tokens ≡ prefix ++ rest) × ((x : List Token) → (y : List Token) × P (prefix ++ x) a y × Q y b x)
 in_row P Q tokens middle rest a b (f, e, p) (g, k, q) =
     (f ++ g, e ∙ ap (λ x. f ++ x) k ∙ sym (append_assoc f g rest), λ x. (g ++ x, subst (λ y. P y a (g ++ x)) (sym (append_assoc f g x)) (p (g ++ x)), q x))
 
 -- a close
-closes-framed : (close : Token) (tokens rest : List Token) → Closes close tokens rest → (front : List Token) × (tokens ≡ front ++ rest) × ((x : List Token) → Closes close (front ++ x) x)
+closes-framed : (close : Token) (tokens rest : List Token) → Closes close tokens rest → (prefix : List Token) × (tokens ≡ prefix ++ rest) × ((x : List Token) → Closes close (prefix ++ x) x)
 closes-framed close tokens rest (inl e) = (close ∷ [], e, λ x. inl refl)
 closes-framed close tokens rest (inr e) = (comma ∷ close ∷ [], e, λ x. inr refl)
 
 -- further items
 further-framed : {A : Type 0} (close : Token) (P : Spelling A) → Framed P → Framed (FurtherItems close P)
 further-framed close P framed tokens [] rest h = closes-framed close tokens rest h
-further-framed close P framed tokens (a ∷ more) rest (front, behind, e, p, h) =
-    let (f, k, q) = in_row P (FurtherItems close P) front behind rest a more (framed front a behind p) (further-framed close P framed behind more rest h) in
+further-framed close P framed tokens (a ∷ more) rest (prefix, behind, e, p, h) =
+    let (f, k, q) = in_row P (FurtherItems close P) prefix behind rest a more (framed prefix a behind p) (further-framed close P framed behind more rest h) in
     (comma ∷ f, e ∙ ap (λ x. comma ∷ x) k, λ x. let (y, one, all) = q x in (f ++ x, y, refl, one, all))
 
 -- items and their close
@@ -64,8 +64,8 @@ stands-framed around P framed tokens v rest (w, p, e) = let (f, k, q) = framed t
 
 -- what stands in parentheses
 parens-framed : {A : Type 0} (P : Spelling A) → Framed P → Framed (InParens P)
-parens-framed P framed tokens a rest (front, e, p) =
-    let (f, k, q) = framed front a (paren_close ∷ rest) p in (
+parens-framed P framed tokens a rest (prefix, e, p) =
+    let (f, k, q) = framed prefix a (paren_close ∷ rest) p in (
       paren_open ∷ (f ++ (paren_close ∷ [])),
       e ∙ ap (λ x. paren_open ∷ x) (k ∙ sym (append_assoc f (paren_close ∷ []) rest)),
       λ x. ((f ++ (paren_close ∷ [])) ++ x, refl, subst (λ y. P y a (paren_close ∷ x)) (sym (append_assoc f (paren_close ∷ []) x)) (q (paren_close ∷ x))),
@@ -98,8 +98,8 @@ fixed-framed count P framed tokens v rest (items, h, long, e) = let (f, k, q) = 
 
 -- a tuple
 tuple-framed : (P : Spelling (List Value)) → Framed P → Framed (ATuple P)
-tuple-framed P framed tokens v rest (items, front, e, h, g) =
-    let (f, k, q) = framed front items rest h in (paren_open ∷ f, e ∙ ap (λ x. paren_open ∷ x) k, λ x. (items, f ++ x, refl, q x, g))
+tuple-framed P framed tokens v rest (items, prefix, e, h, g) =
+    let (f, k, q) = framed prefix items rest h in (paren_open ∷ f, e ∙ ap (λ x. paren_open ∷ x) k, λ x. (items, f ++ x, refl, q x, g))
 
 -- the first value of a tuple and those after it
 first-framed : (P : Spelling Value) (F : Spelling (List Value)) → Framed P → Framed F → Framed (First P F)
@@ -109,8 +109,8 @@ first-framed P F one all tokens items rest (w, others, behind, p, h, e) =
 
 -- a further value of a tuple and those after it
 then-framed : (P : Spelling Value) (F : Spelling (List Value)) → Framed P → Framed F → Framed (Then P F)
-then-framed P F one all tokens items rest (front, e, h) =
-    let (f, k, q) = first-framed P F one all front items rest h in (comma ∷ f, e ∙ ap (λ x. comma ∷ x) k, λ x. (f ++ x, refl, q x))
+then-framed P F one all tokens items rest (prefix, e, h) =
+    let (f, k, q) = first-framed P F one all prefix items rest h in (comma ∷ f, e ∙ ap (λ x. comma ∷ x) k, λ x. (f ++ x, refl, q x))
 
 -- the end of a tuple
 end-framed : Framed End
@@ -118,13 +118,13 @@ end-framed tokens items rest (h, e) = let (f, k, q) = closes-framed paren_close 
 
 -- a name and what it is for
 named-framed : {A : Type 0} (P : List ℕ → Spelling A) → ((name : List ℕ) → Framed (P name)) → Framed (Named P)
-named-framed P framed tokens a rest (text, front, e, n, p) =
-    let (f, k, q) = framed a.0 front a.1 rest p in (label text ∷ colon ∷ f, e ∙ ap (λ x. label text ∷ colon ∷ x) k, λ x. (text, f ++ x, refl, n, q x))
+named-framed P framed tokens a rest (text, prefix, e, n, p) =
+    let (f, k, q) = framed a.0 prefix a.1 rest p in (label text ∷ colon ∷ f, e ∙ ap (λ x. label text ∷ colon ∷ x) k, λ x. (text, f ++ x, refl, n, q x))
 
 -- a key and its value
 keyed-framed : {A : Type 0} (K : Simple) (P : Spelling A) → Framed P → Framed (Keyed K P)
-keyed-framed K P framed tokens a rest (token, front, e, n, p) =
-    let (f, k, q) = framed front a.1 rest p in (token ∷ colon ∷ f, e ∙ ap (λ x. token ∷ colon ∷ x) k, λ x. (token, f ++ x, refl, n, q x))
+keyed-framed K P framed tokens a rest (token, prefix, e, n, p) =
+    let (f, k, q) = framed prefix a.1 rest p in (token ∷ colon ∷ f, e ∙ ap (λ x. token ∷ colon ∷ x) k, λ x. (token, f ++ x, refl, n, q x))
 
 -- a label
 name-framed : Framed Name

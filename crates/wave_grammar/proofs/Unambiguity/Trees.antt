@@ -9,16 +9,16 @@ use Rattle.wave_grammar.proofs.Unambiguity.Values.{Agree, NeverBegins, items-agr
 -- a payload, or none
 maybe-agree : (P Q : Spelling Tree) → Agree P Q → Agree (MaybeInParens P) (MaybeInParens Q)
 maybe-agree P Q agree tokens a b r s (inl (e, apart, f)) (inl (g, apart', k)) = (cc, cc)
-maybe-agree P Q agree tokens a b r s (inl (e, apart, f)) (inr (t, (front, g, q), k)) = absurd (apart front (sym e ∙ g))
-maybe-agree P Q agree tokens a b r s (inr (t, (front, g, q), k)) (inl (e, apart, f)) = absurd (apart front (sym e ∙ g))
+maybe-agree P Q agree tokens a b r s (inl (e, apart, f)) (inr (t, (prefix, g, q), k)) = absurd (apart prefix (sym e ∙ g))
+maybe-agree P Q agree tokens a b r s (inr (t, (prefix, g, q), k)) (inl (e, apart, f)) = absurd (apart prefix (sym e ∙ g))
 maybe-agree P Q agree tokens a b r s (inr (t, p, k)) (inr (u, q, l)) = let (e, f) = parens-agree P Q agree tokens t u r s p q in (cc, f)
 
 -- an entry
 key-agree : (P Q : Spelling Tree) → Agree P Q → Agree (KeyAnd P) (KeyAnd Q)
-key-agree P Q agree tokens a b r s (front, e, k, p) (front', e', k', q) =
-    let f : front' ≡ front = cc in
+key-agree P Q agree tokens a b r s (prefix, e, k, p) (prefix', e', k', q) =
+    let f : prefix' ≡ prefix = cc in
     let t : a.0 ≡ b.0 = cc in
-    let (u, v) = agree front a.1 b.1 r s p (subst (λ x. Q x b.1 s) f q) in (pair-path t u, v)
+    let (u, v) = agree prefix a.1 b.1 r s p (subst (λ x. Q x b.1 s) f q) in (pair-path t u, v)
 
 -- a label
 label-agree : Agree Label Label
@@ -35,22 +35,22 @@ word-agree case_word text P Q agree tokens a b r s (t, p, f) (u, q, g) = let (e,
 
 -- no entry begins with what is no key
 key-begins : (close : Token) → (IsKey close → ⊥) → (P : Spelling Tree) → NeverBegins close (KeyAnd P)
-key-begins close never P behind rest e (front, g, k, p) = let same : e.0 ≡ close = cc in never (subst IsKey same k)
+key-begins close never P behind rest e (prefix, g, k, p) = let same : e.0 ≡ close = cc in never (subst IsKey same k)
 
 -- entries begin with a key and a colon, flags with a label and no colon
 entries-not-flags : (P : Spelling Tree) (tokens : List Token) (es : List (Token × Tree)) (texts : List (List ℕ)) (r s : List Token) → 0 < length es → 0 < length texts →
     Items brace_close (KeyAnd P) tokens es r → Items brace_close Label tokens texts s → ⊥
 entries-not-flags P tokens [] texts r s l k h g = omega arith
 entries-not-flags P tokens (e ∷ es) [] r s l k h g = omega arith
-entries-not-flags P tokens (e ∷ es) (text ∷ []) r s l k (behind, (front, f, key, p), h) (behind', g, inl c) = cc
-entries-not-flags P tokens (e ∷ es) (text ∷ []) r s l k (behind, (front, f, key, p), h) (behind', g, inr c) = cc
-entries-not-flags P tokens (e ∷ es) (text ∷ other ∷ more) r s l k (behind, (front, f, key, p), h) (behind', g, (front', behind'', c, i, rest)) = cc
+entries-not-flags P tokens (e ∷ es) (text ∷ []) r s l k (behind, (prefix, f, key, p), h) (behind', g, inl c) = cc
+entries-not-flags P tokens (e ∷ es) (text ∷ []) r s l k (behind, (prefix, f, key, p), h) (behind', g, inr c) = cc
+entries-not-flags P tokens (e ∷ es) (text ∷ other ∷ more) r s l k (behind, (prefix, f, key, p), h) (behind', g, (prefix', behind'', c, i, rest)) = cc
 
 -- what stands first after an open brace
 entries-first : (P : Spelling Tree) (tokens : List Token) (es : List (Token × Tree)) (r : List Token) → 0 < length es → Items brace_close (KeyAnd P) tokens es r → (more : List Token) →
     (tokens ≡ brace_close ∷ more → ⊥) × (tokens ≡ colon ∷ more → ⊥)
 entries-first P tokens [] r l h more = absurd (omega arith)
-entries-first P tokens (e ∷ es) r l (behind, (front, f, key, p), h) more =
+entries-first P tokens (e ∷ es) r l (behind, (prefix, f, key, p), h) more =
     (λ g. let same : e.0 ≡ brace_close = cc in subst IsKey same key, λ g. let same : e.0 ≡ colon = cc in subst IsKey same key)
 
 -- flags begin with neither a close nor a colon
@@ -85,11 +85,11 @@ braces-agree P Q agree tokens a b r s (inr (inr (inr (texts, l, h, d, k)))) (inr
 -- a tree, where the trees in it agree
 tree-agree : (P Q : Spelling Tree) → NeverBegins paren_close P → NeverBegins paren_close Q → NeverBegins bracket_close P → NeverBegins bracket_close Q → Agree P Q → Agree (ATree P) (ATree Q)
 tree-agree P Q pp pq bp bq agree [] a b r s h k = absurd h
-tree-agree P Q pp pq bp bq agree (paren_open ∷ front) a b r s (items, l, h, e) (items', l', h', e') =
-    let (same, f) = items-agree paren_close P Q (λ x. cc) pp pq agree front items items' r s h h' in (e ∙ ap (λ x. tree.tuple (trees x)) same ∙ sym e', f)
-tree-agree P Q pp pq bp bq agree (bracket_open ∷ front) a b r s (items, h, e) (items', h', e') =
-    let (same, f) = items-agree bracket_close P Q (λ x. cc) bp bq agree front items items' r s h h' in (e ∙ ap (λ x. tree.list (trees x)) same ∙ sym e', f)
-tree-agree P Q pp pq bp bq agree (brace_open ∷ front) a b r s h k = braces-agree P Q agree front a b r s h k
+tree-agree P Q pp pq bp bq agree (paren_open ∷ prefix) a b r s (items, l, h, e) (items', l', h', e') =
+    let (same, f) = items-agree paren_close P Q (λ x. cc) pp pq agree prefix items items' r s h h' in (e ∙ ap (λ x. tree.tuple (trees x)) same ∙ sym e', f)
+tree-agree P Q pp pq bp bq agree (bracket_open ∷ prefix) a b r s (items, h, e) (items', h', e') =
+    let (same, f) = items-agree bracket_close P Q (λ x. cc) bp bq agree prefix items items' r s h h' in (e ∙ ap (λ x. tree.list (trees x)) same ∙ sym e', f)
+tree-agree P Q pp pq bp bq agree (brace_open ∷ prefix) a b r s h k = braces-agree P Q agree prefix a b r s h k
 tree-agree P Q pp pq bp bq agree (label text ∷ behind) a b r s h k = word-agree (word_of text) text P Q agree behind a b r s h k
 tree-agree P Q pp pq bp bq agree (number text ∷ behind) a b r s (e, f) (g, h) = (cc, cc)
 tree-agree P Q pp pq bp bq agree (char text ∷ behind) a b r s (e, f) (g, h) = (cc, cc)

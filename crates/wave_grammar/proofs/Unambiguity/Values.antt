@@ -37,15 +37,15 @@ further-agree close P Q apart np nq agree tokens [] [] r s (inl h) (inl k) = (re
 further-agree close P Q apart np nq agree tokens [] [] r s (inl h) (inr k) = absurd (apart cc)
 further-agree close P Q apart np nq agree tokens [] [] r s (inr h) (inl k) = absurd (apart cc)
 further-agree close P Q apart np nq agree tokens [] [] r s (inr h) (inr k) = (refl, cc)
-further-agree close P Q apart np nq agree tokens [] (b ∷ more) r s (inl h) (front, behind, e, q, rest) = absurd (apart cc)
-further-agree close P Q apart np nq agree tokens [] (b ∷ more) r s (inr h) (front, behind, e, q, rest) =
-    let f : front ≡ close ∷ r = cc in absurd (nq r behind b (subst (λ x. Q x b behind) f q))
-further-agree close P Q apart np nq agree tokens (a ∷ more) [] r s (front, behind, e, p, rest) (inl h) = absurd (apart cc)
-further-agree close P Q apart np nq agree tokens (a ∷ more) [] r s (front, behind, e, p, rest) (inr h) =
-    let f : front ≡ close ∷ s = cc in absurd (np s behind a (subst (λ x. P x a behind) f p))
-further-agree close P Q apart np nq agree tokens (a ∷ more) (b ∷ others) r s (front, behind, e, p, rest) (front', behind', e', q, rest') =
-    let f : front' ≡ front = cc in
-    let one = agree front a b behind behind' p (subst (λ x. Q x b behind') f q) in
+further-agree close P Q apart np nq agree tokens [] (b ∷ more) r s (inl h) (prefix, behind, e, q, rest) = absurd (apart cc)
+further-agree close P Q apart np nq agree tokens [] (b ∷ more) r s (inr h) (prefix, behind, e, q, rest) =
+    let f : prefix ≡ close ∷ r = cc in absurd (nq r behind b (subst (λ x. Q x b behind) f q))
+further-agree close P Q apart np nq agree tokens (a ∷ more) [] r s (prefix, behind, e, p, rest) (inl h) = absurd (apart cc)
+further-agree close P Q apart np nq agree tokens (a ∷ more) [] r s (prefix, behind, e, p, rest) (inr h) =
+    let f : prefix ≡ close ∷ s = cc in absurd (np s behind a (subst (λ x. P x a behind) f p))
+further-agree close P Q apart np nq agree tokens (a ∷ more) (b ∷ others) r s (prefix, behind, e, p, rest) (prefix', behind', e', q, rest') =
+    let f : prefix' ≡ prefix = cc in
+    let one = agree prefix a b behind behind' p (subst (λ x. Q x b behind') f q) in
     let all = further-agree close P Q apart np nq agree behind more others r s rest (subst (λ x. FurtherItems close Q x others s) (sym one.1) rest') in
     (cc, all.1)
 
@@ -78,9 +78,9 @@ never-agree tokens a b r s p q = absurd p
 
 -- what stands in parentheses
 pub parens-agree : {A : Type 0} (P Q : Spelling A) → Agree P Q → Agree (InParens P) (InParens Q)
-parens-agree P Q agree tokens a b r s (front, e, p) (front', e', q) =
-    let f : front' ≡ front = cc in
-    let one = agree front a b (paren_close ∷ r) (paren_close ∷ s) p (subst (λ x. Q x b (paren_close ∷ s)) f q) in
+parens-agree P Q agree tokens a b r s (prefix, e, p) (prefix', e', q) =
+    let f : prefix' ≡ prefix = cc in
+    let one = agree prefix a b (paren_close ∷ r) (paren_close ∷ s) p (subst (λ x. Q x b (paren_close ∷ s)) f q) in
     (one.0, cc)
 
 -- no payload
@@ -120,15 +120,15 @@ first-agree P Q F G agree further tokens a b r s (w, others, behind, p, f, e) (w
 
 -- a further value of a tuple and those after it
 pub then-agree : (P Q : Spelling Value) (F G : Spelling (List Value)) → Agree P Q → Agree F G → Agree (Then P F) (Then Q G)
-then-agree P Q F G agree further tokens a b r s (front, e, h) (front', e', k) =
-    let f : front' ≡ front = cc in
-    first-agree P Q F G agree further front a b r s h (subst (λ x. First Q G x b s) f k)
+then-agree P Q F G agree further tokens a b r s (prefix, e, h) (prefix', e', k) =
+    let f : prefix' ≡ prefix = cc in
+    first-agree P Q F G agree further prefix a b r s h (subst (λ x. First Q G x b s) f k)
 
 -- a tuple
 pub tuple-agree : (F G : Spelling (List Value)) → Agree F G → Agree (ATuple F) (ATuple G)
-tuple-agree F G agree tokens a b r s (items, front, e, h, i) (items', front', e', k, i') =
-    let f : front' ≡ front = cc in
-    let one = agree front items items' r s h (subst (λ x. G x items' s) f k) in
+tuple-agree F G agree tokens a b r s (items, prefix, e, h, i) (items', prefix', e', k, i') =
+    let f : prefix' ≡ prefix = cc in
+    let one = agree prefix items items' r s h (subst (λ x. G x items' s) f k) in
     (i ∙ ap (λ x. value.tuple (values x)) one.0 ∙ sym i', one.1)
 
 -- two pairs are one where their parts are
@@ -137,11 +137,11 @@ pair-path e f = λ i. (e i, f i)
 
 -- a name and what it is for
 named-agree : {A : Type 0} (P Q : List ℕ → Spelling A) → ((name : List ℕ) → Agree (P name) (Q name)) → Agree (Named P) (Named Q)
-named-agree P Q agree tokens a b r s (text, front, e, n, p) (text', front', e', n', q) =
-    let f : front' ≡ front = cc in
+named-agree P Q agree tokens a b r s (text, prefix, e, n, p) (text', prefix', e', n', q) =
+    let f : prefix' ≡ prefix = cc in
     let t : text' ≡ text = cc in
     let name : b.0 ≡ a.0 = sym n' ∙ ap name_of t ∙ n in
-    let one = agree a.0 front a.1 b.1 r s p (subst (λ x. Q a.0 x b.1 s) f (subst (λ x. Q x front' b.1 s) name q)) in
+    let one = agree a.0 prefix a.1 b.1 r s p (subst (λ x. Q a.0 x b.1 s) f (subst (λ x. Q x prefix' b.1 s) name q)) in
     (pair-path (sym name) one.0, one.1)
 
 -- ---- one token
@@ -184,11 +184,11 @@ simple-agree S tokens a b r s (token, x, e, h, f) (token', y, e', k, f') =
 
 -- a key and its value
 keyed-agree : {A : Type 0} (K : Simple) (P Q : Spelling A) → Agree P Q → Agree (Keyed K P) (Keyed K Q)
-keyed-agree K P Q agree tokens a b r s (token, front, e, k, p) (token', front', e', k', q) =
+keyed-agree K P Q agree tokens a b r s (token, prefix, e, k, p) (token', prefix', e', k', q) =
     let t : token' ≡ token = cc in
-    let f : front' ≡ front = cc in
+    let f : prefix' ≡ prefix = cc in
     let key = spells-agree K token a.0 b.0 k (subst (λ t. Spells K t b.0) t k') in
-    let one = agree front a.1 b.1 r s p (subst (λ x. Q x b.1 s) f q) in
+    let one = agree prefix a.1 b.1 r s p (subst (λ x. Q x b.1 s) f q) in
     (pair-path key one.0, one.1)
 
 -- a label
@@ -232,8 +232,8 @@ IsFlatStart token = IsStart token
 
 -- the first token is such a one
 abbrev pub Begins : (Token → Type 0) → List Token → Type 0
-Begins Good [] = ⊥
-Begins Good (token ∷ more) = Good token
+Begins HasDistinctLabels [] = ⊥
+Begins HasDistinctLabels (token ∷ more) = HasDistinctLabels token
 
 -- the text of a bool is no word of an option or a result
 bool-start : (b : Bool) → IsNoneOf around (bool_text b)
@@ -260,7 +260,7 @@ flat-start (type.list E) n flat tokens v rest (le, (items, (inside, e, h), f)) =
 flat-start (type.fixed E count) n flat tokens v rest (le, (items, (inside, e, h), long, f)) = subst (Begins IsFlatStart) (sym e) tt
 flat-start (type.record_type fs) n flat tokens v rest (le, (found, all, inl (e, f), d, k, g)) = subst (Begins IsFlatStart) (sym e) tt
 flat-start (type.record_type fs) n flat tokens v rest (le, (found, all, inr ((inside, e, h), l), d, k, g)) = subst (Begins IsFlatStart) (sym e) tt
-flat-start (type.tuple types) n flat tokens v rest (le, (items, front, e, h, f)) = subst (Begins IsFlatStart) (sym e) tt
+flat-start (type.tuple types) n flat tokens v rest (le, (items, prefix, e, h, f)) = subst (Begins IsFlatStart) (sym e) tt
 flat-start (type.variant cases) n flat tokens v rest (le, (name, payload, behind, h, k, e)) = case_name-start tokens name behind h
 flat-start (type.enum names) n flat tokens v rest (le, (name, h, k, e)) = case_name-start tokens name rest h
 flat-start (type.option P) n flat tokens v rest h = absurd flat
@@ -273,7 +273,7 @@ flat-start (type.map K V) n flat tokens v rest (le, (pairs, inr (inside, e, h), 
 
 -- what has a name begins with no close
 named-begins : {A : Type 0} (P : List ℕ → Spelling A) → NeverBegins brace_close (Named P)
-named-begins P behind rest a (text, front, e, n, p) = cc
+named-begins P behind rest a (text, prefix, e, n, p) = cc
 
 -- so does a label
 name-begins : NeverBegins brace_close Name
@@ -281,7 +281,7 @@ name-begins behind rest a (text, e, n) = cc
 
 -- so does what has a key
 keyed-begins : {A : Type 0} (K : Simple) (P : Spelling A) → NeverBegins brace_close (Keyed K P)
-keyed-begins K P behind rest a (token, front, e, k, p) =
+keyed-begins K P behind rest a (token, prefix, e, k, p) =
     let t : token ≡ brace_close = cc in subst IsFlatStart t (spells-start K token a.0 k)
 
 -- what braces hold is not a lone colon
@@ -314,7 +314,7 @@ fills-agree (field name T more) found a b (v, others, f, h, e) (v', others', f',
 
 -- what has a name begins with no colon
 named-colon : {A : Type 0} (P : List ℕ → Spelling A) → NeverBegins colon (Named P)
-named-colon P behind rest a (text, front, e, n, p) = cc
+named-colon P behind rest a (text, prefix, e, n, p) = cc
 
 -- a record
 pub record-agree : (fields : Fields) (P Q : List ℕ → Spelling Value) → ((name : List ℕ) → Agree (P name) (Q name)) → Agree (ARecord fields P) (ARecord fields Q)
@@ -339,7 +339,7 @@ flags-agree names tokens a b r s (found, h, d, k, e) (found', h', d', k', e') =
 
 -- what has a key begins with no colon
 keyed-colon : {A : Type 0} (K : Simple) (P : Spelling A) → NeverBegins colon (Keyed K P)
-keyed-colon K P behind rest a (token, front, e, k, p) =
+keyed-colon K P behind rest a (token, prefix, e, k, p) =
     let t : token ≡ colon = cc in subst IsFlatStart t (spells-start K token a.0 k)
 
 -- a map
@@ -464,51 +464,51 @@ flat-starts (a_type T) n tokens v rest h = flat-start T n h.0 tokens v rest h.1
 mutual
   -- two readings of a type agree
   pub unique : (T : TypeTree) → HasDistinctNames T → (n m : ℕ) → Agree (Reads T n) (Reads T m)
-  unique (type.simple S) good n m = provided-agree _ _ _ _ (simple-agree S)
-  unique (type.unreadable kind) good n m = never-agree
-  unique (type.list E) good n m = provided-agree _ _ _ _ (list-agree _ _ (never-begins E _) (never-begins E _) (unique E good (n - 1) (m - 1)))
-  unique (type.fixed E count) good n m = provided-agree _ _ _ _ (fixed-agree count _ _ (never-begins E _) (never-begins E _) (unique E good (n - 1) (m - 1)))
-  unique (type.record_type fs) good n m = provided-agree _ _ _ _ (record-agree fs _ _ (λ name. unique-field fs good.0 good.1 (n - 1) (m - 1) name))
-  unique (type.tuple types) good n m = provided-agree _ _ _ _ (tuple-agree _ _ (unique-tuple types good (n - 1) (m - 1)))
-  unique (type.variant cases) good n m = provided-agree _ _ _ _ (variant-agree _ _ (λ name. unique-case cases good.0 good.1 (n - 1) (m - 1) name))
-  unique (type.enum names) good n m = provided-agree _ _ _ _ (enum-agree names)
-  unique (type.option P) good n m = option-agree _ _ _ _ (unique P good (n - 1) (m - 1)) (provided-agree _ _ _ _ (unique P good n m)) (λ ts v r h. flat-start P n h.0 ts v r h.1) (λ ts v r h. flat-start P m h.0 ts v r h.1) _ _
-  unique (type.result A B) good n m = result-agree _ _ _ _ _ _ (unique-payload A good.0 (n - 1) (m - 1)) (unique-payload B good.1 (n - 1) (m - 1)) (unique-flat A good.0 n m) (flat-starts A n) (flat-starts A m) _ _
-  unique (type.flags names) good n m = provided-agree _ _ _ _ (flags-agree names)
-  unique (type.map K V) good n m = provided-agree _ _ _ _ (map-agree K _ _ (unique V good (n - 1) (m - 1)))
+  unique (type.simple S) labelled n m = provided-agree _ _ _ _ (simple-agree S)
+  unique (type.unreadable kind) labelled n m = never-agree
+  unique (type.list E) labelled n m = provided-agree _ _ _ _ (list-agree _ _ (never-begins E _) (never-begins E _) (unique E labelled (n - 1) (m - 1)))
+  unique (type.fixed E count) labelled n m = provided-agree _ _ _ _ (fixed-agree count _ _ (never-begins E _) (never-begins E _) (unique E labelled (n - 1) (m - 1)))
+  unique (type.record_type fs) labelled n m = provided-agree _ _ _ _ (record-agree fs _ _ (λ name. unique-field fs labelled.0 labelled.1 (n - 1) (m - 1) name))
+  unique (type.tuple types) labelled n m = provided-agree _ _ _ _ (tuple-agree _ _ (unique-tuple types labelled (n - 1) (m - 1)))
+  unique (type.variant cases) labelled n m = provided-agree _ _ _ _ (variant-agree _ _ (λ name. unique-case cases labelled.0 labelled.1 (n - 1) (m - 1) name))
+  unique (type.enum names) labelled n m = provided-agree _ _ _ _ (enum-agree names)
+  unique (type.option P) labelled n m = option-agree _ _ _ _ (unique P labelled (n - 1) (m - 1)) (provided-agree _ _ _ _ (unique P labelled n m)) (λ ts v r h. flat-start P n h.0 ts v r h.1) (λ ts v r h. flat-start P m h.0 ts v r h.1) _ _
+  unique (type.result A B) labelled n m = result-agree _ _ _ _ _ _ (unique-payload A labelled.0 (n - 1) (m - 1)) (unique-payload B labelled.1 (n - 1) (m - 1)) (unique-flat A labelled.0 n m) (flat-starts A n) (flat-starts A m) _ _
+  unique (type.flags names) labelled n m = provided-agree _ _ _ _ (flags-agree names)
+  unique (type.map K V) labelled n m = provided-agree _ _ _ _ (map-agree K _ _ (unique V labelled (n - 1) (m - 1)))
 
   -- of a payload
   pub unique-payload : (T : MaybeType) → EachNamesOfMaybe AreDistinct T → (n m : ℕ) → Agree (ReadsPayload T n) (ReadsPayload T m)
-  unique-payload no_type good n m = bare-agree
-  unique-payload (a_type T) good n m = payload-agree _ _ (unique T good n m)
+  unique-payload no_type labelled n m = bare-agree
+  unique-payload (a_type T) labelled n m = payload-agree _ _ (unique T labelled n m)
 
   -- of a value that stands for `ok` of itself
   pub unique-flat : (T : MaybeType) → EachNamesOfMaybe AreDistinct T → (n m : ℕ) → Agree (ReadsFlat T n) (ReadsFlat T m)
-  unique-flat no_type good n m = never-agree
-  unique-flat (a_type T) good n m = provided-agree _ _ _ _ (unique T good n m)
+  unique-flat no_type labelled n m = never-agree
+  unique-flat (a_type T) labelled n m = provided-agree _ _ _ _ (unique T labelled n m)
 
   -- of the values of a tuple
   pub unique-tuple : (types : Types) → EachNamesOfTypes AreDistinct types → (n m : ℕ) → Agree (ReadsTuple types n) (ReadsTuple types m)
-  unique-tuple no_types good n m = never-agree
-  unique-tuple (type_and T more) good n m = first-agree _ _ _ _ (unique T good.0 n m) (unique-further more good.1 n m)
+  unique-tuple no_types labelled n m = never-agree
+  unique-tuple (type_and T more) labelled n m = first-agree _ _ _ _ (unique T labelled.0 n m) (unique-further more labelled.1 n m)
 
   -- of the further values of a tuple
   pub unique-further : (types : Types) → EachNamesOfTypes AreDistinct types → (n m : ℕ) → Agree (ReadsFurther types n) (ReadsFurther types m)
-  unique-further no_types good n m = end-agree
-  unique-further (type_and T more) good n m = then-agree _ _ _ _ (unique T good.0 n m) (unique-further more good.1 n m)
+  unique-further no_types labelled n m = end-agree
+  unique-further (type_and T more) labelled n m = then-agree _ _ _ _ (unique T labelled.0 n m) (unique-further more labelled.1 n m)
 
   -- of a field of some name
   pub unique-field : (fs : Fields) → AreDistinct (field_names fs) → EachNamesOfFields AreDistinct fs → (n m : ℕ) (name : List ℕ) → Agree (ReadsField fs n name) (ReadsField fs m name)
-  unique-field no_fields distinct good n m name tokens a b r s h k = absurd h
-  unique-field (field other T more) distinct good n m name tokens a b r s (inl h) (inl k) = unique T good.0 n m tokens a b r s h.1 k.1
-  unique-field (field other T more) distinct good n m name tokens a b r s (inl h) (inr k) = absurd (one-none (field_names more) other (subst (IsOneOf (field_names more)) h.0 (field-named more m name tokens b s k)) distinct.0)
-  unique-field (field other T more) distinct good n m name tokens a b r s (inr h) (inl k) = absurd (one-none (field_names more) other (subst (IsOneOf (field_names more)) k.0 (field-named more n name tokens a r h)) distinct.0)
-  unique-field (field other T more) distinct good n m name tokens a b r s (inr h) (inr k) = unique-field more distinct.1 good.1 n m name tokens a b r s h k
+  unique-field no_fields distinct labelled n m name tokens a b r s h k = absurd h
+  unique-field (field other T more) distinct labelled n m name tokens a b r s (inl h) (inl k) = unique T labelled.0 n m tokens a b r s h.1 k.1
+  unique-field (field other T more) distinct labelled n m name tokens a b r s (inl h) (inr k) = absurd (one-none (field_names more) other (subst (IsOneOf (field_names more)) h.0 (field-named more m name tokens b s k)) distinct.0)
+  unique-field (field other T more) distinct labelled n m name tokens a b r s (inr h) (inl k) = absurd (one-none (field_names more) other (subst (IsOneOf (field_names more)) k.0 (field-named more n name tokens a r h)) distinct.0)
+  unique-field (field other T more) distinct labelled n m name tokens a b r s (inr h) (inr k) = unique-field more distinct.1 labelled.1 n m name tokens a b r s h k
 
   -- of the payload of a case of some name
   pub unique-case : (cs : Cases) → AreDistinct (case_names cs) → EachNamesOfCases AreDistinct cs → (n m : ℕ) (name : List ℕ) → Agree (ReadsCase cs n name) (ReadsCase cs m name)
-  unique-case no_cases distinct good n m name tokens a b r s h k = absurd h
-  unique-case (case_of other T more) distinct good n m name tokens a b r s (inl h) (inl k) = unique-payload T good.0 n m tokens a b r s h.1 k.1
-  unique-case (case_of other T more) distinct good n m name tokens a b r s (inl h) (inr k) = absurd (one-none (case_names more) other (subst (IsOneOf (case_names more)) h.0 (case-named more m name tokens b s k)) distinct.0)
-  unique-case (case_of other T more) distinct good n m name tokens a b r s (inr h) (inl k) = absurd (one-none (case_names more) other (subst (IsOneOf (case_names more)) k.0 (case-named more n name tokens a r h)) distinct.0)
-  unique-case (case_of other T more) distinct good n m name tokens a b r s (inr h) (inr k) = unique-case more distinct.1 good.1 n m name tokens a b r s h k
+  unique-case no_cases distinct labelled n m name tokens a b r s h k = absurd h
+  unique-case (case_of other T more) distinct labelled n m name tokens a b r s (inl h) (inl k) = unique-payload T labelled.0 n m tokens a b r s h.1 k.1
+  unique-case (case_of other T more) distinct labelled n m name tokens a b r s (inl h) (inr k) = absurd (one-none (case_names more) other (subst (IsOneOf (case_names more)) h.0 (case-named more m name tokens b s k)) distinct.0)
+  unique-case (case_of other T more) distinct labelled n m name tokens a b r s (inr h) (inl k) = absurd (one-none (case_names more) other (subst (IsOneOf (case_names more)) k.0 (case-named more n name tokens a r h)) distinct.0)
+  unique-case (case_of other T more) distinct labelled n m name tokens a b r s (inr h) (inr k) = unique-case more distinct.1 labelled.1 n m name tokens a b r s h k

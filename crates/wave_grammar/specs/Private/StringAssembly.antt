@@ -10,8 +10,8 @@ IsEnded l = (l.line.rest ≡ []) × (l.later ≡ [])
 
 -- the parts that came so far stand after the text
 abbrev pub CameSoFar : LinesLeft → LinesLeft → List ℕ → List ℕ → Type 0
-CameSoFar first left front text = (parts : List StringPart) × LinesRun first parts left × (text ≡ front ++ part_texts parts)
+CameSoFar first left prefix text = (parts : List StringPart) × LinesRun first parts left × (text ≡ prefix ++ part_texts parts)
 
 -- all parts that come stand after the text, and none is next
 abbrev pub IsAppended : LinesLeft → LinesLeft → List ℕ → List ℕ → Type 0
-IsAppended first left front text = NoPartNext left × CameSoFar first left front text
+IsAppended first left prefix text = NoPartNext left × CameSoFar first left prefix text

@@ -24,8 +24,8 @@ positive r s k (c ∷ cs) e l spelled h =
 -- a prefix of a shape that no empty text has takes a byte at least
 
 -- a prefix of a shape that is never empty has a byte
-pub front_positive : (r : Regex) (s : List ℕ) (k : ℕ) → nullable r ≡ false → IsPrefixOf r s k → 0 < k
-front_positive r s k e f = positive r s k f.scalars e f.fits f.spelled f.has
+pub prefix_positive : (r : Regex) (s : List ℕ) (k : ℕ) → nullable r ≡ false → IsPrefixOf r s k → 0 < k
+prefix_positive r s k e f = positive r s k f.scalars e f.fits f.spelled f.has
 
 -- what is left gets less
 
@@ -62,26 +62,26 @@ ascii_scalars (y ∷ ds) (b ∷ s) h e =
     let u : y ≡ b = w.0 in cc
 
 -- the first k bytes have the shape, by computing
-abbrev pub has_front : Regex → List ℕ → ℕ → Bool
-has_front r s k = nullable (derivative_by (take k s) r)
+abbrev pub has_prefix : Regex → List ℕ → ℕ → Bool
+has_prefix r s k = nullable (derivative_by (take k s) r)
 
 -- no longer prefix than of k bytes has the shape, by computing
 abbrev pub no_longer : Regex → List ℕ → ℕ → Bool
-no_longer r s k = each_below (length s + 1) (λ j. nat_le j k || not (has_front r s j))
+no_longer r s k = each_below (length s + 1) (λ j. nat_le j k || not (has_prefix r s j))
 
 -- no prefix has the shape, by computing
-abbrev pub no_front : Regex → List ℕ → Bool
-no_front r s = each_below (length s + 1) (λ j. not (has_front r s j))
+abbrev pub no_prefix : Regex → List ℕ → Bool
+no_prefix r s = each_below (length s + 1) (λ j. not (has_prefix r s j))
 
 -- a prefix of the shape passes the test
-front_computed : (r : Regex) (s : List ℕ) (k : ℕ) → is_ascii s ≡ true → IsPrefixOf r s k → has_front r s k ≡ true
-front_computed r s k h f =
+prefix_computed : (r : Regex) (s : List ℕ) (k : ℕ) → is_ascii s ≡ true → IsPrefixOf r s k → has_prefix r s k ≡ true
+prefix_computed r s k h f =
     let same : f.scalars ≡ take k s = ascii_scalars f.scalars (take k s) (ascii_take k s h) f.spelled in
     matches_into (take k s) r (subst (λ (z : List ℕ). Matches r z) same f.has)
 
 -- what passes the test is a prefix of the shape
-pub front_here : (r : Regex) (s : List ℕ) (k : ℕ) → is_ascii s ≡ true → nat_le k (length s) ≡ true → has_front r s k ≡ true → IsPrefixOf r s k
-front_here r s k h fits e = record { scalars = take k s; fits = leb-true k (length s) fits; spelled = ascii_spelled (take k s) (ascii_take k s h); has = matches_from (take k s) r e }
+pub prefix_here : (r : Regex) (s : List ℕ) (k : ℕ) → is_ascii s ≡ true → nat_le k (length s) ≡ true → has_prefix r s k ≡ true → IsPrefixOf r s k
+prefix_here r s k h fits e = record { scalars = take k s; fits = leb-true k (length s) fits; spelled = ascii_spelled (take k s) (ascii_take k s h); has = matches_from (take k s) r e }
 
 -- one of two holds where the other fails
 pub or_not : (a b : Bool) → (a || not b) ≡ true → b ≡ true → a ≡ true
@@ -94,21 +94,21 @@ pub none_longer : (r : Regex) (s : List ℕ) (k : ℕ) → is_ascii s ≡ true �
 none_longer r s k h e j f =
     let fits : j ≤ length s = f.fits in
     let l : j < length s + 1 = omega arith in
-    let t = or_not (nat_le j k) (has_front r s j) (each_below_at (length s + 1) j (λ j. nat_le j k || not (has_front r s j)) e l) (front_computed r s j h f) in
+    let t = or_not (nat_le j k) (has_prefix r s j) (each_below_at (length s + 1) j (λ j. nat_le j k || not (has_prefix r s j)) e l) (prefix_computed r s j h f) in
     leb-true j k t
 
 -- no prefix has the shape
-pub no_front_here : (r : Regex) (s : List ℕ) → is_ascii s ≡ true → no_front r s ≡ true → (j : ℕ) → IsPrefixOf r s j → ⊥
-no_front_here r s h e j f =
+pub no_prefix_here : (r : Regex) (s : List ℕ) → is_ascii s ≡ true → no_prefix r s ≡ true → (j : ℕ) → IsPrefixOf r s j → ⊥
+no_prefix_here r s h e j f =
     let fits : j ≤ length s = f.fits in
     let l : j < length s + 1 = omega arith in
-    let t = each_below_at (length s + 1) j (λ j. not (has_front r s j)) e l in
-    let u = front_computed r s j h f in
+    let t = each_below_at (length s + 1) j (λ j. not (has_prefix r s j)) e l in
+    let u = prefix_computed r s j h f in
     let wrong : false ≡ true = sym (ap not u) ∙ t in cc
 
 -- the longest prefix, by computing
-pub longest_here : (r : Regex) (s : List ℕ) (k : ℕ) → is_ascii s ≡ true → nat_le k (length s) ≡ true → has_front r s k ≡ true → no_longer r s k ≡ true → Greatest (IsPrefixOf r s) (Some k)
-longest_here r s k h fits e f = (front_here r s k h fits e, none_longer r s k h f)
+pub longest_here : (r : Regex) (s : List ℕ) (k : ℕ) → is_ascii s ≡ true → nat_le k (length s) ≡ true → has_prefix r s k ≡ true → no_longer r s k ≡ true → Greatest (IsPrefixOf r s) (Some k)
+longest_here r s k h fits e f = (prefix_here r s k h fits e, none_longer r s k h f)
 
 -- the test holds of each class
 abbrev pub each_class : (Token → Bool) → Bool
@@ -138,12 +138,12 @@ each_class_at p e c =
     of_class p MultilineString a b d f g h i j k l m n o = o
 
 -- the longest token, by computing
-pub token_here : (r : List ℕ) (k : ℕ) (c : Token) → is_ascii r ≡ true → nat_le k (length r) ≡ true → has_front (shape c) r k ≡ true → MayStandAt r k c → each_class (λ d. no_longer (shape d) r k) ≡ true → IsLongestToken r k c
+pub token_here : (r : List ℕ) (k : ℕ) (c : Token) → is_ascii r ≡ true → nat_le k (length r) ≡ true → has_prefix (shape c) r k ≡ true → MayStandAt r k c → each_class (λ d. no_longer (shape d) r k) ≡ true → IsLongestToken r k c
 token_here r k c h fits e may longer = record {
-  is = (front_here (shape c) r k h fits e, may);
+  is = (prefix_here (shape c) r k h fits e, may);
   longest = λ j d t. none_longer (shape d) r k h (each_class_at (λ d. no_longer (shape d) r k) longer d) j t.0;
 }
 
 -- no token, by computing
-pub no_token_here : (r : List ℕ) → is_ascii r ≡ true → each_class (λ d. no_front (shape d) r) ≡ true → NoToken r
-no_token_here r h e k c t = no_front_here (shape c) r h (each_class_at (λ d. no_front (shape d) r) e c) k t.0
+pub no_token_here : (r : List ℕ) → is_ascii r ≡ true → each_class (λ d. no_prefix (shape d) r) ≡ true → NoToken r
+no_token_here r h e k c t = no_prefix_here (shape c) r h (each_class_at (λ d. no_prefix (shape d) r) e c) k t.0

@@ -21,6 +21,6 @@ SeenTo r cs i o = Greatest (λ k. (k ≤ i) × (nullable (derivative_by (take k 
 pub record Seen (r q : Regex) (cs : List ℕ) (i place : ℕ) (longest : Option ℕ) : Type 0 where
   pub best : Option ℕ
   pub rest : derivative_by (take i cs) r ≡ q
-  pub fronts : SeenTo r cs i best
+  pub prefixes : SeenTo r cs i best
   pub at : place ≡ place_of cs i
   pub found : longest ≡ place_of_seen cs best

@@ -4,7 +4,7 @@ use Rattle.std.specs.Prelude.{encode_utf8_all, encode_utf8}
 use Rattle.std.specs.Char.{len_utf8}
 use Rattle.std.specs.Str.{chars, IsUtf8, IsCharBoundary}
 use lib.Utf8.{scalars}
-use Rattle.wave_lex.specs.Tokens.{gap, invalid}
+use Rattle.wave_lex.specs.Tokens.{whitespace, invalid}
 use Rattle.std.proofs.lemmas.Bool.{cases_lt, and_parts}
 use Rattle.std.proofs.lemmas.List.{append-nil, take_more, take-take, take-append-drop}
 use Rattle.std.proofs.lemmas.Str.{encodes-append, length-encode, cons_from_encodes, encodes-chars, scalars-chars, IsCharBoundary-at_seam}
@@ -93,9 +93,9 @@ begins (x ∷ xs) cs t e =
     subst P (sym w.1) (first, second)
 
 -- a prefix in bytes is one in scalars
-pub front_into : (r : Regex) (s : List ℕ) (k : ℕ) → IsUtf8 s → IsPrefixOf r s k
+pub prefix_into : (r : Regex) (s : List ℕ) (k : ℕ) → IsUtf8 s → IsPrefixOf r s k
     → (i : ℕ) × (i ≤ length (chars s)) × (k ≡ place_of (chars s) i) × (nullable (derivative_by (take i (chars s)) r) ≡ true)
-front_into r s k u f =
+prefix_into r s k u f =
     let whole : encode_utf8_all (chars s) ≡ encode_utf8_all f.scalars ++ drop k s =
     encodes-chars s u ∙ (sym (take-append-drop k s) ∙ ap (λ (z : List ℕ). z ++ drop k s) (sym f.spelled)) in
     let h : (length f.scalars ≤ length (chars s)) × (f.scalars ≡ take (length f.scalars) (chars s)) = begins f.scalars (chars s) (drop k s) whole in
@@ -108,9 +108,9 @@ front_into r s k u f =
     )
 
 -- a prefix in scalars is one in bytes
-pub front_from : (r : Regex) (s : List ℕ) (i : ℕ) → IsUtf8 s → i ≤ length (chars s) → nullable (derivative_by (take i (chars s)) r) ≡ true
+pub prefix_from : (r : Regex) (s : List ℕ) (i : ℕ) → IsUtf8 s → i ≤ length (chars s) → nullable (derivative_by (take i (chars s)) r) ≡ true
     → IsPrefixOf r s (place_of (chars s) i)
-front_from r s i u l t =
+prefix_from r s i u l t =
     let cs : List ℕ = chars s in
     let whole : s ≡ encode_utf8_all (take i (chars s)) ++ encode_utf8_all (drop i (chars s)) =
     sym (encodes-chars s u) ∙ (ap encode_utf8_all (sym (take-append-drop i (chars s))) ∙ encodes-append (take i (chars s)) (drop i (chars s))) in
@@ -137,7 +137,7 @@ seen_same r q p cs i place o c l is h e f =
     record {
       best = h.best;
       rest = a;
-      fronts = kept r p cs i h.best a f h.fronts;
+      prefixes = kept r p cs i h.best a f h.prefixes;
       at = ap (λ (z : ℕ). z + len_utf8 c) h.at ∙ (ap (λ (z : ℕ). place_of cs i + len_utf8 z) same ∙ sym (place_step cs i l));
       found = h.found;
     }
@@ -153,21 +153,21 @@ seen_new r q p cs i place o c l is h e f =
     record {
       best = Some (i + 1);
       rest = a;
-      fronts = ((omega arith, ap nullable a ∙ f), λ k (d : (k ≤ i + 1) × (nullable (derivative_by (take k cs) r) ≡ true)). d.0);
+      prefixes = ((omega arith, ap nullable a ∙ f), λ k (d : (k ≤ i + 1) × (nullable (derivative_by (take k cs) r) ≡ true)). d.0);
       at = there;
       found = ap Some there;
     }
 
 -- at the beginning, where the shape may be empty
 pub seen_first : (r : Regex) (cs : List ℕ) → nullable r ≡ true → Seen r r cs 0 0 (Some 0)
-seen_first r cs e = record { best = Some 0; rest = refl; fronts = ((omega arith, e), λ k (d : (k ≤ 0) × (nullable (derivative_by (take k cs) r) ≡ true)). d.0); at = refl; found = refl }
+seen_first r cs e = record { best = Some 0; rest = refl; prefixes = ((omega arith, e), λ k (d : (k ≤ 0) × (nullable (derivative_by (take k cs) r) ≡ true)). d.0); at = refl; found = refl }
 
 -- at the beginning, where the shape may not be empty
 pub seen_none : (r : Regex) (cs : List ℕ) → nullable r ≡ false → Seen r r cs 0 0 None
 seen_none r cs e = record {
   best = None;
   rest = refl;
-  fronts = λ k (d : (k ≤ 0) × (nullable (derivative_by (take k cs) r) ≡ true)).
+  prefixes = λ k (d : (k ≤ 0) × (nullable (derivative_by (take k cs) r) ≡ true)).
       let z : k ≡ 0 = omega arith in
       let wrong : nullable r ≡ true = subst (λ (y : ℕ). nullable (derivative_by (take y cs) r) ≡ true) z d.1 in
       let wrong2 : false ≡ true = sym e ∙ wrong in cc;
@@ -176,19 +176,19 @@ seen_none r cs e = record {
 }
 
 -- no longer prefix is seen after i
-all_fronts : (r : Regex) (s : List ℕ) (i : ℕ) (o : Option ℕ) → IsUtf8 s → i ≤ length (chars s) → SeenTo r (chars s) i o
+all_prefixes : (r : Regex) (s : List ℕ) (i : ℕ) (o : Option ℕ) → IsUtf8 s → i ≤ length (chars s) → SeenTo r (chars s) i o
     → ((k : ℕ) → i < k → k ≤ length (chars s) → nullable (derivative_by (take k (chars s)) r) ≡ true → ⊥) → Greatest (IsPrefixOf r s) (place_of_seen (chars s) o)
-all_fronts r s i None u l h none_later = λ k (f : IsPrefixOf r s k).
-    let w = front_into r s k u f in
+all_prefixes r s i None u l h none_later = λ k (f : IsPrefixOf r s k).
+    let w = prefix_into r s k u f in
     elim (cases_lt i w.0) [
       | inr b ↦ h w.0 (b, w.3)
       | inl b ↦ none_later w.0 b w.1 w.3
     ]
-all_fronts r s i (Some m) u l h none_later =
+all_prefixes r s i (Some m) u l h none_later =
     let best : m ≤ i = h.0.0 in (
-      front_from r s m u (omega arith) h.0.1,
+      prefix_from r s m u (omega arith) h.0.1,
       λ k (f : IsPrefixOf r s k).
-          let w = front_into r s k u f in
+          let w = prefix_into r s k u f in
           rw w.2 (elim (cases_lt i w.0) as (λ _. place_of (chars s) w.0 ≤ place_of (chars s) m) [
             | inr b ↦ place_mono (chars s) w.0 m (h.1 w.0 (b, w.3))
             | inl b ↦ absurd (none_later w.0 b w.1 w.3)
@@ -199,7 +199,7 @@ all_fronts r s i (Some m) u l h none_later =
 pub seen_all : (r q : Regex) (s : List ℕ) (i place : ℕ) (o : Option ℕ) → IsUtf8 s → i ≡ length (chars s) → Seen r q (chars s) i place o → Greatest (IsPrefixOf r s) o
 seen_all r q s i place o u m h =
     let P : Option ℕ → Type 0 = λ z. Greatest (IsPrefixOf r s) z in
-    subst P (sym h.found) (all_fronts r s i h.best u (omega arith) h.fronts (λ k (a : i < k) (b : k ≤ length (chars s)) (_ : nullable (derivative_by (take k (chars s)) r) ≡ true). omega arith))
+    subst P (sym h.found) (all_prefixes r s i h.best u (omega arith) h.prefixes (λ k (a : i < k) (b : k ≤ length (chars s)) (_ : nullable (derivative_by (take k (chars s)) r) ≡ true). omega arith))
 
 -- where no scalar follows the longest prefix is known
 pub seen_dead : (r q : Regex) (s : List ℕ) (i place : ℕ) (o : Option ℕ) (c : ℕ) → IsUtf8 s → i < length (chars s) → c ≡ get_or (chars s) i c → Seen r q (chars s) i place o → derivative c q ≡ nothing
@@ -208,7 +208,7 @@ seen_dead r q s i place o c u l is h e =
     let same : c ≡ get_or (chars s) i 0 = is ∙ get_or_default (chars s) i c 0 l in
     let a : derivative_by (take (i + 1) (chars s)) r ≡ nothing = stepped r q nothing (chars s) i l h.rest (ap (λ (z : ℕ). derivative z q) (sym same) ∙ e) in
     let P : Option ℕ → Type 0 = λ z. Greatest (IsPrefixOf r s) z in
-    subst P (sym h.found) (all_fronts r s i h.best u (omega arith) h.fronts (λ k (b : i < k) (d : k ≤ length (chars s)) (t : nullable (derivative_by (take k (chars s)) r) ≡ true).
+    subst P (sym h.found) (all_prefixes r s i h.best u (omega arith) h.prefixes (λ k (b : i < k) (d : k ≤ length (chars s)) (t : nullable (derivative_by (take k (chars s)) r) ≡ true).
     let n : derivative_by (take k (chars s)) r ≡ nothing =
     ap (λ (z : List ℕ). derivative_by z r) (cut (chars s) (i + 1) k (omega arith)) ∙ (after_all_append (take (i + 1) (chars s)) (drop (i + 1) (take k (chars s))) r
     ∙ (ap (λ (z : Regex). derivative_by (drop (i + 1) (take k (chars s))) z) a ∙ after_all_nothing (drop (i + 1) (take k (chars s))))) in
@@ -222,9 +222,9 @@ scalars_drop (c ∷ cs) zero e = e
 scalars_drop (c ∷ cs) (suc i) e = scalars_drop cs i (and_parts _ _ e).1
 
 -- a text may be split after a prefix
-pub front_boundary : (r : Regex) (s : List ℕ) (k : ℕ) → IsUtf8 s → IsPrefixOf r s k → IsCharBoundary s k
-front_boundary r s k u f =
-    let w = front_into r s k u f in
+pub prefix_boundary : (r : Regex) (s : List ℕ) (k : ℕ) → IsUtf8 s → IsPrefixOf r s k → IsCharBoundary s k
+prefix_boundary r s k u f =
+    let w = prefix_into r s k u f in
     let whole : s ≡ encode_utf8_all (take w.0 (chars s)) ++ encode_utf8_all (drop w.0 (chars s)) =
     sym (encodes-chars s u) ∙ (ap encode_utf8_all (sym (take-append-drop w.0 (chars s))) ∙ encodes-append (take w.0 (chars s)) (drop w.0 (chars s))) in
     let text : IsUtf8 (encode_utf8_all (drop w.0 (chars s))) = (drop w.0 (chars s), (scalars_drop (chars s) w.0 (scalars-chars s u), refl)) in
@@ -237,12 +237,12 @@ first_invalid s (c ∷ cs) u e h =
     let any_one : Matches invalid (c ∷ []) = inr (inr (c, refl, refl)) in
     let one : take 1 (chars s) ≡ c ∷ [] = ap (λ (z : List ℕ). take 1 z) (sym e) in
     let long : 1 ≤ length (chars s) = subst (λ (z : List ℕ). 1 ≤ length z) e (omega arith) in
-    absurd (h (place_of (chars s) 1) (front_from invalid s 1 u long (ap (λ (z : List ℕ). nullable (derivative_by z invalid)) one ∙ matches_into (c ∷ []) invalid any_one)))
+    absurd (h (place_of (chars s) 1) (prefix_from invalid s 1 u long (ap (λ (z : List ℕ). nullable (derivative_by z invalid)) one ∙ matches_into (c ∷ []) invalid any_one)))
 
 -- only at the end nothing is invalid
 pub invalid_none : (s : List ℕ) → IsUtf8 s → Greatest (IsPrefixOf invalid s) None → s ≡ []
 invalid_none s u h = sym (encodes-chars s u) ∙ ap encode_utf8_all (first_invalid s (chars s) u refl h)
 
 -- whitespace stands everywhere, perhaps of no bytes
-pub gap_some : (s : List ℕ) → Greatest (IsPrefixOf gap s) None → ⊥
-gap_some s h = h 0 (record { scalars = []; fits = omega arith; spelled = refl; has = empty_from gap refl })
+pub whitespace_some : (s : List ℕ) → Greatest (IsPrefixOf whitespace s) None → ⊥
+whitespace_some s h = h 0 (record { scalars = []; fits = omega arith; spelled = refl; has = empty_from whitespace refl })

@@ -8,7 +8,7 @@ use Rattle.wave_lex.specs.Strings.{short_escape}
 use Rattle.wave_lex.specs.Derive.{derivative, after_next}
 use Rattle.wave_lex.proofs.RegularShapes.Comparisons.{same, same_true, each_below, each_below_at, is_ascii_shape, after_past}
 use Rattle.wave_lex.specs.Machines.{number_rest, number_step, label_rest, label_step, label_token_rest, in_token, label_token_step, ends_short, escape_step, in_string, in_char, string_rest, string_step, character_rest, character_step}
-use Rattle.wave_lex.specs.Private.Machines.{gap_rest, gap_step, invalid_rest, invalid_step}
+use Rattle.wave_lex.specs.Private.Machines.{whitespace_rest, whitespace_step, invalid_rest, invalid_step}
 use Rattle.wave_lex.specs.declared.machine.number.NumberState.{NumberState}
 use Rattle.wave_lex.specs.declared.machine.number.NumberState.TheVariants as n
 use Rattle.wave_lex.specs.declared.machine.label.LabelState.{LabelState}
@@ -18,8 +18,8 @@ use Rattle.wave_lex.specs.declared.machine.label.LabelTokenState.TheVariants as 
 use Rattle.wave_lex.specs.declared.machine.escape.EscapeState.{EscapeState}
 use Rattle.wave_lex.specs.declared.machine.escape.EscapeState.TheVariants as escape
 use Rattle.wave_lex.specs.declared.machine.escape.EscapeStep.TheVariants.{Within}
-use Rattle.wave_lex.specs.declared.machine.gap.GapState.{GapState}
-use Rattle.wave_lex.specs.declared.machine.gap.GapState.TheVariants as gap
+use Rattle.wave_lex.specs.declared.machine.whitespace.WhitespaceState.{WhitespaceState}
+use Rattle.wave_lex.specs.declared.machine.whitespace.WhitespaceState.TheVariants as whitespace
 use Rattle.wave_lex.specs.declared.machine.string.StringState.{StringState}
 use Rattle.wave_lex.specs.declared.machine.string.StringState.TheVariants as string
 use Rattle.wave_lex.specs.declared.machine.character.CharState.{CharState}
@@ -118,20 +118,20 @@ pub label_token_steps : (q : LabelTokenState) (c : ℕ) → derivative c (label_
 label_token_steps q c = let h = label_token_computed q in steps_agree LabelTokenState label_token_rest label_token_step q c h.0 h.1 (label_token_past q c)
 
 -- each state of whitespace is right at each scalar up to 128, by computing
-gap_computed : (q : GapState) → (each_below 129 (agrees GapState gap_rest gap_step q) ≡ true) × (is_ascii_shape (gap_rest q) ≡ true)
-gap_computed gap.Start = (refl, refl)
-gap_computed gap.Slash = (refl, refl)
-gap_computed gap.Comment = (refl, refl)
+whitespace_computed : (q : WhitespaceState) → (each_below 129 (agrees WhitespaceState whitespace_rest whitespace_step q) ≡ true) × (is_ascii_shape (whitespace_rest q) ≡ true)
+whitespace_computed whitespace.Start = (refl, refl)
+whitespace_computed whitespace.Slash = (refl, refl)
+whitespace_computed whitespace.Comment = (refl, refl)
 
 -- no state of whitespace tells scalars past ASCII apart
-gap_past : (q : GapState) (c : ℕ) → 128 ≤ c → gap_step q c ≡ gap_step q 128
-gap_past gap.Start c k = grind (arith, nat_tests)
-gap_past gap.Slash c k = grind (arith, nat_tests)
-gap_past gap.Comment c k = grind (arith, nat_tests)
+whitespace_past : (q : WhitespaceState) (c : ℕ) → 128 ≤ c → whitespace_step q c ≡ whitespace_step q 128
+whitespace_past whitespace.Start c k = grind (arith, nat_tests)
+whitespace_past whitespace.Slash c k = grind (arith, nat_tests)
+whitespace_past whitespace.Comment c k = grind (arith, nat_tests)
 
 -- the machine of whitespace keeps to its shape
-pub gap_steps : (q : GapState) (c : ℕ) → derivative c (gap_rest q) ≡ after_next GapState gap_rest (gap_step q c)
-gap_steps q c = let h = gap_computed q in steps_agree GapState gap_rest gap_step q c h.0 h.1 (gap_past q c)
+pub whitespace_steps : (q : WhitespaceState) (c : ℕ) → derivative c (whitespace_rest q) ≡ after_next WhitespaceState whitespace_rest (whitespace_step q c)
+whitespace_steps q c = let h = whitespace_computed q in steps_agree WhitespaceState whitespace_rest whitespace_step q c h.0 h.1 (whitespace_past q c)
 
 -- no short escape is past ASCII
 short_past : (c : ℕ) → 128 ≤ c → short_escape c ≡ short_escape 128

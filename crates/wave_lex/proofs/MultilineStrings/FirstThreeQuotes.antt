@@ -51,14 +51,14 @@ part_into : (p : List ℕ) → Matches part p → IsPart p
 part_into p (x, y, e, inl f, (c, g, t)) = (c, not_one c t, inl (e ∙ (ap (λ (z : List ℕ). z ++ y) f ∙ g)))
 part_into p (x, y, e, inr (a, b, f, (d, h, u), inl k), (c, g, t)) =
     let same : d ≡ 34 = one_is 34 d u in
-    let front : x ≡ 34 ∷ [] = f ∙ (ap (λ (z : List ℕ). z ++ b) h ∙ (ap (λ (z : List ℕ). d ∷ z) k ∙ ap (λ (z : ℕ). z ∷ []) same)) in
-    (c, not_one c t, inr (inl (e ∙ (ap (λ (z : List ℕ). z ++ y) front ∙ ap (λ (z : List ℕ). 34 ∷ z) g))))
+    let prefix : x ≡ 34 ∷ [] = f ∙ (ap (λ (z : List ℕ). z ++ b) h ∙ (ap (λ (z : List ℕ). d ∷ z) k ∙ ap (λ (z : ℕ). z ∷ []) same)) in
+    (c, not_one c t, inr (inl (e ∙ (ap (λ (z : List ℕ). z ++ y) prefix ∙ ap (λ (z : List ℕ). 34 ∷ z) g))))
 part_into p (x, y, e, inr (a, b, f, (d, h, u), inr (a2, b2, k, (d2, h2, u2), m)), (c, g, t)) =
     let same : d ≡ 34 = one_is 34 d u in
     let same2 : d2 ≡ 34 = one_is 34 d2 u2 in
     let second : b ≡ 34 ∷ [] = k ∙ (ap (λ (z : List ℕ). z ++ b2) h2 ∙ (ap (λ (z : List ℕ). d2 ∷ z) m ∙ ap (λ (z : ℕ). z ∷ []) same2)) in
-    let front : x ≡ 34 ∷ 34 ∷ [] = f ∙ (ap (λ (z : List ℕ). z ++ b) h ∙ (ap (λ (z : List ℕ). d ∷ z) second ∙ ap (λ (z : ℕ). z ∷ 34 ∷ []) same)) in
-    (c, not_one c t, inr (inr (e ∙ (ap (λ (z : List ℕ). z ++ y) front ∙ ap (λ (z : List ℕ). 34 ∷ 34 ∷ z) g))))
+    let prefix : x ≡ 34 ∷ 34 ∷ [] = f ∙ (ap (λ (z : List ℕ). z ++ b) h ∙ (ap (λ (z : List ℕ). d ∷ z) second ∙ ap (λ (z : ℕ). z ∷ 34 ∷ []) same)) in
+    (c, not_one c t, inr (inr (e ∙ (ap (λ (z : List ℕ). z ++ y) prefix ∙ ap (λ (z : List ℕ). 34 ∷ 34 ∷ z) g))))
 
 -- a part without quotes
 part_zero : (c : ℕ) → c ≢ 34 → Matches part (c ∷ [])
@@ -158,8 +158,8 @@ cut (a ∷ b ∷ d ∷ s) h =
 
 -- a multiline token ends at the first later three quotes
 pub through_into : (s : List ℕ) → Matches multiline_string s → (inside : List ℕ) × (s ≡ three_quotes ++ (inside ++ three_quotes)) × HasNoThreeQuotes (inside ++ codes "\"\"")
-through_into s (x, y, e, front, (u, v, f, (ps, g, each), back)) =
-    let first : x ≡ three_quotes = word_into three_quotes x front in
+through_into s (x, y, e, prefix, (u, v, f, (ps, g, each), back)) =
+    let first : x ≡ three_quotes = word_into three_quotes x prefix in
     let last : v ≡ three_quotes = word_into three_quotes v back in (
       u,
       e ∙ (ap (λ (z : List ℕ). z ++ y) first ∙ ap (λ (z : List ℕ). three_quotes ++ z) (f ∙ ap (λ (z : List ℕ). u ++ z) last)),

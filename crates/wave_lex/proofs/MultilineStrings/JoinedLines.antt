@@ -10,7 +10,7 @@ use Rattle.wave_lex.specs.Tokenization.{span}
 use Rattle.wave_lex.specs.Strings.{Decodes, IsBadEscapeAt}
 use Rattle.wave_lex.specs.Multiline.{put_first, pieces, spaces, DropsReturn, LinesMean, in_lines, DecodesLines, LineFault, closing, opening, indentation, escape, BadLines, MultilineFault, fault_span}
 use Rattle.wave_lex.specs.Remaining.{Undecoded, LinesLeft, one_line, ended_lines, lines_size, size_of}
-use Rattle.wave_lex.specs.Parts.{part_text, part_texts, TellsBadEscape, TellsFault, EntersLine, HasBadLine, MeetsBadEscape, MeetsBadLine, StaysInLine, PartIs, LinePartIs, NoPartNext, TakesPart, Begins, OpeningRefused, LinesRunTo, LinesJoin, OneLineJoins}
+use Rattle.wave_lex.specs.Parts.{part_text, part_texts, ReportsBadEscape, ReportsFault, EntersLine, HasBadLine, MeetsBadEscape, MeetsBadLine, StaysInLine, PartIs, LinePartIs, NoPartNext, TakesPart, Begins, OpeningRefused, LinesRunTo, LinesJoin, OneLineJoins}
 use Rattle.wave_lex.specs.Private.Lines.{PartTaken, EndIs, LinesEndIs, BehindLastFeed}
 use Rattle.wave_lex.specs.Private.Runs.{HasWholeLines}
 use Rattle.wave_lex.specs.Parts.{LinesRun}
@@ -72,53 +72,53 @@ run_means l (p ∷ ps) (t, inr (e, f, h), r) = means_next_line l t p (part_texts
 -- a refusal of the rest of the line, or of a line after it
 abbrev LeftFault : ℕ → ℕ → ℕ → LinesLeft → Diagnostic → Type 0
 LeftFault pos n at l e =
-    ((i : ℕ) × IsBadEscapeAt l.line.rest i × TellsBadEscape e (l.line.pos + i))
-    ⊎ ((u : List ℕ) × (f : LineFault) × Decodes l.line.rest u × BadLines l.indent at l.later f × TellsFault e f (fault_span pos n f))
+    ((i : ℕ) × IsBadEscapeAt l.line.rest i × ReportsBadEscape e (l.line.pos + i))
+    ⊎ ((u : List ℕ) × (f : LineFault) × Decodes l.line.rest u × BadLines l.indent at l.later f × ReportsFault e f (fault_span pos n f))
 
 -- in the line
 fault_in_line : (pos n at : ℕ) (old new : LinesLeft) (p : StringPart) (e : Diagnostic) → StaysInLine old new p → LeftFault pos n at new e → LeftFault pos n at old e
-fault_in_line pos n at old new p e h (inl (i, bad, told)) =
+fault_in_line pos n at old new p e h (inl (i, bad, reported)) =
     let k = takes old.line new.line p h.item in
     let m : new.line.pos ≡ old.line.pos + length k.source = k.moved in
-    inl (length k.source + i, bad_behind old.line new.line p i k bad, subst (λ (z : ℕ). TellsBadEscape e z) (omega arith) told)
-fault_in_line pos n at old new p e h (inr (u, f, decodes, bad, told)) =
+    inl (length k.source + i, bad_behind old.line new.line p i k bad, subst (λ (z : ℕ). ReportsBadEscape e z) (omega arith) reported)
+fault_in_line pos n at old new p e h (inr (u, f, decodes, bad, reported)) =
     let k = takes old.line new.line p h.item in
     inr (
       part_text p ++ u,
       f,
       subst (λ (z : List ℕ). Decodes z (part_text p ++ u)) (sym k.taken) (k.means new.line.rest u decodes),
       subst (λ (z : List (List ℕ)). BadLines old.indent at z f) h.later (subst (λ (z : ℕ). BadLines z at new.later f) h.indent bad),
-      told,
+      reported,
     )
 
 -- in the line that is entered, or after it
 fault_entered : (pos n at : ℕ) (old new : LinesLeft) (e : Diagnostic) → old.next ≡ pos + at → (h : EntersLine old new) → LeftFault pos n (at + length h.line + 1) new e
-    → (f : LineFault) × BadLines old.indent at old.later f × TellsFault e f (fault_span pos n f)
-fault_entered pos n at old new e there h (inl (i, bad, told)) =
+    → (f : LineFault) × BadLines old.indent at old.later f × ReportsFault e f (fault_span pos n f)
+fault_entered pos n at old new e there h (inl (i, bad, reported)) =
     let place : new.line.pos ≡ old.next + old.indent = h.place in
     let here : new.line.pos + i ≡ pos + (at + old.indent + i) = omega arith in
-    let t : TellsBadEscape e (pos + (at + old.indent + i)) = subst (λ (z : ℕ). TellsBadEscape e z) here told in (
+    let t : ReportsBadEscape e (pos + (at + old.indent + i)) = subst (λ (z : ℕ). ReportsBadEscape e z) here reported in (
       escape (at + old.indent + i),
       subst (λ (z : List (List ℕ)). BadLines old.indent at z (escape (at + old.indent + i))) (sym h.there) (inl (inr (new.line.rest, i, h.indented, bad, refl))),
       record { refusal = t.refusal; at = t.at },
     )
-fault_entered pos n at old new e there h (inr (u, f, decodes, bad, told)) =
+fault_entered pos n at old new e there h (inr (u, f, decodes, bad, reported)) =
     let more : BadLines old.indent (at + length h.line + 1) h.more f =
     subst (λ (z : List (List ℕ)). BadLines old.indent (at + length h.line + 1) z f) h.later (subst (λ (z : ℕ). BadLines z (at + length h.line + 1) new.later f) h.stays bad) in
-    (f, subst (λ (z : List (List ℕ)). BadLines old.indent at z f) (sym h.there) (inr (u, (new.line.rest, h.indented, decodes), more)), told)
+    (f, subst (λ (z : List (List ℕ)). BadLines old.indent at z f) (sym h.there) (inr (u, (new.line.rest, h.indented, decodes), more)), reported)
 
 -- a line with too few spaces
 fault_here : (pos n at : ℕ) (old new : LinesLeft) (e : Diagnostic) → old.next ≡ pos + at → MeetsBadLine old new e
-    → (f : LineFault) × BadLines old.indent at old.later f × TellsFault e f (fault_span pos n f)
+    → (f : LineFault) × BadLines old.indent at old.later f × ReportsFault e f (fault_span pos n f)
 fault_here pos n at old new e there h = (
   indentation at,
   subst (λ (z : List (List ℕ)). BadLines old.indent at z (indentation at)) (sym h.met.there) (inl (inl (h.met.bad, refl))),
-  record { refusal = h.told.refusal; at = h.told.at ∙ ap (λ (z : ℕ). span z (z + 1)) there },
+  record { refusal = h.reported.refusal; at = h.reported.at ∙ ap (λ (z : ℕ). span z (z + 1)) there },
 )
 
 -- parts up to a refusal show what is wrong
 run_fault : (pos n at : ℕ) (l : LinesLeft) (ps : List StringPart) (e : Diagnostic) → l.next ≡ pos + at → LinesRunTo l ps (Some e) → LeftFault pos n at l e
-run_fault pos n at l [] e there (t, inl (h, ended)) = inl (0, bad_here l.line t.line e h, subst (λ (z : ℕ). TellsBadEscape e z) (omega arith) h.told)
+run_fault pos n at l [] e there (t, inl (h, ended)) = inl (0, bad_here l.line t.line e h, subst (λ (z : ℕ). ReportsBadEscape e z) (omega arith) h.reported)
 run_fault pos n at l [] e there (t, inr (none, h)) =
     let f = fault_here pos n at l t e there h in
     inr ([], f.0, nothing_left l.line.rest none, f.1, f.2)
@@ -133,9 +133,9 @@ run_fault pos n at l (p ∷ ps) e there (t, inr (none, same, h), r) =
 
 -- nothing has no bad escape
 no_bad_escape : (i : ℕ) → IsBadEscapeAt [] i → ⊥
-no_bad_escape i (front, rest, t, whole, decodes, none, place) =
-    let w : 0 ≡ length (front ++ 92 ∷ rest) = ap length whole in
-    let v : ⊥ = omega (arith, length-append front (92 ∷ rest)) in v
+no_bad_escape i (prefix, rest, t, whole, decodes, none, place) =
+    let w : 0 ≡ length (prefix ++ 92 ∷ rest) = ap length whole in
+    let v : ⊥ = omega (arith, length-append prefix (92 ∷ rest)) in v
 
 -- no lines mean no texts
 no_lines : (k : ℕ) (us : List (List ℕ)) → LinesMean k [] us → us ≡ []
@@ -166,25 +166,25 @@ opened_means s pos l new t b (inr (inr h)) (u, us, decodes, lines, joined) =
     subst (λ (z : List ℕ). DecodesLines s z) (sym joined) (inside_means s pos l (u ∷ us) b (entered_means l new u us h decodes lines))
 
 -- a fault of the lines is one of the inside
-inside_fault : (s : List ℕ) (pos n : ℕ) (l : LinesLeft) (e : Diagnostic) → (b : Begins s pos l) → (f : LineFault) × BadLines l.indent (length b.first + 1) l.later f × TellsFault e f (fault_span pos n f)
-    → (f : LineFault) × MultilineFault s f × TellsFault e f (fault_span pos n f)
-inside_fault s pos n l e b (f, bad, told) = (f, inr (inr (record { first = b.first; between = l.later; indent = l.indent; cut = b.cut; opens = b.opens; bad = bad })), told)
+inside_fault : (s : List ℕ) (pos n : ℕ) (l : LinesLeft) (e : Diagnostic) → (b : Begins s pos l) → (f : LineFault) × BadLines l.indent (length b.first + 1) l.later f × ReportsFault e f (fault_span pos n f)
+    → (f : LineFault) × MultilineFault s f × ReportsFault e f (fault_span pos n f)
+inside_fault s pos n l e b (f, bad, reported) = (f, inr (inr (record { first = b.first; between = l.later; indent = l.indent; cut = b.cut; opens = b.opens; bad = bad })), reported)
 
 -- what is wrong with the rest is wrong with the inside
 opened_fault : (s : List ℕ) (pos n : ℕ) (l new : LinesLeft) (e : Diagnostic) → (b : Begins s pos l) → ((l.later ≡ []) × (new ≡ l) ⊎ HasBadLine l × (new ≡ l) ⊎ EntersLine l new)
-    → ((at : ℕ) → new.next ≡ pos + at → LeftFault pos n at new e) → (f : LineFault) × MultilineFault s f × TellsFault e f (fault_span pos n f)
+    → ((at : ℕ) → new.next ≡ pos + at → LeftFault pos n at new e) → (f : LineFault) × MultilineFault s f × ReportsFault e f (fault_span pos n f)
 opened_fault s pos n l new e b (inl (none, same)) fault =
     no_fault (fault (length b.first + 1) (ap (λ (z : LinesLeft). z.next) same ∙ b.next))
   where
-    no_fault : LeftFault pos n (length b.first + 1) new e → (f : LineFault) × MultilineFault s f × TellsFault e f (fault_span pos n f)
-    no_fault (inl (i, bad, told)) = absurd (no_bad_escape i (subst (λ (z : List ℕ). IsBadEscapeAt z i) (ap (λ (z : LinesLeft). z.line.rest) same ∙ b.read) bad))
-    no_fault (inr (u, f, decodes, bad, told)) = absurd (subst (λ (z : List (List ℕ)). BadLines new.indent (length b.first + 1) z f) (ap (λ (z : LinesLeft). z.later) same ∙ none) bad)
+    no_fault : LeftFault pos n (length b.first + 1) new e → (f : LineFault) × MultilineFault s f × ReportsFault e f (fault_span pos n f)
+    no_fault (inl (i, bad, reported)) = absurd (no_bad_escape i (subst (λ (z : List ℕ). IsBadEscapeAt z i) (ap (λ (z : LinesLeft). z.line.rest) same ∙ b.read) bad))
+    no_fault (inr (u, f, decodes, bad, reported)) = absurd (subst (λ (z : List (List ℕ)). BadLines new.indent (length b.first + 1) z f) (ap (λ (z : LinesLeft). z.later) same ∙ none) bad)
 opened_fault s pos n l new e b (inr (inl (h, same))) fault =
     first_fault (fault (length b.first + 1) (ap (λ (z : LinesLeft). z.next) same ∙ b.next))
   where
-    first_fault : LeftFault pos n (length b.first + 1) new e → (f : LineFault) × MultilineFault s f × TellsFault e f (fault_span pos n f)
-    first_fault (inl (i, bad, told)) = absurd (no_bad_escape i (subst (λ (z : List ℕ). IsBadEscapeAt z i) (ap (λ (z : LinesLeft). z.line.rest) same ∙ b.read) bad))
-    first_fault (inr (u, f, decodes, bad, told)) = inside_fault s pos n l e b (f, subst (λ (z : LinesLeft). BadLines z.indent (length b.first + 1) z.later f) same bad, told)
+    first_fault : LeftFault pos n (length b.first + 1) new e → (f : LineFault) × MultilineFault s f × ReportsFault e f (fault_span pos n f)
+    first_fault (inl (i, bad, reported)) = absurd (no_bad_escape i (subst (λ (z : List ℕ). IsBadEscapeAt z i) (ap (λ (z : LinesLeft). z.line.rest) same ∙ b.read) bad))
+    first_fault (inr (u, f, decodes, bad, reported)) = inside_fault s pos n l e b (f, subst (λ (z : LinesLeft). BadLines z.indent (length b.first + 1) z.later f) same bad, reported)
 opened_fault s pos n l new e b (inr (inr h)) fault =
     let next : l.next ≡ pos + (length b.first + 1) = b.next in
     let moved : new.next ≡ l.next + length h.line + 1 = h.moved in
@@ -192,9 +192,9 @@ opened_fault s pos n l new e b (inr (inr h)) fault =
     inside_fault s pos n l e b (fault_entered pos n (length b.first + 1) l new e next h (fault (length b.first + 1 + length h.line + 1) later))
 
 -- what is refused at the beginning is wrong with the inside
-opening_fault : (s : List ℕ) (pos : ℕ) (e : Diagnostic) → OpeningRefused s pos e → (f : LineFault) × MultilineFault s f × TellsFault e f (fault_span pos (length s) f)
-opening_fault s pos e (inl (bad, told)) = (closing, inl (bad, refl), told)
-opening_fault s pos e (inr (good, bad, told)) = (opening, inr (inl (good, bad, refl)), told)
+opening_fault : (s : List ℕ) (pos : ℕ) (e : Diagnostic) → OpeningRefused s pos e → (f : LineFault) × MultilineFault s f × ReportsFault e f (fault_span pos (length s) f)
+opening_fault s pos e (inl (bad, reported)) = (closing, inl (bad, refl), reported)
+opening_fault s pos e (inr (labelled, bad, reported)) = (opening, inr (inl (labelled, bad, refl)), reported)
 
 -- the parts of a multiline string join to what it means
 pub lines_join : LinesJoin
@@ -215,9 +215,9 @@ one_line_means s t (u, us, decodes, lines, joined) =
     subst (λ (z : List ℕ). Decodes s.rest z) (sym (joined ∙ ap (λ (z : List (List ℕ)). in_lines (u ∷ z)) none)) decodes
 
 -- what is wrong with one line is a bad escape
-one_line_fault : (s : Undecoded) (e : Diagnostic) (pos n at : ℕ) → LeftFault pos n at (one_line s) e → (i : ℕ) × IsBadEscapeAt s.rest i × TellsBadEscape e (s.pos + i)
+one_line_fault : (s : Undecoded) (e : Diagnostic) (pos n at : ℕ) → LeftFault pos n at (one_line s) e → (i : ℕ) × IsBadEscapeAt s.rest i × ReportsBadEscape e (s.pos + i)
 one_line_fault s e pos n at (inl bad) = bad
-one_line_fault s e pos n at (inr (u, f, decodes, bad, told)) = absurd bad
+one_line_fault s e pos n at (inr (u, f, decodes, bad, reported)) = absurd bad
 
 -- the parts of one line join to what it decodes to
 pub one_line_joins : OneLineJoins
@@ -237,9 +237,9 @@ one_line_ends s (Ok u) none = (none, refl)
 one_line_ends s (Err e) h = inl h
 
 -- a refusal where no run and no escape is taken
-pub refused_escape : (old mid new : Undecoded) (e : Diagnostic) → PartTaken old None mid → (mid.rest ≢ []) × TellsBadEscape e mid.pos → new.rest ≡ [] → MeetsBadEscape old new e
-refused_escape old mid new e (inl none, same) (some, told) ended = absurd (some (ap (λ (s : Undecoded). s.rest) same ∙ none))
-refused_escape old mid new e (inr bad, same) (some, told) ended = record { begins = bad.begins; none = bad.none; ended = ended; told = subst (λ (s : Undecoded). TellsBadEscape e s.pos) same told }
+pub refused_escape : (old mid new : Undecoded) (e : Diagnostic) → PartTaken old None mid → (mid.rest ≢ []) × ReportsBadEscape e mid.pos → new.rest ≡ [] → MeetsBadEscape old new e
+refused_escape old mid new e (inl none, same) (some, reported) ended = absurd (some (ap (λ (s : Undecoded). s.rest) same ∙ none))
+refused_escape old mid new e (inr bad, same) (some, reported) ended = record { begins = bad.begins; none = bad.none; ended = ended; reported = subst (λ (s : Undecoded). ReportsBadEscape e s.pos) same reported }
 
 same_left : (s t : Undecoded) → s.rest ≡ t.rest → s.pos ≡ t.pos → s ≡ t
 same_left s t e f =
@@ -248,11 +248,11 @@ same_left s t e f =
 
 -- a refusal of what is next: no part is
 pub refused_next : (l new : LinesLeft) (e : Diagnostic) → NoPartNext l → LinesEndIs l (Err e) → new.line.rest ≡ [] → new.line.pos ≡ l.line.pos → new.later ≡ [] → LinePartIs l (Some (Err e)) new
-refused_next l new e (inl bad) (inl (some, told)) none same later = inl (record { begins = bad.begins; none = bad.none; ended = none; told = told }, later)
-refused_next l new e (inl bad) (inr (empty, some, told)) none same later = let w : 92 ∷ bad.begins.0 ≡ [] = sym bad.begins.1 ∙ empty in cc
-refused_next l new e (inr (empty, next)) (inl (some, told)) none same later = absurd (some empty)
-refused_next l new e (inr (empty, inl last)) (inr (also, some, told)) none same later = absurd (some last)
-refused_next l new e (inr (empty, inr bad)) (inr (also, some, told)) none same later = inr (empty, record { met = bad; stays = same_left new.line l.line (none ∙ sym empty) same; ended = later; told = told })
+refused_next l new e (inl bad) (inl (some, reported)) none same later = inl (record { begins = bad.begins; none = bad.none; ended = none; reported = reported }, later)
+refused_next l new e (inl bad) (inr (empty, some, reported)) none same later = let w : 92 ∷ bad.begins.0 ≡ [] = sym bad.begins.1 ∙ empty in cc
+refused_next l new e (inr (empty, next)) (inl (some, reported)) none same later = absurd (some empty)
+refused_next l new e (inr (empty, inl last)) (inr (also, some, reported)) none same later = absurd (some last)
+refused_next l new e (inr (empty, inr bad)) (inr (also, some, reported)) none same later = inr (empty, record { met = bad; stays = same_left new.line l.line (none ∙ sym empty) same; ended = later; reported = reported })
 
 -- where no part is next stands the end or a refusal
 pub ends_there : (l : LinesLeft) (r : Result (Unit {0}) Diagnostic) → NoPartNext l → LinesEndIs l r → MatchResult r (λ _. LinesRunTo l [] None) (λ e. LinesRunTo l [] (Some e))

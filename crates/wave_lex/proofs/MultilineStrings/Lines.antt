@@ -60,8 +60,8 @@ too_few line k n l h x e =
 -- a line with enough spaces
 pub indented : (line y : List ℕ) (k n : ℕ) → n ≤ k → k ≤ length line → ((i : ℕ) → i < k → get_or line i 0 ≡ 32) → DropsReturn (drop n line) y → IsIndented n line y
 indented line y k n l m h d =
-    let front : take n line ≡ spaces n = spaces_taken line n (omega arith) (λ i j. h i (omega arith)) in
-    (drop n line, sym (take-append-drop n line) ∙ ap (λ (z : List ℕ). z ++ drop n line) front, d)
+    let prefix : take n line ≡ spaces n = spaces_taken line n (omega arith) (λ i j. h i (omega arith)) in
+    (drop n line, sym (take-append-drop n line) ∙ ap (λ (z : List ℕ). z ++ drop n line) prefix, d)
 
 -- ---- pieces
 
@@ -138,8 +138,8 @@ pub pieces_before : (s : List ℕ) (n : ℕ) → n < length s → get_or s n 0 �
 pieces_before s n l e h =
     let fits : n ≤ length s = omega arith in
     let long : length (take n s) ≡ n = length-take-le n s fits in
-    let front : pieces (take n s) ≡ take n s ∷ [] = pieces_none (take n s) (λ i m f. let k : i < n = omega arith in h i k (sym (take_at s n i k fits) ∙ f)) in
-    ap pieces (split_at s n 10 l e) ∙ (pieces_append (take n s) (drop (suc n) s) ∙ (ap (λ (z : List (List ℕ)). z ++ pieces (drop (suc n) s)) front ∙ ap (λ (z : List ℕ). take n s ∷ pieces z) (next_drop s n)))
+    let prefix : pieces (take n s) ≡ take n s ∷ [] = pieces_none (take n s) (λ i m f. let k : i < n = omega arith in h i k (sym (take_at s n i k fits) ∙ f)) in
+    ap pieces (split_at s n 10 l e) ∙ (pieces_append (take n s) (drop (suc n) s) ∙ (ap (λ (z : List (List ℕ)). z ++ pieces (drop (suc n) s)) prefix ∙ ap (λ (z : List ℕ). take n s ∷ pieces z) (next_drop s n)))
 
 -- the lines that a line feed ends, after the first of them
 pub ended_behind : (s line behind : List ℕ) → pieces s ≡ line ∷ pieces behind → ended_lines s ≡ line ∷ ended_lines behind
@@ -185,8 +185,8 @@ pieces_ended s zero h = behind_none s zero h
 pieces_ended s (suc n) h =
     let whole : s ≡ take n s ++ 10 ∷ drop (suc n) s = split_feed s n h in
     let fits : suc n ≤ length s = h.fits in
-    let front : take (suc n) s ≡ take n s ++ 10 ∷ [] = take_one s n (omega arith) (feed_at s n h) in
-    let lines : ended_lines (take (suc n) s) ≡ pieces (take n s) = ap ended_lines front ∙ (ap but_last (pieces_append (take n s) []) ∙ but_last_append (pieces (take n s)) []) in
+    let prefix : take (suc n) s ≡ take n s ++ 10 ∷ [] = take_one s n (omega arith) (feed_at s n h) in
+    let lines : ended_lines (take (suc n) s) ≡ pieces (take n s) = ap ended_lines prefix ∙ (ap but_last (pieces_append (take n s) []) ∙ but_last_append (pieces (take n s)) []) in
     ap pieces whole ∙ (pieces_append (take n s) (drop (suc n) s) ∙ (ap (λ (z : List (List ℕ)). pieces (take n s) ++ z) (behind_none s (suc n) h) ∙ ap (λ (z : List (List ℕ)). z ++ drop (suc n) s ∷ []) (sym lines)))
   where
     take_one : (s : List ℕ) (n : ℕ) → n < length s → get_or s n 0 ≡ 10 → take (suc n) s ≡ take n s ++ 10 ∷ []

@@ -28,9 +28,9 @@ occurs_between : (x needle y s : List ℕ) → s ≡ x ++ (needle ++ y) → Occu
 occurs_between x needle y s e =
     let long : length s ≡ length x + (length needle + length y) = ap length e ∙ (length-append x (needle ++ y) ∙ ap (λ (z : ℕ). length x + z) (length-append needle y)) in
     let same : take (length x) s ++ drop (length x) s ≡ x ++ (needle ++ y) = take-append-drop (length x) s ∙ e in
-    let front : take (length x) s ≡ x = ap (λ (z : List ℕ). take (length x) z) e ∙ take-append_seam x (needle ++ y) in
+    let prefix : take (length x) s ≡ x = ap (λ (z : List ℕ). take (length x) z) e ∙ take-append_seam x (needle ++ y) in
     let behind : drop (length x) s ≡ needle ++ y =
-    append_cancel_left x (drop (length x) s) (needle ++ y) (sym (ap (λ (z : List ℕ). z ++ drop (length x) s) front) ∙ same) in
+    append_cancel_left x (drop (length x) s) (needle ++ y) (sym (ap (λ (z : List ℕ). z ++ drop (length x) s) prefix) ∙ same) in
     OccursAt-from_part s needle (length x) (omega arith) (ap (λ (z : List ℕ). take (length needle) z) behind ∙ take-append_seam needle y)
 
 -- the bytes of scalars and three quotes
@@ -115,14 +115,14 @@ no_further inside cs n j spelled there c = elim (cases_lt n (length (encode_utf8
       let two : length (encode_utf8_all c.scalars ++ codes "\"\"") ≡ length (encode_utf8_all c.scalars) + 2 = length-append (encode_utf8_all c.scalars) (codes "\"\"") in
       let fits : n + 3 ≤ length inside = there.fits in
       let more : length (encode_utf8_all c.scalars) + 2 ≡ n + 3 + (length (encode_utf8_all c.scalars) - n - 1) = omega arith in
-      let front : take (length (encode_utf8_all c.scalars) + 2) inside ≡ encode_utf8_all c.scalars ++ codes "\"\"" =
+      let prefix : take (length (encode_utf8_all c.scalars) + 2) inside ≡ encode_utf8_all c.scalars ++ codes "\"\"" =
       ap (λ (z : ℕ). take z inside) (sym two)
       ∙ (ap (λ (z : List ℕ). take (length (encode_utf8_all c.scalars ++ codes "\"\"")) z) whole ∙ take-append_seam (encode_utf8_all c.scalars ++ codes "\"\"") (34 ∷ c.rest)) in
       let through : take (n + 3) inside ≡ encode_utf8_all (cs ++ three_quotes) =
       take_plus inside n 3 (omega arith) ∙ (ap (λ (z : List ℕ). take n inside ++ z) (OccursAt-part inside three_quotes n there)
       ∙ sym (quoted_behind cs ∙ ap (λ (z : List ℕ). z ++ three_quotes) spelled)) in
       let parts : encode_utf8_all (c.scalars ++ codes "\"\"") ≡ encode_utf8_all (cs ++ three_quotes) ++ take (length (encode_utf8_all c.scalars) - n - 1) (drop (n + 3) inside) =
-      two_quotes c.scalars ∙ (sym front ∙ (ap (λ (z : ℕ). take z inside) more ∙ (take_plus inside (n + 3) (length (encode_utf8_all c.scalars) - n - 1) fits
+      two_quotes c.scalars ∙ (sym prefix ∙ (ap (λ (z : ℕ). take z inside) more ∙ (take_plus inside (n + 3) (length (encode_utf8_all c.scalars) - n - 1) fits
       ∙ ap (λ (z : List ℕ). z ++ take (length (encode_utf8_all c.scalars) - n - 1) (drop (n + 3) inside)) through))) in
       let b = begins (cs ++ three_quotes) (c.scalars ++ codes "\"\"") (take (length (encode_utf8_all c.scalars) - n - 1) (drop (n + 3) inside)) parts in
       absurd (c.none cs (drop (length (cs ++ three_quotes)) (c.scalars ++ codes "\"\""))
@@ -147,13 +147,13 @@ greatest_through s inside n e u (first, there) =
     let long : length s ≡ length (three_quotes ++ inside) = ap length e in
     let spelled : encode_utf8_all (chars (take n inside)) ≡ take n inside = encodes-chars (take n inside) (IsUtf8-take inside n u (before_quote inside n there)) in
     let six : n + 6 ≡ suc (suc (suc (n + 3))) = omega arith in
-    let front : take (n + 6) s ≡ three_quotes ++ (take n inside ++ three_quotes) =
+    let prefix : take (n + 6) s ≡ three_quotes ++ (take n inside ++ three_quotes) =
     ap (λ (z : ℕ). take z s) six ∙ (ap (λ (z : List ℕ). take (suc (suc (suc (n + 3)))) z) e ∙ ap (λ (z : List ℕ). three_quotes ++ z)
     (take_plus inside n 3 (omega arith) ∙ ap (λ (z : List ℕ). take n inside ++ z) (OccursAt-part inside three_quotes n there))) in (
       record {
         scalars = three_quotes ++ (chars (take n inside) ++ three_quotes);
         fits = omega arith;
-        spelled = quoted_around (chars (take n inside)) ∙ (ap (λ (z : List ℕ). three_quotes ++ (z ++ three_quotes)) spelled ∙ sym front);
+        spelled = quoted_around (chars (take n inside)) ∙ (ap (λ (z : List ℕ). three_quotes ++ (z ++ three_quotes)) spelled ∙ sym prefix);
         has = through_from _ (chars (take n inside), refl, none_earlier inside (chars (take n inside)) n spelled first there);
       },
       λ j f. no_further inside (chars (take n inside)) n j spelled there (closed s inside j e f),

@@ -12,9 +12,9 @@ use Rattle.memchr.specs.Find.{IsFirstByte, is_byte3}
 use Rattle.wave_lex.specs.Regex.{Regex, nothing, empty, is_within}
 use Rattle.wave_lex.specs.Derive.{nullable, derivative, derivative_by, after_next}
 use Rattle.wave_lex.specs.LongestMatch.{Greatest, IsPrefixOf}
-use Rattle.wave_lex.specs.Tokens.{one, string, gap, number, label_or_keyword}
+use Rattle.wave_lex.specs.Tokens.{one, string, whitespace, number, label_or_keyword}
 use Rattle.wave_lex.specs.Private.Reading.{LeadsTo, IsPlainRun}
-use Rattle.wave_lex.specs.Private.Machines.{after_sign, is_blank, is_plain, ends_whole, gap_step, gap_rest}
+use Rattle.wave_lex.specs.Private.Machines.{after_sign, is_blank, is_plain, ends_whole, whitespace_step, whitespace_rest}
 use Rattle.wave_lex.specs.Machines.{is_digit, is_lower, number_step, number_rest, label_step, label_token_step, label_token_rest, in_token, string_step, string_rest}
 use Rattle.wave_lex.specs.declared.machine.number.NumberState.{NumberState}
 use Rattle.wave_lex.specs.declared.machine.number.NumberState.TheVariants as n
@@ -22,23 +22,23 @@ use Rattle.wave_lex.specs.declared.machine.label.LabelState.{LabelState}
 use Rattle.wave_lex.specs.declared.machine.label.LabelState.TheVariants as l
 use Rattle.wave_lex.specs.declared.machine.label.LabelTokenState.{LabelTokenState}
 use Rattle.wave_lex.specs.declared.machine.label.LabelTokenState.TheVariants as token
-use Rattle.wave_lex.specs.declared.machine.gap.GapState.{GapState}
-use Rattle.wave_lex.specs.declared.machine.gap.GapState.TheVariants as gap
+use Rattle.wave_lex.specs.declared.machine.whitespace.WhitespaceState.{WhitespaceState}
+use Rattle.wave_lex.specs.declared.machine.whitespace.WhitespaceState.TheVariants as whitespace
 use Rattle.wave_lex.specs.declared.machine.escape.EscapeState.TheVariants as escape
 use Rattle.wave_lex.specs.declared.machine.string.StringState.{StringState}
 use Rattle.wave_lex.specs.declared.machine.string.StringState.TheVariants as string
 use Rattle.wave_lex.proofs.LongestPrefix.MachineWalks.{after_all_append, after_all_nothing}
-use Rattle.wave_lex.proofs.Machines.Steps.{gap_steps, number_steps, label_token_steps, string_steps}
-use Rattle.wave_lex.proofs.QuickScan.Prefixes.{front_behind, PassesNone, behind_run, ascii_leads, empty_front, first_byte, leads_on, run_stays, run_leads, run_ends}
+use Rattle.wave_lex.proofs.Machines.Steps.{whitespace_steps, number_steps, label_token_steps, string_steps}
+use Rattle.wave_lex.proofs.QuickScan.Prefixes.{prefix_behind, PassesNone, behind_run, ascii_leads, empty_prefix, first_byte, leads_on, run_stays, run_leads, run_ends}
 
 -- ---- blanks
 
 pub blank_ascii : (b : ℕ) → is_blank b ≡ true → b < 128
 blank_ascii b e = grind (arith, nat_tests)
 
-pub blank_stays : (b : ℕ) → is_blank b ≡ true → derivative b (gap_rest gap.Start) ≡ gap_rest gap.Start
+pub blank_stays : (b : ℕ) → is_blank b ≡ true → derivative b (whitespace_rest whitespace.Start) ≡ whitespace_rest whitespace.Start
 blank_stays b e =
-    gap_steps gap.Start b ∙ ap (λ (z : Bool). after_next GapState gap_rest (if z then Some gap.Start else (if nat_eq b 47 then Some gap.Slash else None))) e
+    whitespace_steps whitespace.Start b ∙ ap (λ (z : Bool). after_next WhitespaceState whitespace_rest (if z then Some whitespace.Start else (if nat_eq b 47 then Some whitespace.Slash else None))) e
 
 -- ---- digits
 
@@ -177,12 +177,12 @@ pub plain_joined : (s t u : List ℕ) (k n m : ℕ) → k ≤ length s → t ≡
 plain_joined s t u k n m fits e f all run rest =
     let long : length u ≡ length s - k = ap length f ∙ length-drop k s in
     let inside : m ≤ length u = rest.within in
-    let front : (i : ℕ) → i < k → get_or t i 0 ≡ get_or s i 0 = λ i l. ap (λ (z : List ℕ). get_or z i 0) e ∙ get_or-take k s i 0 l in
+    let prefix : (i : ℕ) → i < k → get_or t i 0 ≡ get_or s i 0 = λ i l. ap (λ (z : List ℕ). get_or z i 0) e ∙ get_or-take k s i 0 l in
     let behind : (i : ℕ) → get_or u i 0 ≡ get_or s (k + i) 0 = λ i. ap (λ (z : List ℕ). get_or z i 0) f ∙ get_or-drop k s i 0 in
     record {
       within = omega arith;
       all = λ i l. elim (cases_lt i k) as (λ _. is_plain (get_or s i 0) ≡ true) [
-        | inl less ↦ sym (ap is_plain (front i less)) ∙ run.all i (omega arith)
+        | inl less ↦ sym (ap is_plain (prefix i less)) ∙ run.all i (omega arith)
         | inr more ↦ let same : k + (i - k) ≡ i = omega arith in
             sym (ap is_plain (behind (i - k) ∙ ap (λ (z : ℕ). get_or s z 0) same)) ∙ rest.all (i - k) (omega arith)
       ];
@@ -252,9 +252,9 @@ mark_taken m = grind (arith, nat_tests)
 mark_first : (s : List ℕ) (m : ℕ) → m < 128 → 0 < length s → get_or s 0 0 ≡ m → Greatest (IsPrefixOf (one m) s) (Some 1)
 mark_first s m a l e =
     let leads : derivative m (one m) ≡ empty = rw (mark_taken m) refl in
-    front_behind (one m) empty s (drop 1 s) 1 0 refl
+    prefix_behind (one m) empty s (drop 1 s) 1 0 refl
     (record { scalars = m ∷ []; fits = omega arith; spelled = ap (λ (z : List ℕ). z ++ []) (encode_ascii m a) ∙ sym (first_and_others s 0 m l e); has = leads })
-    (empty_front (drop 1 s))
+    (empty_prefix (drop 1 s))
 
 -- a mark at the start of the bytes
 pub mark_here : (s b : List ℕ) (m : ℕ) → b ≡ s → m < 128 → 0 < length b → get_or b 0 0 ≡ m → Greatest (IsPrefixOf (one m) s) (Some 1)
@@ -273,9 +273,9 @@ pub lowers_cut : (s b : List ℕ) (n : ℕ) → b ≡ s → IsUtf8 s → n ≤ l
 lowers_cut s b n e u l h = run_cut is_lower s b n lower_ascii e u l h
 
 -- blanks lead to what may follow in whitespace
-pub blanks_lead : (s b : List ℕ) (n : ℕ) → b ≡ s → n ≤ length b → ((i : ℕ) → i < n → is_blank (get_or b i 0) ≡ true) → LeadsTo gap gap s n
-blanks_lead s b n e l h = subst (λ (z : List ℕ). LeadsTo gap gap z n) e
-    (ascii_leads gap gap b n l (λ i k. blank_ascii (get_or b i 0) (h i k)) (run_stays gap b n l (λ i k. blank_stays (get_or b i 0) (h i k))))
+pub blanks_lead : (s b : List ℕ) (n : ℕ) → b ≡ s → n ≤ length b → ((i : ℕ) → i < n → is_blank (get_or b i 0) ≡ true) → LeadsTo whitespace whitespace s n
+blanks_lead s b n e l h = subst (λ (z : List ℕ). LeadsTo whitespace whitespace z n) e
+    (ascii_leads whitespace whitespace b n l (λ i k. blank_ascii (get_or b i 0) (h i k)) (run_stays whitespace b n l (λ i k. blank_stays (get_or b i 0) (h i k))))
 
 -- digits lead from the sign to what may follow in the whole part of a number
 whole_leads : (d : List ℕ) (p k : ℕ) → 0 < k → k ≤ length d → ((i : ℕ) → i < k → is_digit (get_or d i 0) ≡ true) → get_or d 0 0 ≢ 48 → LeadsTo (number_rest (after_sign p)) (number_rest n.Whole) d k
@@ -295,30 +295,30 @@ lowers_lead s b n e p fits h f = subst (λ (z : List ℕ). LeadsTo label_or_keyw
 
 -- ---- where a run ends
 
-gap_none : (c : ℕ) → is_blank c ≡ false → c ≢ 47 → gap_step gap.Start c ≡ None
-gap_none c e f = grind (arith, nat_tests)
+whitespace_none : (c : ℕ) → is_blank c ≡ false → c ≢ 47 → whitespace_step whitespace.Start c ≡ None
+whitespace_none c e f = grind (arith, nat_tests)
 
-gap_dead : (c : ℕ) → is_blank c ≡ false → c ≢ 47 → derivative c gap ≡ nothing
-gap_dead c e f = gap_steps gap.Start c ∙ ap (after_next GapState gap_rest) (gap_none c e f)
+whitespace_dead : (c : ℕ) → is_blank c ≡ false → c ≢ 47 → derivative c whitespace ≡ nothing
+whitespace_dead c e f = whitespace_steps whitespace.Start c ∙ ap (after_next WhitespaceState whitespace_rest) (whitespace_none c e f)
 
 blank_past : (c : ℕ) → 128 ≤ c → is_blank c ≡ false
 blank_past c l = grind (arith, nat_tests)
 
 -- blanks are the whitespace, where no slash follows
 pub blanks_end : (s b : List ℕ) (n : ℕ) → b ≡ s → n ≤ length b → ((i : ℕ) → i < n → is_blank (get_or b i 0) ≡ true) → (n < length b → is_blank (get_or b n 0) ≡ false)
-    → (n < length b → get_or b n 0 ≢ 47) → Greatest (IsPrefixOf gap s) (Some n)
-blanks_end s b n e l h stops other = subst (λ (z : List ℕ). Greatest (IsPrefixOf gap z) (Some n)) e
-    (run_ends gap gap b n (blanks_lead b b n refl l h) refl (λ c k. gap_dead c (blank_past c k) (λ w. let x : c ≡ 47 = w in omega arith)) (λ k. gap_dead (get_or b n 0) (stops k) (other k)))
+    → (n < length b → get_or b n 0 ≢ 47) → Greatest (IsPrefixOf whitespace s) (Some n)
+blanks_end s b n e l h stops other = subst (λ (z : List ℕ). Greatest (IsPrefixOf whitespace z) (Some n)) e
+    (run_ends whitespace whitespace b n (blanks_lead b b n refl l h) refl (λ c k. whitespace_dead c (blank_past c k) (λ w. let x : c ≡ 47 = w in omega arith)) (λ k. whitespace_dead (get_or b n 0) (stops k) (other k)))
 
 behind_blanks : (c : ℕ) → 32 < c → is_blank c ≡ false
 behind_blanks c l = grind (arith, nat_tests)
 
 -- no whitespace begins with a byte after the blanks that is no slash
-pub no_gap : (s b : List ℕ) → b ≡ s → 32 < get_or b 0 0 → get_or b 0 0 ≢ 47 → Greatest (IsPrefixOf gap s) (Some 0)
-no_gap s b e l f = blanks_end s b 0 e (omega arith) (λ i k. let w : ⊥ = omega arith in absurd w) (λ _. behind_blanks (get_or b 0 0) l) (λ _. f)
+pub no_whitespace : (s b : List ℕ) → b ≡ s → 32 < get_or b 0 0 → get_or b 0 0 ≢ 47 → Greatest (IsPrefixOf whitespace s) (Some 0)
+no_whitespace s b e l f = blanks_end s b 0 e (omega arith) (λ i k. let w : ⊥ = omega arith in absurd w) (λ _. behind_blanks (get_or b 0 0) l) (λ _. f)
 
 -- one space before such a byte is the whitespace
-pub one_blank : (s b : List ℕ) → b ≡ s → 1 < length b → get_or b 0 0 ≡ 32 → 32 < get_or b 1 0 → get_or b 1 0 ≢ 47 → Greatest (IsPrefixOf gap s) (Some 1)
+pub one_blank : (s b : List ℕ) → b ≡ s → 1 < length b → get_or b 0 0 ≡ 32 → 32 < get_or b 1 0 → get_or b 1 0 ≢ 47 → Greatest (IsPrefixOf whitespace s) (Some 1)
 one_blank s b e long space l f = blanks_end s b 1 e (omega arith) (λ i k. let first : i ≡ 0 = omega arith in ap (λ (z : ℕ). is_blank (get_or b z 0)) first ∙ ap is_blank space) (λ _. behind_blanks (get_or b 1 0) l) (λ _. f)
 
 number_none : (c : ℕ) → is_digit c ≡ false → ends_whole c ≡ true → number_step n.Whole c ≡ None
@@ -342,13 +342,13 @@ zero_dead c e = number_steps n.Zero c ∙ ap (after_next NumberState number_rest
 -- the sign and the digits are the number, where no fraction or exponent follows
 pub digits_end : (s d : List ℕ) (p k : ℕ) → d ≡ drop p s → LeadsTo number (number_rest (after_sign p)) s p → 0 < k → k ≤ length d → ((i : ℕ) → i < k → is_digit (get_or d i 0) ≡ true) → get_or d 0 0 ≢ 48
     → (k < length d → is_digit (get_or d k 0) ≡ false) → (k < length d → ends_whole (get_or d k 0) ≡ true) → Greatest (IsPrefixOf number s) (Some (p + k))
-digits_end s d p k e sign some fits h f stops other = front_behind number (number_rest (after_sign p)) s d p k e sign
+digits_end s d p k e sign some fits h f stops other = prefix_behind number (number_rest (after_sign p)) s d p k e sign
     (run_ends (number_rest (after_sign p)) (number_rest n.Whole) d k (whole_leads d p k some fits h f) refl (λ c m. number_dead c (digit_past c m) (whole_past c m)) (λ m. number_dead (get_or d k 0) (stops m) (other m)))
 
 -- the sign and a 0 are the number, where no fraction or exponent follows
 pub zero_end : (s d : List ℕ) (p : ℕ) → d ≡ drop p s → LeadsTo number (number_rest (after_sign p)) s p → 0 < length d → get_or d 0 0 ≡ 48 → (1 < length d → ends_whole (get_or d 1 0) ≡ true)
     → Greatest (IsPrefixOf number s) (Some (p + 1))
-zero_end s d p e sign some first other = front_behind number (number_rest (after_sign p)) s d p 1 e sign
+zero_end s d p e sign some first other = prefix_behind number (number_rest (after_sign p)) s d p 1 e sign
     (run_ends (number_rest (after_sign p)) (number_rest n.Zero) d 1 (first_byte (number_rest (after_sign p)) (number_rest n.Zero) 48 d d refl (omega arith) (zero_first p) some first) refl
     (λ c m. zero_dead c (whole_past c m)) (λ m. zero_dead (get_or d 1 0) (other m)))
 

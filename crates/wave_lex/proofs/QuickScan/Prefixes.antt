@@ -13,7 +13,7 @@ use Rattle.wave_lex.specs.Derive.{nullable, derivative, derivative_by}
 use Rattle.wave_lex.specs.LongestMatch.{Greatest, IsPrefixOf}
 use Rattle.wave_lex.specs.Private.Reading.{LeadsTo}
 use Rattle.wave_lex.proofs.RegularShapes.Derivatives.{matches_from, matches_into, empty_from}
-use Rattle.wave_lex.proofs.LongestPrefix.MachineWalks.{front_boundary, after_all_append, after_all_nothing, begins}
+use Rattle.wave_lex.proofs.LongestPrefix.MachineWalks.{prefix_boundary, after_all_append, after_all_nothing, begins}
 use Rattle.wave_lex.proofs.LongestPrefix.ByComputing.{is_ascii, ascii_spelled}
 
 -- one part and the next
@@ -37,14 +37,14 @@ leads_on r q w s t p k e h f =
     }
 
 -- a prefix of the rest, with what was read, is a prefix
-front_joined : (r q : Regex) (s t : List ℕ) (p k : ℕ) → t ≡ drop p s → LeadsTo r q s p → IsPrefixOf q t k → IsPrefixOf r s (p + k)
-front_joined r q s t p k e h f =
+prefix_joined : (r q : Regex) (s t : List ℕ) (p k : ℕ) → t ≡ drop p s → LeadsTo r q s p → IsPrefixOf q t k → IsPrefixOf r s (p + k)
+prefix_joined r q s t p k e h f =
     let on = leads_on r q (derivative_by f.scalars q) s t p k e h (record { scalars = f.scalars; fits = f.fits; spelled = f.spelled; has = refl }) in
     record { scalars = on.scalars; fits = on.fits; spelled = on.spelled; has = matches_from on.scalars r (ap nullable on.has ∙ matches_into f.scalars q f.has) }
 
 -- a longer prefix is a prefix of the rest
-front_left : (r q : Regex) (s t : List ℕ) (p k : ℕ) → t ≡ drop p s → LeadsTo r q s p → IsPrefixOf r s (p + k) → IsPrefixOf q t k
-front_left r q s t p k e h f =
+prefix_left : (r q : Regex) (s t : List ℕ) (p k : ℕ) → t ≡ drop p s → LeadsTo r q s p → IsPrefixOf r s (p + k) → IsPrefixOf q t k
+prefix_left r q s t p k e h f =
     let long : length t ≡ length (drop p s) = ap length e in
     let fits : p ≤ length s = h.fits in
     let inside : p + k ≤ length s = f.fits in
@@ -66,20 +66,20 @@ front_left r q s t p k e h f =
     }
 
 -- the longest prefix of the rest, with what was read, is the longest
-pub front_behind : (r q : Regex) (s t : List ℕ) (p k : ℕ) → t ≡ drop p s → LeadsTo r q s p → Greatest (IsPrefixOf q t) (Some k) → Greatest (IsPrefixOf r s) (Some (p + k))
-front_behind r q s t p k e h g = (
-  front_joined r q s t p k e h g.0,
+pub prefix_behind : (r q : Regex) (s t : List ℕ) (p k : ℕ) → t ≡ drop p s → LeadsTo r q s p → Greatest (IsPrefixOf q t) (Some k) → Greatest (IsPrefixOf r s) (Some (p + k))
+prefix_behind r q s t p k e h g = (
+  prefix_joined r q s t p k e h g.0,
   λ j (f : IsPrefixOf r s j). elim (cases_lt p j) as (λ _. j ≤ p + k) [
     | inr l ↦ omega arith
     | inl l ↦ let same : j ≡ p + (j - p) = omega arith in
-        let less : j - p ≤ k = g.1 (j - p) (front_left r q s t p (j - p) e h (subst (λ (z : ℕ). IsPrefixOf r s z) same f)) in
+        let less : j - p ≤ k = g.1 (j - p) (prefix_left r q s t p (j - p) e h (subst (λ (z : ℕ). IsPrefixOf r s z) same f)) in
         omega arith
   ],
 )
 
 -- the shape of no scalar has the prefix of no byte alone
-pub empty_front : (t : List ℕ) → Greatest (IsPrefixOf empty t) (Some 0)
-empty_front t = (
+pub empty_prefix : (t : List ℕ) → Greatest (IsPrefixOf empty t) (Some 0)
+empty_prefix t = (
   record { scalars = []; fits = omega arith; spelled = refl; has = refl },
   λ j f.
       let fits : j ≤ length t = f.fits in
@@ -92,7 +92,7 @@ empty_front t = (
 pub scalar_behind : (r q : Regex) (s t : List ℕ) (c k : ℕ) → s ≡ encode_utf8 c ++ t → derivative c r ≡ q → Greatest (IsPrefixOf q t) (Some k) → Greatest (IsPrefixOf r s) (Some (length (encode_utf8 c) + k))
 scalar_behind r q s t c k e h g =
     let long : length s ≡ length (encode_utf8 c) + length t = ap length e ∙ length-append (encode_utf8 c) t in
-    front_behind r q s t (length (encode_utf8 c)) k (sym (ap (drop (length (encode_utf8 c))) e ∙ drop-append_seam (encode_utf8 c) t))
+    prefix_behind r q s t (length (encode_utf8 c)) k (sym (ap (drop (length (encode_utf8 c))) e ∙ drop-append_seam (encode_utf8 c) t))
     (record { scalars = c ∷ []; fits = omega arith; spelled = append-nil (encode_utf8 c) ∙ sym (ap (take (length (encode_utf8 c))) e ∙ take-append_seam (encode_utf8 c) t); has = h })
     g
 
@@ -104,7 +104,7 @@ PassesNone r q = (x y : List ℕ) → nullable (derivative_by x r) ≡ true → 
 pub none_behind : (r q : Regex) (s t : List ℕ) (p : ℕ) → t ≡ drop p s → LeadsTo r q s p → PassesNone r q → Greatest (IsPrefixOf q t) None → Greatest (IsPrefixOf r s) None
 none_behind r q s t p e h quiet g = λ j (f : IsPrefixOf r s j). elim (cases_lt p j) as (λ _. ⊥) [
   | inl l ↦ let same : j ≡ p + (j - p) = omega arith in
-      g (j - p) (front_left r q s t p (j - p) e h (subst (λ (z : ℕ). IsPrefixOf r s z) same f))
+      g (j - p) (prefix_left r q s t p (j - p) e h (subst (λ (z : ℕ). IsPrefixOf r s z) same f))
   | inr l ↦ let fits : p ≤ length s = h.fits in
       let same : p ≡ j + (p - j) = omega arith in
       let inside : j ≤ length s = omega arith in
@@ -117,8 +117,8 @@ none_behind r q s t p e h quiet g = λ j (f : IsPrefixOf r s j). elim (cases_lt 
 ]
 
 -- where the shape may be empty there is a prefix
-pub front_there : (q : Regex) (t : List ℕ) → nullable q ≡ true → Greatest (IsPrefixOf q t) None → ⊥
-front_there q t e h = h 0 (record { scalars = []; fits = omega arith; spelled = refl; has = empty_from q e })
+pub prefix_there : (q : Regex) (t : List ℕ) → nullable q ≡ true → Greatest (IsPrefixOf q t) None → ⊥
+prefix_there q t e h = h 0 (record { scalars = []; fits = omega arith; spelled = refl; has = empty_from q e })
 
 -- bytes of ASCII are ASCII
 run_ascii : (s : List ℕ) (n : ℕ) → n ≤ length s → ((i : ℕ) → i < n → get_or s i 0 < 128) → is_ascii (take n s) ≡ true
@@ -186,7 +186,7 @@ any_text (c ∷ cs) = any_text cs
 
 -- a text may be split after what leads to a shape
 pub lead_boundary : (r q : Regex) (s : List ℕ) (k : ℕ) → IsUtf8 s → LeadsTo r q s k → IsCharBoundary s k
-lead_boundary r q s k u h = front_boundary (star any) s k u (record { scalars = h.scalars; fits = h.fits; spelled = h.spelled; has = matches_from h.scalars (star any) (any_text h.scalars) })
+lead_boundary r q s k u h = prefix_boundary (star any) s k u (record { scalars = h.scalars; fits = h.fits; spelled = h.spelled; has = matches_from h.scalars (star any) (any_text h.scalars) })
 
 -- a prefix of which no scalar may be the first is empty
 no_more : (q : Regex) (t : List ℕ) (j : ℕ) (cs : List ℕ) → j ≤ length t → encode_utf8_all cs ≡ take j t → Matches q cs → ((c : ℕ) (rest : List ℕ) → t ≡ encode_utf8 c ++ rest → derivative c q ≡ nothing) → j ≤ 0
@@ -198,8 +198,8 @@ no_more q t j (c ∷ cs) l e m h =
     let wrong : false ≡ true = sym (ap nullable dead) ∙ matches_into (c ∷ cs) q m in cc
 
 -- where no scalar may follow, the longest prefix is empty
-front_ends : (q : Regex) (t : List ℕ) → nullable q ≡ true → ((c : ℕ) (rest : List ℕ) → t ≡ encode_utf8 c ++ rest → derivative c q ≡ nothing) → Greatest (IsPrefixOf q t) (Some 0)
-front_ends q t e h = (record { scalars = []; fits = omega arith; spelled = refl; has = empty_from q e }, λ j f. no_more q t j f.scalars f.fits f.spelled f.has h)
+prefix_ends : (q : Regex) (t : List ℕ) → nullable q ≡ true → ((c : ℕ) (rest : List ℕ) → t ≡ encode_utf8 c ++ rest → derivative c q ≡ nothing) → Greatest (IsPrefixOf q t) (Some 0)
+prefix_ends q t e h = (record { scalars = []; fits = omega arith; spelled = refl; has = empty_from q e }, λ j f. no_more q t j f.scalars f.fits f.spelled f.has h)
 
 -- the first of the rest
 drop_first : (s : List ℕ) (n c : ℕ) (rest : List ℕ) → drop n s ≡ c ∷ rest → (n < length s) × (get_or s n 0 ≡ c)
@@ -214,7 +214,7 @@ pub run_ends : (r q : Regex) (s : List ℕ) (n : ℕ) → LeadsTo r q s n → nu
 run_ends r q s n h e past dead =
     let same : n + 0 ≡ n = omega arith in
     let P : ℕ → Type 0 = λ z. Greatest (IsPrefixOf r s) (Some z) in
-    subst P same (front_behind r q s (drop n s) n 0 refl h (front_ends q (drop n s) e (λ c rest w. elim (cases_lt c 128) as (λ _. derivative c q ≡ nothing) [
+    subst P same (prefix_behind r q s (drop n s) n 0 refl h (prefix_ends q (drop n s) e (λ c rest w. elim (cases_lt c 128) as (λ _. derivative c q ≡ nothing) [
       | inr l ↦ past c (omega arith)
       | inl l ↦ let first = drop_first s n c rest (w ∙ ap (λ (z : List ℕ). z ++ rest) (encode_ascii c l)) in
           ap (λ (z : ℕ). derivative z q) (sym first.1) ∙ dead first.0

@@ -10,7 +10,7 @@ use Rattle.wave_lex.specs.Strings.{short_escape, IsEscape, UnescapesTo}
 use Rattle.wave_lex.specs.Private.Lines.{IsNumberAt}
 
 -- n digits are right: one to six, closed by `}`, the number of a scalar
-pub record Good (d : List ℕ) (n : ℕ) : Type 0 where
+pub record HasDistinctLabels (d : List ℕ) (n : ℕ) : Type 0 where
   pub some : 1 ≤ n
   pub few : n ≤ 6
   pub within : n < length d
@@ -45,7 +45,7 @@ counted (d ∷ ds) t (suc n) a h =
     (omega arith, r.1, ap (λ (z : List ℕ). d ∷ z) r.2, omega arith)
 
 -- where the digits are not right, no escape stands
-wrong : (s d e t : List ℕ) (n c : ℕ) → s ≡ 92 ∷ 117 ∷ 123 ∷ d → Counts d n → (Good d n → ⊥) → IsEscape e c → s ≡ e ++ t → ⊥
+wrong : (s d e t : List ℕ) (n c : ℕ) → s ≡ 92 ∷ 117 ∷ 123 ∷ d → Counts d n → (HasDistinctLabels d n → ⊥) → IsEscape e c → s ≡ e ++ t → ⊥
 wrong s d e t n c w h bad (inl a) q =
     let r : 92 ∷ 117 ∷ 123 ∷ d ≡ 92 ∷ a.0 ∷ t = sym w ∙ (q ∙ ap (λ (z : List ℕ). z ++ t) a.1) in
     let b : a.0 ≡ 117 = cc in
@@ -58,7 +58,7 @@ wrong s d e t n c w h bad (inr a) q =
     let long : n ≡ length a.digits = k.0 in
     let least : 1 ≤ length a.digits = a.some in
     let most : length a.digits ≤ 6 = a.few in
-    let P : List ℕ → Type 0 = λ z. Good z n in
+    let P : List ℕ → Type 0 = λ z. HasDistinctLabels z n in
     bad (subst P (sym r3) (record {
       some = omega arith;
       few = omega arith;
@@ -68,7 +68,7 @@ wrong s d e t n c w h bad (inr a) q =
     }))
 
 -- where the digits are not right, there is no escape
-pub none_long : (s d : List ℕ) (n : ℕ) → s ≡ 92 ∷ 117 ∷ 123 ∷ d → Counts d n → (Good d n → ⊥) → UnescapesTo s None
+pub none_long : (s d : List ℕ) (n : ℕ) → s ≡ 92 ∷ 117 ∷ 123 ∷ d → Counts d n → (HasDistinctLabels d n → ⊥) → UnescapesTo s None
 none_long s d n w h bad = λ e t c esc q. wrong s d e t n c w h bad esc q
 
 -- the digits counted are digits
@@ -85,12 +85,12 @@ split_at [] n l = let w : ⊥ = omega arith in absurd w
 split_at (b ∷ d) zero l = refl
 split_at (b ∷ d) (suc n) l = ap (λ (z : List ℕ). b ∷ z) (split_at d n (omega arith))
 
--- the digits and the `}` behind them are the front
+-- the digits and the `}` behind them are the prefix
 pub closed_at : (d : List ℕ) (n : ℕ) → n < length d → get_or d n 0 ≡ 125 → d ≡ (take n d ++ 125 ∷ []) ++ drop (suc n) d
 closed_at d n l e = split_at d n l ∙ (ap (λ (z : ℕ). take n d ++ (z ∷ drop (suc n) d)) e ∙ sym (append_assoc (take n d) (125 ∷ []) (drop (suc n) d)))
 
 -- where the digits are right, the escape is theirs
-pub some_long : (s d : List ℕ) (n c : ℕ) → s ≡ 92 ∷ 117 ∷ 123 ∷ d → Counts d n → Good d n → c ≡ digits_value 16 (take n d) → UnescapesTo s (Some (c, n + 4))
+pub some_long : (s d : List ℕ) (n c : ℕ) → s ≡ 92 ∷ 117 ∷ 123 ∷ d → Counts d n → HasDistinctLabels d n → c ≡ digits_value 16 (take n d) → UnescapesTo s (Some (c, n + 4))
 some_long s d n c w h g v =
     let within : n < length d = g.within in
     let cut : length (take n d) ≡ n = length-take-le n d (omega arith) in
@@ -217,10 +217,10 @@ few_are_all d f m n v e h k few inside =
     ]
 
 -- where the digits among the first six are not right, no escape stands
-pub none_few : (s d f : List ℕ) (n v : ℕ) → s ≡ 92 ∷ 117 ∷ 123 ∷ d → f ≡ take (min (length d) 6) d → IsNumberAt f n v → (Good d n → ⊥) → UnescapesTo s None
+pub none_few : (s d f : List ℕ) (n v : ℕ) → s ≡ 92 ∷ 117 ∷ 123 ∷ d → f ≡ take (min (length d) 6) d → IsNumberAt f n v → (HasDistinctLabels d n → ⊥) → UnescapesTo s None
 none_few s d f n v w e k bad =
     let (m, h) = count_of d in
-    none_long s d m w h (λ g. bad (subst (Good d) (sym (few_are_all d f m n v e h k g.few g.within)) g))
+    none_long s d m w h (λ g. bad (subst (HasDistinctLabels d) (sym (few_are_all d f m n v e h k g.few g.within)) g))
 
 -- where the digits among the first six are closed, they are all, and their number is that of the escape
 pub few_closed : (d f : List ℕ) (n v : ℕ) → f ≡ take (min (length d) 6) d → IsNumberAt f n v → n < length d → get_or d n 0 ≡ 125 → Counts d n × (n ≤ 6) × (v ≡ digits_value 16 (take n d))

@@ -1,6 +1,6 @@
 -- Where something is wrong with a string, it means nothing.
 use Rattle.std.proofs.Common.{◌≡◌, ℕ, ◌+◌, List, [], ◌∷◌, ◌++◌, inl, inr, sym, ap, subst, ◌∙◌, length, None, append_assoc}
-use Rattle.wave_lex.specs.Strings.{StringPiece, IsCutInto, Decodes, Undecodable, UnescapesTo, IsBadEscapeAt}
+use Rattle.wave_lex.specs.Strings.{StringPiece, IsSplitInto, Decodes, Undecodable, UnescapesTo, IsBadEscapeAt}
 use Rattle.wave_lex.specs.Multiline.{spaces, LineMeans, LinesMean, DecodesLines, LineFault, DropsReturn, Opens, OpensWell, closing_piece, BadLine, BadLines, BadBetween, MultilineFault, DecodingFunctional, FaultsRefuse}
 use Rattle.wave_lex.proofs.StringDecoding.OneMeaning.{plain_into, escape_into, char_once, string_once, multiline_once, drops_once, ends_once, length_spaces}
 use Rattle.std.proofs.lemmas.List.{append_cancel_left}
@@ -15,20 +15,20 @@ stuck rest t n (p ∷ ps, (inl a, x, y, es, et, cut)) =
 stuck rest t n (p ∷ ps, (inr a, x, y, es, et, cut)) = n p.source x a.0 a.1 es
 
 -- after what decodes
-stuck_behind : (front rest t u : List ℕ) (ps : List StringPiece) → IsCutInto front ps u → UnescapesTo (92 ∷ rest) None → Decodes (front ++ 92 ∷ rest) t → ⊥
-stuck_behind front rest t u [] c n d = stuck rest t n (subst (λ (z : List ℕ). Decodes (z ++ 92 ∷ rest) t) c.0 d)
-stuck_behind front rest t u (p ∷ ps) (inl a, x, y, es, et, cut) n d =
-    let q : front ≡ a.0 ∷ x = es ∙ ap (λ (z : StringPiece). z.source ++ x) a.2 in
+stuck_behind : (prefix rest t u : List ℕ) (ps : List StringPiece) → IsSplitInto prefix ps u → UnescapesTo (92 ∷ rest) None → Decodes (prefix ++ 92 ∷ rest) t → ⊥
+stuck_behind prefix rest t u [] c n d = stuck rest t n (subst (λ (z : List ℕ). Decodes (z ++ 92 ∷ rest) t) c.0 d)
+stuck_behind prefix rest t u (p ∷ ps) (inl a, x, y, es, et, cut) n d =
+    let q : prefix ≡ a.0 ∷ x = es ∙ ap (λ (z : StringPiece). z.source ++ x) a.2 in
     let more = plain_into a.0 (x ++ 92 ∷ rest) t a.1 (subst (λ (z : List ℕ). Decodes (z ++ 92 ∷ rest) t) q d) in
     stuck_behind x rest more.0 y ps cut n more.2
-stuck_behind front rest t u (p ∷ ps) (inr a, x, y, es, et, cut) n d =
-    let q : front ++ 92 ∷ rest ≡ p.source ++ (x ++ 92 ∷ rest) = ap (λ (z : List ℕ). z ++ 92 ∷ rest) es ∙ append_assoc p.source x (92 ∷ rest) in
+stuck_behind prefix rest t u (p ∷ ps) (inr a, x, y, es, et, cut) n d =
+    let q : prefix ++ 92 ∷ rest ≡ p.source ++ (x ++ 92 ∷ rest) = ap (λ (z : List ℕ). z ++ 92 ∷ rest) es ∙ append_assoc p.source x (92 ∷ rest) in
     let more = escape_into p.source (x ++ 92 ∷ rest) t a.0 a.1 (subst (λ (z : List ℕ). Decodes z t) q d) in
     stuck_behind x rest more.0 y ps cut n more.2
 
 -- what has a bad escape decodes to nothing
 pub bad_escape_refuses : (s : List ℕ) (i : ℕ) → IsBadEscapeAt s i → Undecodable s
-bad_escape_refuses s i (front, rest, u, whole, (ps, cut), none, place) t d = stuck_behind front rest t u ps cut none (subst (λ (z : List ℕ). Decodes z t) whole d)
+bad_escape_refuses s i (prefix, rest, u, whole, (ps, cut), none, place) t d = stuck_behind prefix rest t u ps cut none (subst (λ (z : List ℕ). Decodes z t) whole d)
 
 -- ---- lines
 
@@ -68,7 +68,7 @@ opens_well p (r ∷ ps) q h = h
 -- an inside with a fault means nothing
 fault_refuses : (s : List ℕ) (f : LineFault) → MultilineFault s f → (t : List ℕ) → DecodesLines s t → ⊥
 fault_refuses s f (inl (bad, e)) t d = bad (d.indent, ap closing_piece d.cut ∙ closing_last d.first d.between (spaces d.indent))
-fault_refuses s f (inr (inl (good, bad, e))) t d = bad (subst OpensWell (sym d.cut) (opens_well d.first d.between (spaces d.indent) d.opens))
+fault_refuses s f (inr (inl (labelled, bad, e))) t d = bad (subst OpensWell (sym d.cut) (opens_well d.first d.between (spaces d.indent) d.opens))
 fault_refuses s f (inr (inr b)) t d = bad_between s t f b d
 
 -- where something is wrong nothing is meant

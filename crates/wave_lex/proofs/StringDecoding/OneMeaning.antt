@@ -7,7 +7,7 @@ use Rattle.std.proofs.lemmas.List.{append_cancel_left, append_cancel_right, appe
 use Rattle.std.proofs.lemmas.Str.{encode_same}
 use Rattle.wave_lex.specs.Tokenization.{three_quotes}
 use Rattle.wave_lex.specs.Multiline.{DropsReturn, LineMeans, LinesMean, spaces, in_lines, DecodesLines, MultilineMeans}
-use Rattle.wave_lex.specs.Strings.{CharMeans, StringMeans, short_escape, IsEscape, StringPiece, IsCutInto, Decodes}
+use Rattle.wave_lex.specs.Strings.{CharMeans, StringMeans, short_escape, IsEscape, StringPiece, IsSplitInto, Decodes}
 
 -- an escape begins with `\`
 pub escape_head : (e : List ℕ) (c : ℕ) → IsEscape e c → (x : List ℕ) × (e ≡ 92 ∷ x)
@@ -68,7 +68,7 @@ plain_into b s t n (p ∷ ps, (inl a, x, y, es, et, cut)) =
     let r : t ≡ a.0 ∷ y = et ∙ ap (λ (z : StringPiece). z.meaning ++ y) a.2 in
     let s1 : a.0 ≡ b = cc in
     let s2 : x ≡ s = cc in
-    (y, r ∙ ap (λ (z : ℕ). z ∷ y) s1, (ps, subst (λ (z : List ℕ). IsCutInto z ps y) s2 cut))
+    (y, r ∙ ap (λ (z : ℕ). z ∷ y) s1, (ps, subst (λ (z : List ℕ). IsSplitInto z ps y) s2 cut))
 plain_into b s t n (p ∷ ps, (inr a, x, y, es, et, cut)) =
     let h = escape_head p.source a.0 a.1 in
     let q : b ∷ s ≡ 92 ∷ (h.0 ++ x) = es ∙ ap (λ (z : List ℕ). z ++ x) h.1 in
@@ -88,7 +88,7 @@ escape_into e s t c h (p ∷ ps, (inl a, x, y, es, et, cut)) =
     let wrong : a.0 ≡ 92 = cc in absurd (a.1 wrong)
 escape_into e s t c h (p ∷ ps, (inr a, x, y, es, et, cut)) =
     let v = escape_unique e p.source s x c a.0 h a.1 es in
-    (y, et ∙ (ap (λ (z : List ℕ). z ++ y) a.2 ∙ ap (λ (z : ℕ). encode_utf8 z ++ y) (sym v.0)), (ps, subst (λ (z : List ℕ). IsCutInto z ps y) (sym v.1) cut))
+    (y, et ∙ (ap (λ (z : List ℕ). z ++ y) a.2 ∙ ap (λ (z : ℕ). encode_utf8 z ++ y) (sym v.0)), (ps, subst (λ (z : List ℕ). IsSplitInto z ps y) (sym v.1) cut))
 
 -- an escape stands for its scalar
 pub escape_from : (e s t : List ℕ) (c : ℕ) → IsEscape e c → After (encode_utf8 c) s t → Decodes (e ++ s) t
@@ -104,7 +104,7 @@ empty_once t (p ∷ ps, (inr a, x, y, es, et, cut)) =
     let q : [] ≡ 92 ∷ (h.0 ++ x) = es ∙ ap (λ (z : List ℕ). z ++ x) h.1 in cc
 
 -- what is split into pieces decodes to nothing else
-once : (ps : List StringPiece) (s t u : List ℕ) → IsCutInto s ps t → Decodes s u → t ≡ u
+once : (ps : List StringPiece) (s t u : List ℕ) → IsSplitInto s ps t → Decodes s u → t ≡ u
 once [] s t u (es, et) d = et ∙ sym (empty_once u (subst (λ (z : List ℕ). Decodes z u) es d))
 once (p ∷ ps) s t u (inl a, x, y, es, et, cut) d =
     let q : s ≡ a.0 ∷ x = es ∙ ap (λ (z : StringPiece). z.source ++ x) a.2 in

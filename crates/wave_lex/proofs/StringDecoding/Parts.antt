@@ -16,7 +16,7 @@ use Rattle.wave_lex.specs.Errors.{Diagnostic}
 use Rattle.wave_lex.specs.declared.strings.StringPart.{StringPart}
 use Rattle.wave_lex.specs.declared.strings.StringPart.TheVariants.{Run, Char}
 use Rattle.wave_lex.specs.Strings.{short_escape, IsEscape, Decodes, UnescapesTo, IsBadEscapeAt}
-use Rattle.wave_lex.specs.Parts.{part_text, part_texts, TakesRun, TakesEscape, TellsBadEscape, MeetsBadEscape, BeginsNoEscape, PartIs, RunsTo, PartsJoin}
+use Rattle.wave_lex.specs.Parts.{part_text, part_texts, TakesRun, TakesEscape, ReportsBadEscape, MeetsBadEscape, BeginsNoEscape, PartIs, RunsTo, PartsJoin}
 use Rattle.wave_lex.specs.Remaining.{Undecoded}
 use Rattle.wave_lex.specs.Private.Runs.{IsRun}
 use Rattle.wave_lex.proofs.StringDecoding.OneMeaning.{plain_from, escape_from}
@@ -70,12 +70,12 @@ pub run_joined : (s t u : List ℕ) (k n m : ℕ) → k ≤ length s → t ≡ t
 run_joined s t u k n m fits e f all run rest =
     let long : length u ≡ length s - k = ap length f ∙ length-drop k s in
     let inside : m ≤ length u = rest.within in
-    let front : (i : ℕ) → i < k → get_or t i 0 ≡ get_or s i 0 = λ i l. ap (λ (z : List ℕ). get_or z i 0) e ∙ get_or-take k s i 0 l in
+    let prefix : (i : ℕ) → i < k → get_or t i 0 ≡ get_or s i 0 = λ i l. ap (λ (z : List ℕ). get_or z i 0) e ∙ get_or-take k s i 0 l in
     let behind : (i : ℕ) → get_or u i 0 ≡ get_or s (k + i) 0 = λ i. ap (λ (z : List ℕ). get_or z i 0) f ∙ get_or-drop k s i 0 in
     record {
       within = omega arith;
       before = λ i l. elim (cases_lt i k) as (λ _. get_or s i 0 ≢ 92) [
-        | inl less ↦ λ g. run.before i (omega arith) (front i less ∙ g)
+        | inl less ↦ λ g. run.before i (omega arith) (prefix i less ∙ g)
         | inr more ↦ let same : k + (i - k) ≡ i = omega arith in
             λ g. rest.before (i - k) (omega arith) (behind (i - k) ∙ (ap (λ (z : ℕ). get_or s z 0) same ∙ g))
       ];
@@ -179,14 +179,14 @@ takes old new (Char c) h = record { source = h.escape; taken = h.taken; moved = 
 
 -- a bad escape after a part
 pub bad_behind : (old new : Undecoded) (part : StringPart) (i : ℕ) → (h : Takes old new part) → IsBadEscapeAt new.rest i → IsBadEscapeAt old.rest (length h.source + i)
-bad_behind old new part i h (front, rest, t, whole, decodes, none, there) = (
-  h.source ++ front,
+bad_behind old new part i h (prefix, rest, t, whole, decodes, none, there) = (
+  h.source ++ prefix,
   rest,
   part_text part ++ t,
-  h.taken ∙ (ap (λ (z : List ℕ). h.source ++ z) whole ∙ sym (append_assoc h.source front (92 ∷ rest))),
-  h.means front t decodes,
+  h.taken ∙ (ap (λ (z : List ℕ). h.source ++ z) whole ∙ sym (append_assoc h.source prefix (92 ∷ rest))),
+  h.means prefix t decodes,
   none,
-  ap (λ (z : ℕ). length h.source + z) there ∙ sym (length-append h.source front),
+  ap (λ (z : ℕ). length h.source + z) there ∙ sym (length-append h.source prefix),
 )
 
 -- parts up to the end are what is decoded
@@ -201,13 +201,13 @@ pub bad_here : (s t : Undecoded) (e : Diagnostic) → MeetsBadEscape s t e → I
 bad_here s t e h = ([], h.begins.0, [], h.begins.1, ([], (refl, refl)), subst (λ (z : List ℕ). UnescapesTo z None) h.begins.1 h.none, refl)
 
 -- parts up to a refusal show the first bad escape
-join_fails : (s : Undecoded) (ps : List StringPart) (e : Diagnostic) → RunsTo s ps (Some e) → (i : ℕ) × IsBadEscapeAt s.rest i × TellsBadEscape e (s.pos + i)
-join_fails s [] e r = (0, bad_here s r.0 e r.1, subst (λ (z : ℕ). TellsBadEscape e z) (omega arith) r.1.told)
+join_fails : (s : Undecoded) (ps : List StringPart) (e : Diagnostic) → RunsTo s ps (Some e) → (i : ℕ) × IsBadEscapeAt s.rest i × ReportsBadEscape e (s.pos + i)
+join_fails s [] e r = (0, bad_here s r.0 e r.1, subst (λ (z : ℕ). ReportsBadEscape e z) (omega arith) r.1.reported)
 join_fails s (p ∷ ps) e r =
     let h = takes s r.0 p r.1 in
     let f = join_fails r.0 ps e r.2 in
     let m : r.0.pos ≡ s.pos + length h.source = h.moved in
-    (length h.source + f.0, bad_behind s r.0 p f.0 h f.1, subst (λ (z : ℕ). TellsBadEscape e z) (omega arith) f.2)
+    (length h.source + f.0, bad_behind s r.0 p f.0 h f.1, subst (λ (z : ℕ). ReportsBadEscape e z) (omega arith) f.2)
 
 -- the parts of a string join to what it decodes to
 pub joins : PartsJoin

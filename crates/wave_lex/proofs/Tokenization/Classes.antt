@@ -107,10 +107,10 @@ class_shown d x ds h =
     ]
 
 -- a prefix that isn't empty begins with the first scalar
-front_begins : (p : Regex) (r cs rest : List ℕ) (k x : ℕ) → nullable p ≡ false → r ≡ encode_utf8 x ++ rest
+prefix_begins : (p : Regex) (r cs rest : List ℕ) (k x : ℕ) → nullable p ≡ false → r ≡ encode_utf8 x ++ rest
     → encode_utf8_all cs ≡ take k r → Matches p cs → (ds : List ℕ) × (cs ≡ x ∷ ds)
-front_begins p r [] rest k x f b e h = let wrong : false ≡ true = sym f ∙ empty_into p h in cc
-front_begins p r (y ∷ ds) rest k x f b e h =
+prefix_begins p r [] rest k x f b e h = let wrong : false ≡ true = sym f ∙ empty_into p h in cc
+prefix_begins p r (y ∷ ds) rest k x f b e h =
     let whole : encode_utf8 y ++ (encode_utf8_all ds ++ drop k r) ≡ encode_utf8 x ++ rest =
     sym (append_assoc (encode_utf8 y) (encode_utf8_all ds) (drop k r)) ∙ (ap (λ (z : List ℕ). z ++ drop k r) e ∙ (take-append-drop k r ∙ b)) in
     let s = encode_same y x (encode_utf8_all ds ++ drop k r) rest whole in
@@ -120,7 +120,7 @@ front_begins p r (y ∷ ds) rest k x f b e h =
 pub token_shows : (r rest : List ℕ) (k x : ℕ) (d : Token) → r ≡ encode_utf8 x ++ rest → IsToken r k d → class_of x ≡ Some (group d)
 token_shows r rest k x d b t =
     let w = begins_computed d in
-    let f = front_begins (shape d) r t.0.scalars rest k x w.3 b t.0.spelled t.0.has in
+    let f = prefix_begins (shape d) r t.0.scalars rest k x w.3 b t.0.spelled t.0.has in
     class_shown d x f.0 (after_into x (shape d) f.0 (subst (λ (z : List ℕ). Matches (shape d) z) f.1 t.0.has))
 
 -- a text of the shape of a word is the word
@@ -160,7 +160,7 @@ no_more r rest (y ∷ es) k l b h e may =
 pub no_string : (r rest : List ℕ) (k : ℕ) → r ≡ three_quotes ++ rest → IsToken r k String → ⊥
 unfolding lib.Utf8.encode
 no_string r rest k b t =
-    let f = front_begins string r t.0.scalars (34 ∷ 34 ∷ rest) k 34 refl b t.0.spelled t.0.has in
+    let f = prefix_begins string r t.0.scalars (34 ∷ 34 ∷ rest) k 34 refl b t.0.spelled t.0.has in
     no_more r rest f.0 k t.0.fits b (after_into 34 string f.0 (subst (λ (z : List ℕ). Matches string z) f.1 t.0.has)) (sym (ap encode_utf8_all f.1) ∙ t.0.spelled) t.1
 
 -- where no three quotes stand, each token may stand

@@ -3,8 +3,8 @@ use Rattle.std.proofs.Common.{◌≡◌, ℕ, ◌+◌, ◌-◌, List, [], ◌∷
 use Rattle.std.specs.Prelude.{slice_range}
 use Rattle.std.specs.declared.ops.Range.{Range}
 use Rattle.std.proofs.lemmas.List.{drop-drop}
-use Rattle.wave_lex.specs.Tokenization.{Lexeme, Front, Cuts, IsGap, Lexed, Passes, remainder_of}
-use Rattle.wave_lex.specs.LexerRuns.{ComeTo, TokensCut}
+use Rattle.wave_lex.specs.Tokenization.{Lexeme, Prefix, Tokenizes, IsWhitespace, Lexed, Passes, remainder_of}
+use Rattle.wave_lex.specs.LexerRuns.{ComeTo, TokensTokenize}
 use Rattle.wave_lex.proofs.Tokenization.NextToken.{next_one}
 
 -- the source at the span of an item that was passed
@@ -22,22 +22,22 @@ passed_rest l m g k p =
     ap (λ (z : ℕ). drop z m.source) place ∙ (ap (λ (z : List ℕ). drop (l.end + (g + k)) z) p.source ∙ sym (drop-drop (g + k) l.end l.source))
 
 -- the tokens that come are those of the source
-come_cut : (l : Lexed) (ts : List Lexeme) → ComeTo l ts None → Cuts (remainder_of l) ts
+come_cut : (l : Lexed) (ts : List Lexeme) → ComeTo l ts None → Tokenizes (remainder_of l) ts
 come_cut l [] (m, p) = (remainder_of l, refl, p.skipped)
 come_cut l (t ∷ ts) (m, (g, k, p, is), text, more) =
-    let (r, front, left) = come_cut m ts more in
-    (r, (g, k, p.skipped, is, text ∙ passed_text l m g k p, subst (λ (z : List ℕ). Front z ts r) (passed_rest l m g k p) front), left)
+    let (r, prefix, left) = come_cut m ts more in
+    (r, (g, k, p.skipped, is, text ∙ passed_text l m g k p, subst (λ (z : List ℕ). Prefix z ts r) (passed_rest l m g k p) prefix), left)
 
 -- the tokens of the source come
-cut_comes : (l : Lexed) (ts : List Lexeme) → Cuts (remainder_of l) ts → ComeTo l ts None
+cut_comes : (l : Lexed) (ts : List Lexeme) → Tokenizes (remainder_of l) ts → ComeTo l ts None
 cut_comes l [] (r, same, left) = (
   record { source = l.source; start = l.end + length (remainder_of l); end = l.end + length (remainder_of l) + 0 },
-  record { source = refl; skipped = subst (λ (z : List ℕ). IsGap z (length z)) (sym same) left; start = refl; end = refl },
+  record { source = refl; skipped = subst (λ (z : List ℕ). IsWhitespace z (length z)) (sym same) left; start = refl; end = refl },
 )
-cut_comes l (t ∷ ts) (r, (g, k, skipped, is, text, front), left) =
+cut_comes l (t ∷ ts) (r, (g, k, skipped, is, text, prefix), left) =
     let m : Lexed = record { source = l.source; start = l.end + g; end = l.end + g + k } in
     let p : Passes l m g k = record { source = refl; skipped = skipped; start = refl; end = refl } in
-    (m, (g, k, p, is), text ∙ sym (passed_text l m g k p), cut_comes m ts (r, subst (λ (z : List ℕ). Front z ts r) (sym (passed_rest l m g k p)) front, left))
+    (m, (g, k, p, is), text ∙ sym (passed_text l m g k p), cut_comes m ts (r, subst (λ (z : List ℕ). Prefix z ts r) (sym (passed_rest l m g k p)) prefix, left))
 
 -- the items end in one way
 one_end : (l : Lexed) (ts us : List Lexeme) (bad : Range ℕ) → ComeTo l ts (Some bad) → ComeTo l us None → ⊥
@@ -49,5 +49,5 @@ one_end l (t ∷ ts) (u ∷ us) bad (m, p, text, more) (n, q, words, rest) =
     one_end m ts us bad more (subst (λ (z : Lexed). ComeTo z us None) (sym same) rest)
 
 -- the tokens that come are those of the source; where an invalid one comes it isn't tokenized
-pub tokens_cut : TokensCut
+pub tokens_cut : TokensTokenize
 tokens_cut l ts = ((come_cut l ts, cut_comes l ts), λ bad more us cut. one_end l ts us bad more (cut_comes l us cut))

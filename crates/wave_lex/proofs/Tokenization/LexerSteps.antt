@@ -7,7 +7,7 @@ use Rattle.std.specs.Prelude.{encode_utf8}
 use Rattle.std.specs.Char.{len_utf8}
 use Rattle.wave_lex.specs.LongestMatch.{Greatest, IsPrefixOf}
 use Rattle.wave_lex.specs.Tokens.{invalid}
-use Rattle.wave_lex.specs.Tokenization.{Stands, IsGap}
+use Rattle.wave_lex.specs.Tokenization.{Stands, IsWhitespace}
 use Rattle.std.proofs.lemmas.List.{append-nil}
 use Rattle.std.proofs.lemmas.Str.{length-encode}
 use Rattle.wave_lex.specs.Tokens.{any}
@@ -32,8 +32,8 @@ stands_next s r t a e g k d f h b c =
     }
 
 -- where nothing stands after the whitespace, the whitespace is all
-pub gap_is_rest : (r t : List ℕ) (g : ℕ) → IsUtf8 t → t ≡ drop g r → IsGap r g → Greatest (IsPrefixOf invalid t) None → g ≡ length r
-gap_is_rest r t g u d h n =
+pub whitespace_is_rest : (r t : List ℕ) (g : ℕ) → IsUtf8 t → t ≡ drop g r → IsWhitespace r g → Greatest (IsPrefixOf invalid t) None → g ≡ length r
+whitespace_is_rest r t g u d h n =
     let none : length t ≡ 0 = ap length (invalid_none t u n) in
     let there : length t ≡ length (drop g r) = ap length d in
     let fits : g ≤ length r = h.0.fits in

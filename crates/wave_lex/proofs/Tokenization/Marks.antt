@@ -1,4 +1,4 @@
--- A mark is told by its byte.
+-- A mark is known by its byte.
 use Rattle.std.proofs.Common.{◌≡◌, ℕ, ◌<◌, ◌≢◌, get_or, List, [], ◌∷◌, ◌++◌, sym, ap, subst, ◌∙◌, length, drop, arith, nat_eq, true, false, inl, inr, refl, Option, Some, None}
 use Rattle.std.specs.Prelude.{◌-◌, ◌||◌, IfSome, codes, encode_utf8}
 use Rattle.std.proofs.lemmas.Bool.{eqb-true, or_cases}
@@ -13,7 +13,7 @@ use Rattle.wave_lex.specs.Tokenization.{MayStandAt, IsLongestToken}
 use Rattle.wave_lex.specs.Classes.{class_of, ClassAt}
 use Rattle.wave_lex.specs.Private.Reading.{IsMark, IsFirstMark}
 use Rattle.wave_lex.proofs.Tokenization.Classes.{class_here, not_quoted}
-use Rattle.wave_lex.proofs.QuickScan.ByteRuns.{mark_here, no_gap}
+use Rattle.wave_lex.proofs.QuickScan.ByteRuns.{mark_here, no_whitespace}
 use Rattle.wave_lex.proofs.RegularShapes.Comparisons.{each_below_at}
 
 -- the mark that a digit numbers; no other byte has the digit
@@ -85,15 +85,15 @@ first_then (a ∷ s) m l e = ap (λ (z : ℕ). z ∷ s) e
 pub mark_token : (m : ℕ) (c : Token) (s b : List ℕ) → IsMark m c → b ≡ s → 0 < length b → get_or b 0 0 ≡ m → IsLongestToken s 1 c
 mark_token m c s b mark e l f =
     let bounds = mark_bounds m c mark in
-    let front = subst (λ (z : Regex). Greatest (IsPrefixOf z s) (Some 1)) (mark_shape m c mark) (mark_here s b m e bounds.0 l f) in
+    let prefix = subst (λ (z : Regex). Greatest (IsPrefixOf z s) (Some 1)) (mark_shape m c mark) (mark_here s b m e bounds.0 l f) in
     let at : s ≡ encode_utf8 m ++ drop 1 s =
     subst (λ (z : List ℕ). z ≡ encode_utf8 m ++ drop 1 z) e (first_then b m l f ∙ ap (λ (z : List ℕ). z ++ drop 1 b) (sym (encode_ascii m bounds.0))) in
     let there : ClassAt s (Some c) = class_here s (drop 1 s) m (Some c) at (not_quoted s (drop 1 s) m at bounds.3) (mark_class m c mark) in
-    record { is = (front.0, mark_stands m c s mark); longest = λ j d t. front.1 j (subst (λ (z : Token). IsPrefixOf (shape z) s j) (there.0 j d t) t.0) }
+    record { is = (prefix.0, mark_stands m c s mark); longest = λ j d t. prefix.1 j (subst (λ (z : Token). IsPrefixOf (shape z) s j) (there.0 j d t) t.0) }
 
 -- and no whitespace stands before it
 pub first_mark_here : (m : ℕ) (o : Option Token) (s b : List ℕ) → IfSome o (IsMark m) → b ≡ s → 0 < length b → get_or b 0 0 ≡ m → IfSome o (IsFirstMark s)
 first_mark_here m None s b mark e l f = tt
 first_mark_here m (Some c) s b mark e l f =
     let bounds = mark_bounds m c mark in
-    (no_gap s b e (omega (arith, bounds.1)) (λ q. bounds.2 (sym f ∙ q)), mark_token m c s b mark e l f)
+    (no_whitespace s b e (omega (arith, bounds.1)) (λ q. bounds.2 (sym f ∙ q)), mark_token m c s b mark e l f)

@@ -6,10 +6,10 @@ use Rattle.wave_lex.specs.declared.found.Found.{Found}
 use Rattle.wave_lex.specs.declared.found.Found.TheVariants as found
 use Rattle.wave_lex.specs.declared.lex.Token.{Token}
 use Rattle.wave_lex.specs.Tokens.{shape, invalid}
-use Rattle.wave_lex.specs.Tokenization.{Lexed, Passes, IsGap, IsLongestToken, IsInvalid, NextIs, item_of, remainder_of, span}
+use Rattle.wave_lex.specs.Tokenization.{Lexed, Passes, IsWhitespace, IsLongestToken, IsInvalid, NextIs, item_of, remainder_of, span}
 use Rattle.wave_lex.proofs.Tokenization.Classes.{shape_not_empty}
-use Rattle.wave_lex.proofs.LongestPrefix.ByComputing.{front_positive}
-use Rattle.wave_lex.proofs.Tokenization.OneCut.{one_class, same_gap, no_token_left}
+use Rattle.wave_lex.proofs.LongestPrefix.ByComputing.{prefix_positive}
+use Rattle.wave_lex.proofs.Tokenization.OneTokenization.{one_class, same_whitespace, no_token_left}
 
 -- two lexers with equal parts are one
 lexed_path : {l m : Lexed} → l.source ≡ m.source → l.start ≡ m.start → l.end ≡ m.end → l ≡ m
@@ -20,35 +20,35 @@ passes_one : (l m n : Lexed) (g h k j : ℕ) → Passes l m g k → Passes l n h
 passes_one l m n g h k j p q e f = lexed_path (p.source ∙ sym q.source) (omega (arith, p.start, q.start)) (omega (arith, p.end, q.end))
 
 -- the next token is one
-tokens_one : (s : List ℕ) (g h k j : ℕ) (c d : Token) → IsGap s g → IsGap s h → IsLongestToken (drop g s) k c → IsLongestToken (drop h s) j d → (g ≡ h) × (k ≡ j) × (c ≡ d)
+tokens_one : (s : List ℕ) (g h k j : ℕ) (c d : Token) → IsWhitespace s g → IsWhitespace s h → IsLongestToken (drop g s) k c → IsLongestToken (drop h s) j d → (g ≡ h) × (k ≡ j) × (c ≡ d)
 tokens_one s g h k j c d a b t u =
-    let gaps : h ≡ g = same_gap s h g b a in
-    let there : IsLongestToken (drop g s) j d = subst (λ (z : ℕ). IsLongestToken (drop z s) j d) gaps u in
+    let whitespaces : h ≡ g = same_whitespace s h g b a in
+    let there : IsLongestToken (drop g s) j d = subst (λ (z : ℕ). IsLongestToken (drop z s) j d) whitespaces u in
     let x : j ≤ k = t.longest j d there.is in
     let y : k ≤ j = there.longest k c t.is in
-    (sym gaps, omega arith, one_class (drop g s) k j c d t.is there.is)
+    (sym whitespaces, omega arith, one_class (drop g s) k j c d t.is there.is)
 
 -- the next invalid token is one
-invalid_one : (s : List ℕ) (g h k j : ℕ) → IsGap s g → IsGap s h → IsInvalid (drop g s) k → IsInvalid (drop h s) j → (g ≡ h) × (k ≡ j)
+invalid_one : (s : List ℕ) (g h k j : ℕ) → IsWhitespace s g → IsWhitespace s h → IsInvalid (drop g s) k → IsInvalid (drop h s) j → (g ≡ h) × (k ≡ j)
 invalid_one s g h k j a b t u =
-    let gaps : h ≡ g = same_gap s h g b a in
-    let there : IsInvalid (drop g s) j = subst (λ (z : ℕ). IsInvalid (drop z s) j) gaps u in
+    let whitespaces : h ≡ g = same_whitespace s h g b a in
+    let there : IsInvalid (drop g s) j = subst (λ (z : ℕ). IsInvalid (drop z s) j) whitespaces u in
     let x : j ≤ k = t.1.1 j there.1.0 in
     let y : k ≤ j = there.1.1 k t.1.0 in
-    (sym gaps, omega arith)
+    (sym whitespaces, omega arith)
 
 -- where a token stands none is invalid
-token_not_invalid : (s : List ℕ) (g h k j : ℕ) (c : Token) → IsGap s g → IsGap s h → IsLongestToken (drop g s) k c → IsInvalid (drop h s) j → ⊥
+token_not_invalid : (s : List ℕ) (g h k j : ℕ) (c : Token) → IsWhitespace s g → IsWhitespace s h → IsLongestToken (drop g s) k c → IsInvalid (drop h s) j → ⊥
 token_not_invalid s g h k j c a b t u =
-    let gaps : h ≡ g = same_gap s h g b a in
-    let there : IsInvalid (drop g s) j = subst (λ (z : ℕ). IsInvalid (drop z s) j) gaps u in
+    let whitespaces : h ≡ g = same_whitespace s h g b a in
+    let there : IsInvalid (drop g s) j = subst (λ (z : ℕ). IsInvalid (drop z s) j) whitespaces u in
     there.0 k c t.is
 
 -- at the end no token is invalid
-invalid_not_end : (s : List ℕ) (h j : ℕ) → IsGap s (length s) → IsGap s h → IsInvalid (drop h s) j → ⊥
+invalid_not_end : (s : List ℕ) (h j : ℕ) → IsWhitespace s (length s) → IsWhitespace s h → IsInvalid (drop h s) j → ⊥
 invalid_not_end s h j a b u =
-    let all : h ≡ length s = same_gap s h (length s) b a in
-    let some : 0 < j = front_positive invalid (drop h s) j refl u.1.0 in
+    let all : h ≡ length s = same_whitespace s h (length s) b a in
+    let some : 0 < j = prefix_positive invalid (drop h s) j refl u.1.0 in
     let fits : j ≤ length (drop h s) = u.1.0.fits in
     omega (arith, length-drop h s)
 
@@ -72,7 +72,7 @@ next_one l m n (Some (Err a)) (Some (Err b)) (g, k, p, t, e) (h, j, q, u, f) =
 -- after a token less is left
 pub next_less : (l m : Lexed) (c : Token) → NextIs l m (Some (Ok c)) → length (remainder_of m) < length (remainder_of l)
 next_less l m c (g, k, p, t) =
-    let some : 0 < k = front_positive (shape c) (drop g (remainder_of l)) k (shape_not_empty c) t.is.0 in
+    let some : 0 < k = prefix_positive (shape c) (drop g (remainder_of l)) k (shape_not_empty c) t.is.0 in
     let fits : k ≤ length (drop g (remainder_of l)) = t.is.0.fits in
     let inside : g ≤ length (remainder_of l) = p.skipped.0.fits in
     let there : length (remainder_of m) ≡ length (drop (l.end + g + k) l.source) = ap (λ (z : Lexed). length (drop z.end z.source)) (lexed_path {m = record { source = l.source; start = m.start; end = l.end + g + k }} p.source refl p.end) in
@@ -81,7 +81,7 @@ next_less l m c (g, k, p, t) =
 -- after an invalid token less is left
 pub bad_less : (l m : Lexed) (bad : Range ℕ) → NextIs l m (Some (Err bad)) → length (remainder_of m) < length (remainder_of l)
 bad_less l m bad (g, k, p, t, e) =
-    let some : 0 < k = front_positive invalid (drop g (remainder_of l)) k refl t.1.0 in
+    let some : 0 < k = prefix_positive invalid (drop g (remainder_of l)) k refl t.1.0 in
     let fits : k ≤ length (drop g (remainder_of l)) = t.1.0.fits in
     let inside : g ≤ length (remainder_of l) = p.skipped.0.fits in
     let there : length (remainder_of m) ≡ length (drop (l.end + g + k) l.source) = ap (λ (z : Lexed). length (drop z.end z.source)) (lexed_path {m = record { source = l.source; start = m.start; end = l.end + g + k }} p.source refl p.end) in

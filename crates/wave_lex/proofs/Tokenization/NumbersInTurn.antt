@@ -8,14 +8,14 @@ use Rattle.std.proofs.lemmas.Str.{encode_ascii, IsUtf8-drop}
 use Rattle.wave_lex.specs.declared.lex.Token.{Token}
 use Rattle.wave_lex.specs.declared.lex.Token.TheVariants.{Comma, Number}
 use Rattle.wave_lex.specs.LongestMatch.{Greatest, IsPrefixOf}
-use Rattle.wave_lex.specs.Tokens.{shape, gap, number}
+use Rattle.wave_lex.specs.Tokens.{shape, whitespace, number}
 use Rattle.wave_lex.specs.NumbersInTurn.{TakesNumberInTurn}
 use Rattle.wave_lex.specs.Tokenization.{Lexed, Stands, IsLongestToken, remainder_of}
 use Rattle.wave_lex.specs.Classes.{class_of, ClassAt}
 use Rattle.wave_lex.specs.Machines.{is_digit}
 use Rattle.wave_lex.specs.Private.Machines.{begins_number}
 use Rattle.wave_lex.specs.Private.Reading.{IsNumberBehindComma}
-use Rattle.wave_lex.proofs.LongestPrefix.MachineWalks.{front_boundary}
+use Rattle.wave_lex.proofs.LongestPrefix.MachineWalks.{prefix_boundary}
 use Rattle.wave_lex.proofs.RegularShapes.Comparisons.{each_below_at}
 use Rattle.wave_lex.proofs.QuickScan.ByteRuns.{digit_ascii}
 use Rattle.wave_lex.proofs.Tokenization.Classes.{class_here, not_quoted, shows, shows_true}
@@ -47,12 +47,12 @@ number_token s b k e l begins longest =
 -- and their span stands
 pub stands_in_turn : (s r : List ℕ) (a e g k : ℕ) → r ≡ drop e s → IsUtf8 r → Stands s a e → IsNumberBehindComma r g k → Stands s (e + 1 + g) (e + 1 + g + k)
 stands_in_turn s r a e g k d u h found =
-    let comma : IsCharBoundary r 1 = front_boundary (shape Comma) r 1 u found.0.1.is.0 in
+    let comma : IsCharBoundary r 1 = prefix_boundary (shape Comma) r 1 u found.0.1.is.0 in
     let one : Stands s e (e + 1) = stands_behind s r a e 1 d h comma in
     let utf8 : IsUtf8 (drop 1 r) = IsUtf8-drop r 1 u comma in
     let behind : drop 1 r ≡ drop (e + 1) s = ap (drop 1) d ∙ drop-drop 1 e s in
-    let blank : IsCharBoundary (drop 1 r) g = front_boundary gap (drop 1 r) g utf8 found.1.0 in
-    let number : IsCharBoundary (drop g (drop 1 r)) k = front_boundary (shape Number) (drop g (drop 1 r)) k (IsUtf8-drop (drop 1 r) g utf8 blank) found.2.is.0 in
+    let blank : IsCharBoundary (drop 1 r) g = prefix_boundary whitespace (drop 1 r) g utf8 found.1.0 in
+    let number : IsCharBoundary (drop g (drop 1 r)) k = prefix_boundary (shape Number) (drop g (drop 1 r)) k (IsUtf8-drop (drop 1 r) g utf8 blank) found.2.is.0 in
     stands_next s (drop 1 r) (drop g (drop 1 r)) e (e + 1) g k behind refl one blank number
 
 -- what was found behind the lexer are the next two tokens
@@ -66,7 +66,7 @@ taken_in_turn l m s g k e found source start end =
       (
         g,
         k,
-        record { source = source; skipped = subst (λ (z : List ℕ). Greatest (IsPrefixOf gap z) (Some g)) behind here.1; start = start; end = end },
+        record { source = source; skipped = subst (λ (z : List ℕ). Greatest (IsPrefixOf whitespace z) (Some g)) behind here.1; start = start; end = end },
         subst (λ (z : List ℕ). IsLongestToken (drop g z) k Number) behind here.2,
       ),
     )

@@ -9,14 +9,14 @@ use Rattle.wave_lex.specs.declared.lex.Token.{Token}
 use Rattle.wave_lex.specs.Regex.{Regex, nothing, Matches, is_one_of}
 use Rattle.wave_lex.specs.Derive.{nullable, derivative, derivative_by, after_next}
 use Rattle.wave_lex.specs.LongestMatch.{IsPrefixOf}
-use Rattle.wave_lex.specs.Tokens.{shape, gap}
-use Rattle.wave_lex.specs.Tokenization.{MayStandAt, IsToken, IsLongestToken, IsGap}
+use Rattle.wave_lex.specs.Tokens.{shape, whitespace}
+use Rattle.wave_lex.specs.Tokenization.{MayStandAt, IsToken, IsLongestToken, IsWhitespace}
 use Rattle.wave_lex.specs.Classes.{class_of}
 use Rattle.wave_lex.proofs.RegularShapes.Derivatives.{matches_from, matches_into, after_into, after_from, empty_into}
 use Rattle.wave_lex.proofs.RegularShapes.Comparisons.{same, same_true, each_below_at, after_past}
 use Rattle.wave_lex.proofs.LongestPrefix.MachineWalks.{after_all_append, after_all_nothing}
 use Rattle.wave_lex.proofs.Tokenization.Classes.{group, token_shows, shape_not_empty}
-use Rattle.wave_lex.proofs.Tokenization.OneCut.{one_class}
+use Rattle.wave_lex.proofs.Tokenization.OneTokenization.{one_class}
 
 -- ---- prefixes of one text
 
@@ -56,14 +56,14 @@ no_longer p cs r ends j f =
     ]
 
 -- the text is a prefix
-pub front_there : (p : Regex) (cs r : List ℕ) → Matches p cs → IsPrefixOf p (encode_utf8_all cs ++ r) (length (encode_utf8_all cs))
-front_there p cs r h = record { scalars = cs; fits = omega (arith, length-append (encode_utf8_all cs) r); spelled = sym (take-append_seam (encode_utf8_all cs) r); has = h }
+pub prefix_there : (p : Regex) (cs r : List ℕ) → Matches p cs → IsPrefixOf p (encode_utf8_all cs ++ r) (length (encode_utf8_all cs))
+prefix_there p cs r h = record { scalars = cs; fits = omega (arith, length-append (encode_utf8_all cs) r); spelled = sym (take-append_seam (encode_utf8_all cs) r); has = h }
 
 -- the text of a token is the longest token where nothing that follows goes on with it
 pub token_there : (c : Token) (cs r : List ℕ) → Matches (shape c) cs → EndsBefore (shape c) cs r → MayStandAt (encode_utf8_all cs ++ r) (length (encode_utf8_all cs)) c
     → IsLongestToken (encode_utf8_all cs ++ r) (length (encode_utf8_all cs)) c
 token_there c cs r h ends may =
-    let is : IsToken (encode_utf8_all cs ++ r) (length (encode_utf8_all cs)) c = (front_there (shape c) cs r h, may) in
+    let is : IsToken (encode_utf8_all cs ++ r) (length (encode_utf8_all cs)) c = (prefix_there (shape c) cs r h, may) in
     record {
       is = is;
       longest = λ j d t.
@@ -74,10 +74,10 @@ token_there c cs r h ends may =
 -- ---- whitespace
 
 -- where a scalar that begins no whitespace stands, the whitespace is empty
-pub no_gap : (c : ℕ) (s rest : List ℕ) → s ≡ encode_utf8 c ++ rest → derivative c gap ≡ nothing → IsGap s 0
-no_gap c s rest b n = (
-  record { scalars = []; fits = omega arith; spelled = refl; has = matches_from [] gap refl },
-  no_longer gap [] s (λ e more there. ap (λ (z : ℕ). derivative z gap) (encode_same e c more rest (sym there ∙ b)).0 ∙ n),
+pub no_whitespace : (c : ℕ) (s rest : List ℕ) → s ≡ encode_utf8 c ++ rest → derivative c whitespace ≡ nothing → IsWhitespace s 0
+no_whitespace c s rest b n = (
+  record { scalars = []; fits = omega arith; spelled = refl; has = matches_from [] whitespace refl },
+  no_longer whitespace [] s (λ e more there. ap (λ (z : ℕ). derivative z whitespace) (encode_same e c more rest (sym there ∙ b)).0 ∙ n),
 )
 
 abbrev is_none : Option Token → Bool
@@ -85,45 +85,45 @@ is_none None = true
 is_none (Some c) = false
 
 -- a scalar that begins a token begins no whitespace
-token_no_gap : (x : ℕ) (c : Token) → class_of x ≡ Some c → derivative x gap ≡ nothing
-token_no_gap x c e =
-    elim (cases_lt x 129) as (λ _. derivative x gap ≡ nothing) [
-      | inl l ↦ elim (or_cases (same (derivative x gap) nothing) (is_none (class_of x)) (each_below_at 129 x (λ z. same (derivative z gap) nothing || is_none (class_of z)) refl l)) as (λ _. derivative x gap ≡ nothing) [
+token_no_whitespace : (x : ℕ) (c : Token) → class_of x ≡ Some c → derivative x whitespace ≡ nothing
+token_no_whitespace x c e =
+    elim (cases_lt x 129) as (λ _. derivative x whitespace ≡ nothing) [
+      | inl l ↦ elim (or_cases (same (derivative x whitespace) nothing) (is_none (class_of x)) (each_below_at 129 x (λ z. same (derivative z whitespace) nothing || is_none (class_of z)) refl l)) as (λ _. derivative x whitespace ≡ nothing) [
         | inl f ↦ same_true _ _ f
         | inr f ↦ let wrong : false ≡ true = sym (ap is_none e) ∙ f in cc
       ]
       | inr l ↦ let m : 128 ≤ x = omega arith in
           let n : 128 ≤ 128 = omega arith in
-          after_past gap x 128 refl m n ∙ same_true _ _ refl
+          after_past whitespace x 128 refl m n ∙ same_true _ _ refl
     ]
 
 -- before a token that stands there the whitespace is empty
-pub gap_before : (c : Token) (cs r : List ℕ) → IsToken (encode_utf8_all cs ++ r) (length (encode_utf8_all cs)) c → Matches (shape c) cs → IsGap (encode_utf8_all cs ++ r) 0
-gap_before c [] r t h = let wrong : false ≡ true = sym (shape_not_empty c) ∙ empty_into (shape c) h in cc
-gap_before c (x ∷ cs) r t h =
+pub whitespace_before : (c : Token) (cs r : List ℕ) → IsToken (encode_utf8_all cs ++ r) (length (encode_utf8_all cs)) c → Matches (shape c) cs → IsWhitespace (encode_utf8_all cs ++ r) 0
+whitespace_before c [] r t h = let wrong : false ≡ true = sym (shape_not_empty c) ∙ empty_into (shape c) h in cc
+whitespace_before c (x ∷ cs) r t h =
     let begins = append_assoc (encode_utf8 x) (encode_utf8_all cs) r in
-    no_gap x _ (encode_utf8_all cs ++ r) begins (token_no_gap x (group c) (token_shows _ (encode_utf8_all cs ++ r) (length (encode_utf8_all (x ∷ cs))) x c begins t))
+    no_whitespace x _ (encode_utf8_all cs ++ r) begins (token_no_whitespace x (group c) (token_shows _ (encode_utf8_all cs ++ r) (length (encode_utf8_all (x ∷ cs))) x c begins t))
 
 -- a prefix of whitespace after a space is a prefix of the whitespace, and one byte
-behind_space : (s : List ℕ) (j : ℕ) (ds : List ℕ) → encode_utf8_all ds ≡ 32 ∷ take j s → Matches gap ds → (es : List ℕ) × (encode_utf8_all es ≡ take j s) × Matches gap es
+behind_space : (s : List ℕ) (j : ℕ) (ds : List ℕ) → encode_utf8_all ds ≡ 32 ∷ take j s → Matches whitespace ds → (es : List ℕ) × (encode_utf8_all es ≡ take j s) × Matches whitespace es
 behind_space s j [] e h = cc
 behind_space s j (d ∷ ds) e h =
     let w = encode_same d 32 (encode_utf8_all ds) (take j s) (e ∙ ap (λ (z : List ℕ). z ++ take j s) (sym (encode_ascii 32 (ltb-true 32 128 refl)))) in
-    (ds, w.1, after_into 32 gap ds (subst (λ (z : ℕ). Matches gap (z ∷ ds)) w.0 h))
+    (ds, w.1, after_into 32 whitespace ds (subst (λ (z : ℕ). Matches whitespace (z ∷ ds)) w.0 h))
 
 -- a space before whitespace
-pub space_gap : (s : List ℕ) (g : ℕ) → IsGap s g → IsGap (32 ∷ s) (suc g)
-space_gap s g (f, most) = (
+pub space_whitespace : (s : List ℕ) (g : ℕ) → IsWhitespace s g → IsWhitespace (32 ∷ s) (suc g)
+space_whitespace s g (f, most) = (
   record {
     scalars = 32 ∷ f.scalars;
     fits = let l : g ≤ length s = f.fits in omega arith;
     spelled = ap (λ (z : List ℕ). z ++ encode_utf8_all f.scalars) (encode_ascii 32 (ltb-true 32 128 refl)) ∙ ap (λ (z : List ℕ). 32 ∷ z) f.spelled;
-    has = after_from 32 gap f.scalars f.has;
+    has = after_from 32 whitespace f.scalars f.has;
   },
   longest,
 )
   where
-    longest : (j : ℕ) → IsPrefixOf gap (32 ∷ s) j → j ≤ suc g
+    longest : (j : ℕ) → IsPrefixOf whitespace (32 ∷ s) j → j ≤ suc g
     longest zero h = omega arith
     longest (suc j) h =
         let (es, e, k) = behind_space s j h.scalars h.spelled h.has in

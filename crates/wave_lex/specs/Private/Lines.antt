@@ -7,7 +7,7 @@ use Rattle.wave_lex.specs.declared.strings.StringPart.{StringPart}
 use Rattle.wave_lex.specs.Tokens.{line_feed}
 use Rattle.wave_lex.specs.Multiline.{pieces, Opens, OpensWell}
 use Rattle.wave_lex.specs.Remaining.{Undecoded, LinesLeft, ended_lines}
-use Rattle.wave_lex.specs.Parts.{PartIs, BeginsNoEscape, TellsBadEscape, TellsBadLine, HasBadLine}
+use Rattle.wave_lex.specs.Parts.{PartIs, BeginsNoEscape, ReportsBadEscape, ReportsBadLine, HasBadLine}
 
 -- n hexadecimal digits stand at the start of s, and no more, and value is their number
 pub record IsNumberAt (s : List ℕ) (n value : ℕ) : Type 0 where
@@ -28,12 +28,12 @@ NoLineEntered old new = ((old.later ≡ []) ⊎ HasBadLine old) × (new ≡ old)
 -- nothing is left; or what is left is refused as a bad escape
 abbrev pub EndIs : Undecoded → Result (Unit {0}) Diagnostic → Type 0
 EndIs s (Ok done) = s.rest ≡ []
-EndIs s (Err e) = (s.rest ≢ []) × TellsBadEscape e s.pos
+EndIs s (Err e) = (s.rest ≢ []) × ReportsBadEscape e s.pos
 
 -- nothing is left; or what is left of the line is refused as a bad escape, or the next line as one with too few spaces
 abbrev pub LinesEndIs : LinesLeft → Result (Unit {0}) Diagnostic → Type 0
 LinesEndIs l (Ok done) = (l.line.rest ≡ []) × (l.later ≡ [])
-LinesEndIs l (Err e) = ((l.line.rest ≢ []) × TellsBadEscape e l.line.pos) ⊎ ((l.line.rest ≡ []) × (l.later ≢ []) × TellsBadLine e l.next)
+LinesEndIs l (Err e) = ((l.line.rest ≢ []) × ReportsBadEscape e l.line.pos) ⊎ ((l.line.rest ≡ []) × (l.later ≢ []) × ReportsBadLine e l.next)
 
 -- the text is the line, a line feed and what stands after it
 pub record SplitsLine (text line behind : List ℕ) : Type 0 where

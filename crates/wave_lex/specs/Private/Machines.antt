@@ -3,11 +3,11 @@ use Rattle.std.specs.Prelude.{ℕ, zero, suc, ◌||◌, Bool, not, if◌then◌e
 use Rattle.wave_lex.specs.Regex.{Regex}
 use Rattle.wave_lex.specs.Derive.{derivative_by}
 use Rattle.wave_lex.specs.Machines.{is_digit}
-use Rattle.wave_lex.specs.Tokens.{gap, invalid}
+use Rattle.wave_lex.specs.Tokens.{whitespace, invalid}
 use Rattle.wave_lex.specs.declared.machine.number.NumberState.TheVariants as n
 use Rattle.wave_lex.specs.declared.machine.number.NumberState.{NumberState}
-use Rattle.wave_lex.specs.declared.machine.gap.GapState.TheVariants as gap
-use Rattle.wave_lex.specs.declared.machine.gap.GapState.{GapState}
+use Rattle.wave_lex.specs.declared.machine.whitespace.WhitespaceState.TheVariants as whitespace
+use Rattle.wave_lex.specs.declared.machine.whitespace.WhitespaceState.{WhitespaceState}
 use Rattle.wave_lex.specs.declared.machine.invalid.InvalidState.TheVariants as invalid
 use Rattle.wave_lex.specs.declared.machine.invalid.InvalidState.{InvalidState}
 
@@ -25,20 +25,20 @@ abbrev pub ends_whole : ℕ → Bool
 ends_whole b = not (nat_eq b 46 || nat_eq b 101 || nat_eq b 69)
 
 -- what may still follow in whitespace
-abbrev pub gap_rest : GapState → Regex
-gap_rest gap.Start = derivative_by ([]) gap
-gap_rest gap.Slash = derivative_by (47 ∷ []) gap
-gap_rest gap.Comment = derivative_by (47 ∷ 47 ∷ []) gap
+abbrev pub whitespace_rest : WhitespaceState → Regex
+whitespace_rest whitespace.Start = derivative_by ([]) whitespace
+whitespace_rest whitespace.Slash = derivative_by (47 ∷ []) whitespace
+whitespace_rest whitespace.Comment = derivative_by (47 ∷ 47 ∷ []) whitespace
 
 -- a space, a tab, a line feed or a carriage return
 abbrev pub is_blank : ℕ → Bool
 is_blank c = nat_eq c 32 || nat_eq c 9 || nat_eq c 10 || nat_eq c 13
 
 -- what whitespace reads next
-abbrev pub gap_step : GapState → ℕ → Option GapState
-gap_step gap.Start c = (if is_blank c then Some gap.Start else (if nat_eq c 47 then Some gap.Slash else None))
-gap_step gap.Slash c = (if nat_eq c 47 then Some gap.Comment else None)
-gap_step gap.Comment c = (if nat_eq c 10 then Some gap.Start else Some gap.Comment)
+abbrev pub whitespace_step : WhitespaceState → ℕ → Option WhitespaceState
+whitespace_step whitespace.Start c = (if is_blank c then Some whitespace.Start else (if nat_eq c 47 then Some whitespace.Slash else None))
+whitespace_step whitespace.Slash c = (if nat_eq c 47 then Some whitespace.Comment else None)
+whitespace_step whitespace.Comment c = (if nat_eq c 10 then Some whitespace.Start else Some whitespace.Comment)
 
 -- not `"`, a backslash or a line feed
 abbrev pub is_plain : ℕ → Bool

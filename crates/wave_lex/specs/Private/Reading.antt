@@ -9,7 +9,7 @@ use Rattle.wave_lex.specs.Derive.{derivative_by}
 use Rattle.wave_lex.specs.LongestMatch.{PrefixHas}
 use Rattle.wave_lex.specs.Machines.{is_lower, label_token_rest}
 use Rattle.wave_lex.specs.Private.Machines.{is_plain}
-use Rattle.wave_lex.specs.Tokenization.{IsLongestToken, IsGap, NoToken}
+use Rattle.wave_lex.specs.Tokenization.{IsLongestToken, IsWhitespace, NoToken}
 
 -- which byte the mark of a class is
 abbrev pub IsMark : ℕ → Token → Type 0
@@ -25,11 +25,11 @@ IsMark m _ = ⊥
 
 -- a mark is the longest token at the start of r, and no whitespace stands before it
 abbrev pub IsFirstMark : List ℕ → Token → Type 0
-IsFirstMark r c = IsGap r 0 × IsLongestToken r 1 c
+IsFirstMark r c = IsWhitespace r 0 × IsLongestToken r 1 c
 
 -- a comma stands at the start of r, then g bytes of whitespace, then a number of k bytes
 abbrev pub IsNumberBehindComma : List ℕ → ℕ → ℕ → Type 0
-IsNumberBehindComma r g k = IsFirstMark r Comma × IsGap (drop 1 r) g × IsLongestToken (drop g (drop 1 r)) k Number
+IsNumberBehindComma r g k = IsFirstMark r Comma × IsWhitespace (drop 1 r) g × IsLongestToken (drop g (drop 1 r)) k Number
 
 -- what stands at the start of r
 abbrev pub TokenAt : List ℕ → Option (Token × ℕ) → Type 0

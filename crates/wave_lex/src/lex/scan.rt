@@ -1,6 +1,6 @@
 //! How many bytes whitespace or a token takes at the start of a text. Runs of bytes that leave a machine
 //! in its state are counted at once; the machine reads what stands after them. The end of a multiline
-//! string is searched, and a char of one scalar that stands for itself is told at once.
+//! string is searched, and a char of one scalar that stands for itself is found at once.
 ghost use Rattle.std.specs.Prelude.{◌≡◌, ℕ, ◌<◌, ◌≤◌, true, false, Some, IfSome, is_some, length, drop, slice_index};
 ghost use Rattle.wave_lex.specs.LongestMatch.{Greatest, IsPrefixOf};
 ghost use Rattle.wave_lex.specs.Strings.{short_escape};
@@ -8,15 +8,15 @@ ghost use Rattle.wave_lex.specs.Private.Machines.{after_sign, begins_number, end
 ghost use Rattle.wave_lex.specs.Machines.{is_digit, is_lower, number_rest, string_rest};
 ghost use Rattle.wave_lex.specs.Private.Reading.{LeadsTo, EndsWord, IsPlainRun, IsStep, IsWordStep};
 ghost use Rattle.wave_lex.specs.declared.machine.string.StringState.TheVariants.{Inside};
-ghost use Rattle.wave_lex.specs.Tokenization.{IsGap};
+ghost use Rattle.wave_lex.specs.Tokenization.{IsWhitespace};
 ghost use Rattle.wave_lex.specs.Tokens.{character, label_or_keyword, multiline_string, number, one, string};
 
 use crate::machine::character::CharState;
-use crate::machine::gap::GapState;
 use crate::machine::label::{LabelState, LabelTokenState};
 use crate::machine::longest_prefix;
 use crate::machine::number::NumberState;
 use crate::machine::string::StringState;
+use crate::machine::whitespace::WhitespaceState;
 use crate::strings::hex_length;
 use memchr::{memchr3, memmem};
 
@@ -24,8 +24,8 @@ use memchr::{memchr3, memmem};
 const FEW: usize = 16;
 
 /// How many bytes the whitespace at the start takes.
-pub fn gap_at(text: &str) -> usize
-    ensures { IsGap text.now result }
+pub fn whitespace_at(text: &str) -> usize
+    ensures { IsWhitespace text.now result }
 {
     let bytes = text.as_bytes();
     if bytes.len() > 1 && bytes[0] == b' ' && bytes[1] > b' ' && bytes[1] != b'/' {
@@ -41,7 +41,7 @@ pub fn gap_at(text: &str) -> usize
     if bytes[run] != b'/' {
         return run;
     }
-    let Some(more) = longest_prefix(GapState::Start, &text[run..]) else {
+    let Some(more) = longest_prefix(WhitespaceState::Start, &text[run..]) else {
         return run;
     };
     run + more
@@ -410,17 +410,17 @@ fn plains(bytes: &[u8]) -> usize
     ensures { IsPlainRun bytes.now result }
 {
     if bytes.len() <= FEW {
-        return plains_in_turn(bytes);
+        return plains_bytewise(bytes);
     }
-    let run = plains_in_turn(&bytes[..FEW]);
+    let run = plains_bytewise(&bytes[..FEW]);
     if run < FEW {
         return run;
     }
-    FEW + plains_at_once(&bytes[FEW..])
+    FEW + plains_by_memchr(&bytes[FEW..])
 }
 
 /// The same, by looking at each.
-fn plains_in_turn(bytes: &[u8]) -> usize
+fn plains_bytewise(bytes: &[u8]) -> usize
     ensures { IsPlainRun bytes.now result }
 {
     for (i, byte) in bytes.iter().enumerate() {
@@ -432,7 +432,7 @@ fn plains_in_turn(bytes: &[u8]) -> usize
 }
 
 /// The same, by a search for the bytes that are not plain.
-fn plains_at_once(bytes: &[u8]) -> usize
+fn plains_by_memchr(bytes: &[u8]) -> usize
     ensures { IsPlainRun bytes.now result }
 {
     memchr3(b'"', b'\\', b'\n', bytes).unwrap_or(bytes.len())

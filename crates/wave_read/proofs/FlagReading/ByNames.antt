@@ -21,16 +21,16 @@ use Rattle.wave_grammar.specs.NodeTree.{NodeTree, node_list, node_trees, type_of
 use Rattle.wave_grammar.specs.declared.form.NodeType.TheVariants as kind
 use Rattle.wave_grammar.specs.NodeAccessors.{RefusedAs}
 use Rattle.wave_grammar.specs.NodeFlags.{AreFlags, names_at, IsFirstUnknown, RefusesUnknown, RefusesFlags}
-use Rattle.wave_grammar.specs.TypedReading.{IsMade}
-use Rattle.wave_grammar.proofs.ByKind.Flags.{flags_is, flags_blame, flags_made, flags_of}
-use Rattle.wave_grammar.proofs.ErrorSpans.Nodes.{at_in, form_at, made_in}
+use Rattle.wave_grammar.specs.TypedReading.{IsBuilt}
+use Rattle.wave_grammar.proofs.ByKind.Flags.{flags_is, flags_blame, flags_built, flags_of}
+use Rattle.wave_grammar.proofs.ErrorSpans.Nodes.{at_in, form_at, built_in}
 use Rattle.wave_grammar.specs.FlagParts.{AreFlagsOf, label_at, flag_nodes}
 use Rattle.wave_read.specs.Reading.{IsReadAs, IsOfType}
 use Rattle.wave_read.specs.declared.fault.Fault.{Fault}
-use Rattle.wave_read.specs.Faults.{Tells}
+use Rattle.wave_read.specs.Faults.{Reports}
 use Rattle.wave_read.specs.Private.Faults.{IsFaultOf}
-use Rattle.wave_read.specs.Private.NamedFlags.{flag_names, IsTold, TellsUnknown}
-use Rattle.wave_read.proofs.ReadErrors.HandedOn.{no_memory, made_of}
+use Rattle.wave_read.specs.Private.NamedFlags.{flag_names, IsReported, ReportsUnknown}
+use Rattle.wave_read.proofs.ReadErrors.HandedOn.{no_memory, built_of}
 use Rattle.wave_read.specs.Errors.{IsRefusedBy}
 
 names_from : (source : List ℕ) (es : List (Bor (List ℕ) × Range ℕ)) → AllOf (λ e. e.0.now ≡ name_of (slice source e.1)) es → names_at source (node_list (node_trees (map label_at (values_of es)))) ≡ texts (keys_of es)
@@ -45,12 +45,12 @@ refuses : (names flags : List (List ℕ)) (source : List ℕ) (n : NodeTree) (e 
 refuses names flags source n e ok named (inl memory) = inl memory
 refuses names flags source n e ok named (inr first) = inr (inr (ok, subst (λ (fs : List (List ℕ)). IsFirstUnknown names fs n e) (sym named) first))
 
--- what was told is of the type where it was read so; a fault is no value
-pub told_typed : {V : Type 0} (of : V → TypeTree → Type 0) (T : TypeTree) (read : Result V Fault) (p : Range ℕ) (r : Result V Diagnostic) → IsTold read p r → IfOk read (λ v. HasDistinctNames T → of v T) → IsOfType of T r
-told_typed {V} of T (Ok v) p (Ok w) same typed = subst (λ (x : V). HasDistinctNames T → of x T) (sym same) typed
-told_typed of T (Err f) p (Err e) told typed = tt
-told_typed of T (Ok v) p (Err e) told typed = absurd told
-told_typed of T (Err f) p (Ok w) told typed = absurd told
+-- what was reported is of the type where it was read so; a fault is no value
+pub reported_typed : {V : Type 0} (of : V → TypeTree → Type 0) (T : TypeTree) (read : Result V Fault) (p : Range ℕ) (r : Result V Diagnostic) → IsReported read p r → IfOk read (λ v. HasDistinctNames T → of v T) → IsOfType of T r
+reported_typed {V} of T (Ok v) p (Ok w) same typed = subst (λ (x : V). HasDistinctNames T → of x T) (sym same) typed
+reported_typed of T (Err f) p (Err e) reported typed = tt
+reported_typed of T (Ok v) p (Err e) reported typed = absurd reported
+reported_typed of T (Err f) p (Ok w) reported typed = absurd reported
 
 pub no_value : {V : Type 0} (of : V → TypeTree → Type 0) (T : TypeTree) (P : Fault → Type 0) (read : Result V Fault) → IsErrAnd read P → IfOk read (λ v. HasDistinctNames T → of v T)
 no_value of T P (Ok v) refused = absurd refused
@@ -58,12 +58,12 @@ no_value of T P (Err f) refused = tt
 
 module _ {V : Type 0} (tree : V → Value) (of : V → TypeTree → Type 0) (Full : TypeTree → Type 0) (o w : Order) where
   -- a flag that is none of the names
-  pub unknown_read : (T : TypeTree) (flags : List (List ℕ)) (source : List ℕ) (n : NodeTree) (read : Result V Fault) (f : Fault) (r : Result V Diagnostic) → kinds.Flags ≡ kind_of T → IsErrAnd read (λ g. g ≡ f) → TellsUnknown (flags_names T) flags f →
-      AreFlags n → names_at source (children_of n) ≡ flags → IsTold read (place_of n) r → IsReadAs tree of Full o w T source n r
-  unknown_read T flags source n (Ok v) f r kind same unknown ok named told = absurd same
-  unknown_read T flags source n (Err g) f (Ok w) kind same unknown ok named told = absurd told
-  unknown_read T flags source n (Err g) f (Err e) kind same unknown ok named told =
-      let h = unknown n e (subst (λ (x : Fault). Tells x (place_of n) e) same told) in
+  pub unknown_read : (T : TypeTree) (flags : List (List ℕ)) (source : List ℕ) (n : NodeTree) (read : Result V Fault) (f : Fault) (r : Result V Diagnostic) → kinds.Flags ≡ kind_of T → IsErrAnd read (λ g. g ≡ f) → ReportsUnknown (flags_names T) flags f →
+      AreFlags n → names_at source (children_of n) ≡ flags → IsReported read (place_of n) r → IsReadAs tree of Full o w T source n r
+  unknown_read T flags source n (Ok v) f r kind same unknown ok named reported = absurd same
+  unknown_read T flags source n (Err g) f (Ok w) kind same unknown ok named reported = absurd reported
+  unknown_read T flags source n (Err g) f (Err e) kind same unknown ok named reported =
+      let h = unknown n e (subst (λ (x : Fault). Reports x (place_of n) e) same reported) in
       record {
         answer = λ t node distinct. flags_blame tree of Full o w T (flags_names T) source n t e (flags_is T kind (flags_names T) refl) node (refuses (flags_names T) flags source n e ok named h.0);
         within = λ value. at_in source n e (inl value) h.1;
@@ -76,30 +76,30 @@ module _ {V : Type 0} (tree : V → Value) (of : V → TypeTree → Type 0) (Ful
       let typed = flags_is T kind (flags_names T) refl in
       flags_of tree of Full o w T (flags_names T) flags picked v typed distinct (found (subst HasDistinctNames typed distinct)) makes
 
-  made_read : (T : TypeTree) (flags : List (List ℕ)) (source : List ℕ) (n : NodeTree) (picked : List (Bor (List ℕ))) (m : Result V WasmValueError) (r : Result V Diagnostic) → kinds.Flags ≡ kind_of T → AreAllOf (flags_names T) flags → (AreDistinct (flags_names T) → texts picked ≡ found_in flags (flags_names T)) →
-      IfOk m (MakesFlags tree of T picked) → IfErr m (FullFlags of Full T picked) → AreFlags n → names_at source (children_of n) ≡ flags → IsMade n m r → IsReadAs tree of Full o w T source n r
-  made_read T flags source n picked m r kind known found makes full ok named made =
+  built_read : (T : TypeTree) (flags : List (List ℕ)) (source : List ℕ) (n : NodeTree) (picked : List (Bor (List ℕ))) (m : Result V WasmValueError) (r : Result V Diagnostic) → kinds.Flags ≡ kind_of T → AreAllOf (flags_names T) flags → (AreDistinct (flags_names T) → texts picked ≡ found_in flags (flags_names T)) →
+      IfOk m (MakesFlags tree of T picked) → IfErr m (FullFlags of Full T picked) → AreFlags n → names_at source (children_of n) ≡ flags → IsBuilt n m r → IsReadAs tree of Full o w T source n r
+  built_read T flags source n picked m r kind known found makes full ok named built =
       let typed = flags_is T kind (flags_names T) refl in
       record {
-        answer = λ t node distinct. flags_made tree of Full o w T (flags_names T) source n t picked m r typed distinct node ok (subst (AreAllOf (flags_names T)) (sym named) known) (found (subst HasDistinctNames typed distinct) ∙ ap (λ (l : List (List ℕ)). found_in l (flags_names T)) (sym named)) makes full made;
-        within = λ value. made_in source n m r (inl value) made;
-        typed = made_of of T (MakesFlags tree of T picked) n m r (λ v makes. flags_typed T flags picked v kind found makes) makes made;
+        answer = λ t node distinct. flags_built tree of Full o w T (flags_names T) source n t picked m r typed distinct node ok (subst (AreAllOf (flags_names T)) (sym named) known) (found (subst HasDistinctNames typed distinct) ∙ ap (λ (l : List (List ℕ)). found_in l (flags_names T)) (sym named)) makes full built;
+        within = λ value. built_in source n m r (inl value) built;
+        typed = built_of of T (MakesFlags tree of T picked) n m r (λ v makes. flags_typed T flags picked v kind found makes) makes built;
       }
 
   -- the flags were made
   pub flags_read : (T : TypeTree) (flags : List (List ℕ)) (source : List ℕ) (n : NodeTree) (picked : List (Bor (List ℕ))) (v : V) (r : Result V Diagnostic) → kinds.Flags ≡ kind_of T → AreAllOf (flags_names T) flags → (AreDistinct (flags_names T) → texts picked ≡ found_in flags (flags_names T)) →
-      MakesFlags tree of T picked v → AreFlags n → names_at source (children_of n) ≡ flags → IsTold (Ok v) (place_of n) r → IsReadAs tree of Full o w T source n r
-  flags_read T flags source n picked v (Ok w) kind known found makes ok named told = made_read T flags source n picked (Ok v) (Ok w) kind known found makes tt ok named told
-  flags_read T flags source n picked v (Err e) kind known found makes ok named told = absurd told
+      MakesFlags tree of T picked v → AreFlags n → names_at source (children_of n) ≡ flags → IsReported (Ok v) (place_of n) r → IsReadAs tree of Full o w T source n r
+  flags_read T flags source n picked v (Ok w) kind known found makes ok named reported = built_read T flags source n picked (Ok v) (Ok w) kind known found makes tt ok named reported
+  flags_read T flags source n picked v (Err e) kind known found makes ok named reported = absurd reported
 
   -- their constructor refused
   pub flags_refused : (T : TypeTree) (flags : List (List ℕ)) (source : List ℕ) (n : NodeTree) (picked : List (Bor (List ℕ))) (cause : WasmValueError) (f : Fault) (r : Result V Diagnostic) → IsFaultOf cause f → kinds.Flags ≡ kind_of T → AreAllOf (flags_names T) flags → (AreDistinct (flags_names T) → texts picked ≡ found_in flags (flags_names T)) →
-      FullFlags of Full T picked cause → AreFlags n → names_at source (children_of n) ≡ flags → IsTold (Err f) (place_of n) r → IsReadAs tree of Full o w T source n r
-  flags_refused T flags source n picked cause f (Ok w) caused kind known found full ok named told = absurd told
-  flags_refused T flags source n picked cause f (Err e) caused kind known found full ok named told = by (caused (place_of n) e told)
+      FullFlags of Full T picked cause → AreFlags n → names_at source (children_of n) ≡ flags → IsReported (Err f) (place_of n) r → IsReadAs tree of Full o w T source n r
+  flags_refused T flags source n picked cause f (Ok w) caused kind known found full ok named reported = absurd reported
+  flags_refused T flags source n picked cause f (Err e) caused kind known found full ok named reported = by (caused (place_of n) e reported)
     where
       by : IsRefusedBy cause e × (e.span ≡ place_of n) → IsReadAs tree of Full o w T source n (Err e)
-      by (inl same, place) = made_read T flags source n picked (Err cause) (Err e) kind known found tt full ok named (same, place)
+      by (inl same, place) = built_read T flags source n picked (Err cause) (Err e) kind known found tt full ok named (same, place)
       by (inr memory, place) = no_memory tree of Full o w T source n e (record { is = memory.1; stands = place })
 
   -- a node that is neither flags nor `{}`

@@ -28,7 +28,7 @@ use Rattle.wave_grammar.specs.NodeFlags.{IsFirstUnknown, RefusesUnknown}
 use Rattle.wave_grammar.specs.PartReading.{IsCaused}
 use Rattle.wave_grammar.proofs.ErrorSpans.Nodes.{caused_at}
 use Rattle.wave_read.specs.declared.fault.Fault.{Fault}
-use Rattle.wave_read.specs.Private.NamedFlags.{TellsCause, TellsUnknown}
+use Rattle.wave_read.specs.Private.NamedFlags.{ReportsCause, ReportsUnknown}
 
 -- the names of the flags that were shown
 abbrev pub names_shown : List (Bor (Bor (List ℕ))) → List (List ℕ)
@@ -52,9 +52,9 @@ first_unknown names [] more name n e all none refused = inl (none, refused)
 first_unknown names (one ∷ before) more name n e all none refused = inr (all.0, first_unknown names before more name n e all.1 none refused)
 
 -- a fault for a flag that is none of the names, where all before it are among them
-pub tells_unknown : (names flags before more : List (List ℕ)) (name : List ℕ) (f : Fault) → flags ≡ before ++ name ∷ more → AreAllOf names before → IsNoneOf names name → TellsCause (unknown_case name) f → TellsUnknown names flags f
-tells_unknown names flags before more name f split all none told = λ n e tells.
-    let h = told n e tells in
+pub tells_unknown : (names flags before more : List (List ℕ)) (name : List ℕ) (f : Fault) → flags ≡ before ++ name ∷ more → AreAllOf names before → IsNoneOf names name → ReportsCause (unknown_case name) f → ReportsUnknown names flags f
+tells_unknown names flags before more name f split all none reported = λ n e tells.
+    let h = reported n e tells in
     (refuses n e h.0, caused_at (unknown_case name) n e h.0 h.1)
   where
     refuses : (n : NodeTree) (e : Diagnostic) → IsCaused (unknown_case name) n e → RefusesUnknown names flags n e

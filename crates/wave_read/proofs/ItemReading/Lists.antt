@@ -18,14 +18,14 @@ use Rattle.wave_grammar.specs.TypedReading.{IsBlamed}
 use Rattle.wave_grammar.specs.PartReading.{IsOfLength, IsOtherLength}
 use Rattle.wave_grammar.specs.declared.form.NodeType.TheVariants as kind
 use Rattle.wave_grammar.proofs.ByKind.Leaves.{said}
-use Rattle.wave_grammar.proofs.ByKind.Lists.{ItemsBlamed, AreNodesOf, AllRead, has_element, list_fault, list_is, list_nodes, given_nodes, list_item, list_blame, length_blame, list_made, element_distinct, as_many}
+use Rattle.wave_grammar.proofs.ByKind.Lists.{ItemsBlamed, AreNodesOf, AllRead, has_element, list_fault, list_is, list_nodes, given_nodes, list_item, list_blame, length_blame, list_built, element_distinct, as_many}
 use Rattle.wave_grammar.proofs.ChildNodes.Trees.{list_of_trees}
-use Rattle.wave_grammar.proofs.ErrorSpans.Nodes.{at_in, form_at, caused_at, deeper_at, made_in}
-use Rattle.wave_read.specs.Reading.{IsReadAs, IsReadWhereDue}
+use Rattle.wave_grammar.proofs.ErrorSpans.Nodes.{at_in, form_at, caused_at, deeper_at, built_in}
+use Rattle.wave_read.specs.Reading.{IsReadAs, IsReadWhereExpected}
 use Rattle.wave_read.specs.ListParts.{unless_held, AllReadAs, IsFirstRefused, ReadOrHeld}
 use Rattle.wave_grammar.proofs.OneFault.FaultyTrees.{value_fine}
-use Rattle.wave_read.specs.Errors.{IsMadeOrMemory}
-use Rattle.wave_read.proofs.ReadErrors.HandedOn.{made_anew, made_of}
+use Rattle.wave_read.specs.Errors.{IsBuiltOrMemory}
+use Rattle.wave_read.proofs.ReadErrors.HandedOn.{built_anew, built_of}
 
 -- there is one node more
 pub one_more : (ns : List NodeTree) (n : NodeTree) (count next : ℕ) → count ≡ length ns → next ≡ count + 1 → next ≡ length (ns ++ n ∷ [])
@@ -72,7 +72,7 @@ module _ {V : Type 0} (tree : V → Value) (of : V → TypeTree → Type 0) (Ful
   held_still E source ns vs (Some e) n some h = refused_still E source e ns n h
 
   -- an item that was read
-  pub item_kept : {S : Type 0} (type_tree : S → TypeTree) (element : Bor S) (source : List ℕ) (ns : List NodeTree) (vs ws : List V) (held : Option Diagnostic) (n : NodeTree) (v : V) → is_some held ≡ false → ReadOrHeld tree of Full w (type_tree element.now) source ns vs held → IsReadWhereDue tree of Full w w (shown type_tree (unless_held held element)) source n (Ok v) → ws ≡ vs ++ v ∷ [] → ReadOrHeld tree of Full w (type_tree element.now) source (ns ++ n ∷ []) ws held
+  pub item_kept : {S : Type 0} (type_tree : S → TypeTree) (element : Bor S) (source : List ℕ) (ns : List NodeTree) (vs ws : List V) (held : Option Diagnostic) (n : NodeTree) (v : V) → is_some held ≡ false → ReadOrHeld tree of Full w (type_tree element.now) source ns vs held → IsReadWhereExpected tree of Full w w (shown type_tree (unless_held held element)) source n (Ok v) → ws ≡ vs ++ v ∷ [] → ReadOrHeld tree of Full w (type_tree element.now) source (ns ++ n ∷ []) ws held
   item_kept type_tree element source ns vs ws None n v none h now is = rw is (all_next (type_tree element.now) source ns vs n v h now)
   item_kept type_tree element source ns vs ws (Some e) n v none h now is = absurd (cc)
 
@@ -82,7 +82,7 @@ module _ {V : Type 0} (tree : V → Value) (of : V → TypeTree → Type 0) (Ful
   item_read_at_once type_tree element source ns vs ws (Some e) n v none h now is = absurd (cc)
 
   -- the first that was refused
-  pub refusal_held : {S : Type 0} (type_tree : S → TypeTree) (element : Bor S) (source : List ℕ) (ns : List NodeTree) (vs : List V) (held : Option Diagnostic) (n : NodeTree) (e : Diagnostic) → is_some held ≡ false → ReadOrHeld tree of Full w (type_tree element.now) source ns vs held → IsReadWhereDue tree of Full w w (shown type_tree (unless_held held element)) source n (Err e) → ReadOrHeld tree of Full w (type_tree element.now) source (ns ++ n ∷ []) vs (Some e)
+  pub refusal_held : {S : Type 0} (type_tree : S → TypeTree) (element : Bor S) (source : List ℕ) (ns : List NodeTree) (vs : List V) (held : Option Diagnostic) (n : NodeTree) (e : Diagnostic) → is_some held ≡ false → ReadOrHeld tree of Full w (type_tree element.now) source ns vs held → IsReadWhereExpected tree of Full w w (shown type_tree (unless_held held element)) source n (Err e) → ReadOrHeld tree of Full w (type_tree element.now) source (ns ++ n ∷ []) vs (Some e)
   refusal_held type_tree element source ns vs None n e none before now = refused_next (type_tree element.now) source e ns vs n before now
   refusal_held type_tree element source ns vs (Some f) n e none before now = absurd (cc)
 
@@ -162,15 +162,15 @@ module _ {V : Type 0} (tree : V → Value) (of : V → TypeTree → Type 0) (Ful
       ]
 
   -- the list was made, or its constructor refused
-  pub list_read : (T E : TypeTree) (source : List ℕ) (p : Range ℕ) (ns : List NodeTree) (vs : List V) (count : ℕ) (m : Result V WasmValueError) (r : Result V Diagnostic) → list_part T ≡ Some E → count ≡ length ns → IsOfLength T count → AllReadAs tree of Full w E source ns vs → IfOk m (MakesList tree of T vs) → IfErr m (FullList of Full T vs) → IsMadeOrMemory (node kind.List p (node_trees ns)) m r → IsReadAs tree of Full o w T source (node kind.List p (node_trees ns)) r
+  pub list_read : (T E : TypeTree) (source : List ℕ) (p : Range ℕ) (ns : List NodeTree) (vs : List V) (count : ℕ) (m : Result V WasmValueError) (r : Result V Diagnostic) → list_part T ≡ Some E → count ≡ length ns → IsOfLength T count → AllReadAs tree of Full w E source ns vs → IfOk m (MakesList tree of T vs) → IfErr m (FullList of Full T vs) → IsBuiltOrMemory (node kind.List p (node_trees ns)) m r → IsReadAs tree of Full o w T source (node kind.List p (node_trees ns)) r
   list_read T E source p ns vs count m r part many long all ok full done =
-      made_anew (MakesList tree of T vs) (FullList of Full T vs) (node kind.List p (node_trees ns)) m r (λ a f E is all. tt) ok full done (λ m ok full done.
+      built_anew (MakesList tree of T vs) (FullList of Full T vs) (node kind.List p (node_trees ns)) m r (λ a f E is all. tt) ok full done (λ m ok full done.
       record {
         answer = λ t is distinct.
             let children : ns ≡ children_of (node kind.List p (node_trees ns)) = sym (list_of_trees ns) in
             let inner = list_nodes source (node kind.List p (node_trees ns)) t is refl in
             let nodes : AreNodesOf source ns inner.items = given_nodes source (node kind.List p (node_trees ns)) t ns is refl children in
-            list_made tree of Full o w T E t inner.items vs (node kind.List p (node_trees ns)) m r (list_is T E (length inner.items) part (subst (IsOfLength T) (many ∙ as_many source ns inner.items nodes) long)) distinct inner.shape (all_placed E source ns inner.items vs (element_distinct T E part distinct) nodes all) ok full done;
-        within = λ value. made_in source (node kind.List p (node_trees ns)) m r (inl value) done;
-        typed = made_of of T (MakesList tree of T vs) (node kind.List p (node_trees ns)) m r (λ v makes distinct. (makes distinct).is_of) ok done;
+            list_built tree of Full o w T E t inner.items vs (node kind.List p (node_trees ns)) m r (list_is T E (length inner.items) part (subst (IsOfLength T) (many ∙ as_many source ns inner.items nodes) long)) distinct inner.shape (all_placed E source ns inner.items vs (element_distinct T E part distinct) nodes all) ok full done;
+        within = λ value. built_in source (node kind.List p (node_trees ns)) m r (inl value) done;
+        typed = built_of of T (MakesList tree of T vs) (node kind.List p (node_trees ns)) m r (λ v makes distinct. (makes distinct).is_of) ok done;
       })

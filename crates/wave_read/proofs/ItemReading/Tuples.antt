@@ -23,17 +23,17 @@ use Rattle.wave_grammar.specs.declared.form.NodeType.{NodeType}
 use Rattle.wave_grammar.specs.declared.form.NodeType.TheVariants as kind
 use Rattle.wave_grammar.proofs.ByKind.Leaves.{said}
 use Rattle.wave_grammar.proofs.ByKind.Lists.{AreNodesOf, HasAt}
-use Rattle.wave_grammar.proofs.ByKind.Tuples.{ItemsBlamed, ItemsFine, items_blame, TupleType, tuple_is, parts_distinct, tuple_nodes, given_items, tuple_item, tuple_fault, count_blame, ReadAt, tuple_made}
+use Rattle.wave_grammar.proofs.ByKind.Tuples.{ItemsBlamed, ItemsFine, items_blame, TupleType, tuple_is, parts_distinct, tuple_nodes, given_items, tuple_item, tuple_fault, count_blame, ReadAt, tuple_built}
 use Rattle.wave_grammar.proofs.ChildNodes.Trees.{list_of_trees}
-use Rattle.wave_grammar.proofs.ErrorSpans.Nodes.{at_in, form_at, caused_at, deeper_at, made_in}
-use Rattle.wave_read.specs.Reading.{IsReadAs, IsReadWhereDue}
-use Rattle.wave_read.specs.Faults.{IsDoomed}
+use Rattle.wave_grammar.proofs.ErrorSpans.Nodes.{at_in, form_at, caused_at, deeper_at, built_in}
+use Rattle.wave_read.specs.Reading.{IsReadAs, IsReadWhereExpected}
+use Rattle.wave_read.specs.Faults.{IsRefusedWhateverFollows}
 use Rattle.wave_read.specs.TupleParts.{AreReadEach}
 use Rattle.wave_read.specs.declared.fault.Fault.TheVariants as fault
-use Rattle.wave_read.proofs.ReadErrors.DoomedValues.{told_dooms}
+use Rattle.wave_read.proofs.ReadErrors.RejectedValues.{reported_rejects}
 use Rattle.wave_read.specs.declared.error.Reason.TheVariants as reason
-use Rattle.wave_read.specs.Errors.{IsMadeOrMemory}
-use Rattle.wave_read.proofs.ReadErrors.HandedOn.{made_anew, made_of, plain_says, no_memory}
+use Rattle.wave_read.specs.Errors.{IsBuiltOrMemory}
+use Rattle.wave_read.proofs.ReadErrors.HandedOn.{built_anew, built_of, plain_says, no_memory}
 
 -- the one after the first ones
 at_last : {A : Type 0} (xs more : List A) (x : A) → x ≡ get_or ((xs ++ x ∷ []) ++ more) (length xs) x
@@ -55,8 +55,8 @@ module _ {V : Type 0} (tree : V → Value) (of : V → TypeTree → Type 0) (Ful
       }
 
   -- where there was no memory for the parts, whatever they are
-  pub memory_dooms : (T : TypeTree) (source : List ℕ) (ty : NodeType) (ns : List NodeTree) → IsDoomed tree of Full o w T source ty ns (fault.Whole (reason.Plain OutOfMemory))
-  memory_dooms T source ty ns more p e tells = no_memory tree of Full o w T source (node ty p (node_trees (ns ++ more))) e (plain_says OutOfMemory p e tells)
+  pub memory_rejects : (T : TypeTree) (source : List ℕ) (ty : NodeType) (ns : List NodeTree) → IsRefusedWhateverFollows tree of Full o w T source ty ns (fault.Whole (reason.Plain OutOfMemory))
+  memory_rejects T source ty ns more p e tells = no_memory tree of Full o w T source (node ty p (node_trees (ns ++ more))) e (plain_says OutOfMemory p e tells)
 
   -- ---- the first fault of an item
 
@@ -72,19 +72,19 @@ module _ {V : Type 0} (tree : V → Value) (of : V → TypeTree → Type 0) (Ful
 
   -- the refusal of the next item is the first
   next_blamed : (Ts : Types) (source : List ℕ) (ns : List NodeTree) (vs : List V) (n : NodeTree) (more : List NodeTree) (ts : List SpannedTree) (E : TypeTree) (e : Diagnostic) → AllOf HasDistinctNames (type_list Ts) → AreReadEach tree of Full w (type_list Ts) source ns vs → HasAt (type_list Ts) (length ns) E → IsReadAs tree of Full w w E source n (Err e) → AreNodesOf source ((ns ++ n ∷ []) ++ more) ts → ItemsBlamed tree of Full o w Ts ts e
-  next_blamed type.no_types source ns vs n more ts E e distinct h due refused nodes = absurd due
-  next_blamed (type.type_and T rest) source [] vs n more [] E e distinct h due refused nodes = absurd nodes
-  next_blamed (type.type_and T rest) source [] vs n more (t ∷ ts) E e distinct h due refused nodes =
-      here (subst (λ (U : TypeTree). IsBlamed Full w w U t e) (sym due) (refused.answer t nodes.0 (subst HasDistinctNames due distinct.0)))
+  next_blamed type.no_types source ns vs n more ts E e distinct h expected refused nodes = absurd expected
+  next_blamed (type.type_and T rest) source [] vs n more [] E e distinct h expected refused nodes = absurd nodes
+  next_blamed (type.type_and T rest) source [] vs n more (t ∷ ts) E e distinct h expected refused nodes =
+      here (subst (λ (U : TypeTree). IsBlamed Full w w U t e) (sym expected) (refused.answer t nodes.0 (subst HasDistinctNames expected distinct.0)))
     where
       here : IsBlamed Full w w T t e → ItemsBlamed tree of Full o w (type.type_and T rest) (t ∷ ts) e
       here (inl memory) = inl memory
       here (inr (inl fault)) = inr (inl (inl fault))
       here (inr (inr apart)) = inr (inr (apart.0, λ full. apart.1 full.0))
-  next_blamed (type.type_and T rest) source (m ∷ ns) vs n more [] E e distinct h due refused nodes = absurd nodes
-  next_blamed (type.type_and T rest) source (m ∷ ns) [] n more (t ∷ ts) E e distinct h due refused nodes = absurd h
-  next_blamed (type.type_and T rest) source (m ∷ ns) (v ∷ vs) n more (t ∷ ts) E e distinct h due refused nodes =
-      later (next_blamed rest source ns vs n more ts E e distinct.1 h.1 due refused nodes.1)
+  next_blamed (type.type_and T rest) source (m ∷ ns) vs n more [] E e distinct h expected refused nodes = absurd nodes
+  next_blamed (type.type_and T rest) source (m ∷ ns) [] n more (t ∷ ts) E e distinct h expected refused nodes = absurd h
+  next_blamed (type.type_and T rest) source (m ∷ ns) (v ∷ vs) n more (t ∷ ts) E e distinct h expected refused nodes =
+      later (next_blamed rest source ns vs n more ts E e distinct.1 h.1 expected refused nodes.1)
     where
       later : ItemsBlamed tree of Full o w rest ts e → ItemsBlamed tree of Full o w (type.type_and T rest) (t ∷ ts) e
       later (inl memory) = inl memory
@@ -94,7 +94,7 @@ module _ {V : Type 0} (tree : V → Value) (of : V → TypeTree → Type 0) (Ful
   -- ---- item by item
 
   module _ {S : Type 0} (type_tree : S → TypeTree) (source : List ℕ) where
-    -- an item where none is due
+    -- an item where none is expected
     pub each_beyond : (types : List (Bor S)) (ns : List NodeTree) (vs : List V) (n : NodeTree) → is_some (slice_get types (length vs)) ≡ false → AreReadEach tree of Full w (shown_all type_tree types) source ns vs → AreReadEach tree of Full w (shown_all type_tree types) source (ns ++ n ∷ []) vs
     each_beyond [] [] [] n none h = tt
     each_beyond [] [] (v ∷ vs) n none h = absurd h
@@ -106,30 +106,30 @@ module _ {V : Type 0} (tree : V → Value) (of : V → TypeTree → Type 0) (Ful
     each_beyond (x ∷ xs) (m ∷ ns) (v ∷ vs) n none h = (h.0, each_beyond xs ns vs n none h.1)
 
     -- an item that was read
-    pub each_next : (types : List (Bor S)) (ns : List NodeTree) (vs : List V) (n : NodeTree) (v : V) → is_some (slice_get types (length vs)) ≡ true → AreReadEach tree of Full w (shown_all type_tree types) source ns vs → IsReadWhereDue tree of Full w w (shown type_tree (slice_get types (length vs))) source n (Ok v) → AreReadEach tree of Full w (shown_all type_tree types) source (ns ++ n ∷ []) (vs ++ v ∷ [])
+    pub each_next : (types : List (Bor S)) (ns : List NodeTree) (vs : List V) (n : NodeTree) (v : V) → is_some (slice_get types (length vs)) ≡ true → AreReadEach tree of Full w (shown_all type_tree types) source ns vs → IsReadWhereExpected tree of Full w w (shown type_tree (slice_get types (length vs))) source n (Ok v) → AreReadEach tree of Full w (shown_all type_tree types) source (ns ++ n ∷ []) (vs ++ v ∷ [])
     each_next [] ns vs n v some h now = absurd (cc)
     each_next (x ∷ xs) [] [] n v some h now = (now, tt)
     each_next (x ∷ xs) [] (u ∷ vs) n v some h now = absurd h
     each_next (x ∷ xs) (m ∷ ns) [] n v some h now = absurd h
     each_next (x ∷ xs) (m ∷ ns) (u ∷ vs) n v some h now = (h.0, each_next xs ns vs n v some h.1 now)
 
-    -- the type that is due, where what was read was refused
-    record TypeDue (types : List (Bor S)) (ns : List NodeTree) (n : NodeTree) (e : Diagnostic) : Type 0 where
+    -- the type that is expected, where what was read was refused
+    record TypeExpected (types : List (Bor S)) (ns : List NodeTree) (n : NodeTree) (e : Diagnostic) : Type 0 where
       pub part : TypeTree
       pub here : HasAt (shown_all type_tree types) (length ns) part
       pub refused : IsReadAs tree of Full w w part source n (Err e)
 
-    type_due : (types : List (Bor S)) (ns : List NodeTree) (vs : List V) (n : NodeTree) (e : Diagnostic) → is_some (slice_get types (length vs)) ≡ true → AreReadEach tree of Full w (shown_all type_tree types) source ns vs → IsReadWhereDue tree of Full w w (shown type_tree (slice_get types (length vs))) source n (Err e) → TypeDue types ns n e
-    type_due [] ns vs n e some h now = absurd (cc)
-    type_due (x ∷ xs) [] [] n e some h now = record { part = type_tree x.now; here = refl; refused = now }
-    type_due (x ∷ xs) [] (u ∷ vs) n e some h now = absurd h
-    type_due (x ∷ xs) (m ∷ ns) [] n e some h now = absurd h
-    type_due (x ∷ xs) (m ∷ ns) (u ∷ vs) n e some h now =
-        let due = type_due xs ns vs n e some h.1 now in
-        record { part = due.part; here = due.here; refused = due.refused }
+    type_expected : (types : List (Bor S)) (ns : List NodeTree) (vs : List V) (n : NodeTree) (e : Diagnostic) → is_some (slice_get types (length vs)) ≡ true → AreReadEach tree of Full w (shown_all type_tree types) source ns vs → IsReadWhereExpected tree of Full w w (shown type_tree (slice_get types (length vs))) source n (Err e) → TypeExpected types ns n e
+    type_expected [] ns vs n e some h now = absurd (cc)
+    type_expected (x ∷ xs) [] [] n e some h now = record { part = type_tree x.now; here = refl; refused = now }
+    type_expected (x ∷ xs) [] (u ∷ vs) n e some h now = absurd h
+    type_expected (x ∷ xs) (m ∷ ns) [] n e some h now = absurd h
+    type_expected (x ∷ xs) (m ∷ ns) (u ∷ vs) n e some h now =
+        let expected = type_expected xs ns vs n e some h.1 now in
+        record { part = expected.part; here = expected.here; refused = expected.refused }
 
-    item_dooms : (T E : TypeTree) (parts : List TypeTree) (ns : List NodeTree) (vs : List V) (n : NodeTree) (e : Diagnostic) → HasFullParts Full → TupleType T parts → AreReadEach tree of Full w parts source ns vs → HasAt parts (length ns) E → IsReadAs tree of Full w w E source n (Err e) → IsDoomed tree of Full in_text w T source kind.Tuple (ns ++ n ∷ []) (fault.Part e)
-    item_dooms T E parts ns vs n e full is h here refused = told_dooms tree of Full in_text w T source kind.Tuple (ns ++ n ∷ []) e (λ more p.
+    item_rejects : (T E : TypeTree) (parts : List TypeTree) (ns : List NodeTree) (vs : List V) (n : NodeTree) (e : Diagnostic) → HasFullParts Full → TupleType T parts → AreReadEach tree of Full w parts source ns vs → HasAt parts (length ns) E → IsReadAs tree of Full w w E source n (Err e) → IsRefusedWhateverFollows tree of Full in_text w T source kind.Tuple (ns ++ n ∷ []) (fault.Part e)
+    item_rejects T E parts ns vs n e full is h here refused = reported_rejects tree of Full in_text w T source kind.Tuple (ns ++ n ∷ []) e (λ more p.
         let all : List NodeTree = (ns ++ n ∷ []) ++ more in
         let m : NodeTree = node kind.Tuple p (node_trees all) in
         let children : all ≡ children_of m = sym (list_of_trees all) in
@@ -142,10 +142,10 @@ module _ {V : Type 0} (tree : V → Value) (of : V → TypeTree → Type 0) (Ful
         })
 
     -- an item that was refused
-    pub item_refused : (T : TypeTree) (types : List (Bor S)) (ns : List NodeTree) (vs : List V) (n : NodeTree) (e : Diagnostic) → HasFullParts Full → kind_of T ≡ kinds.Tuple → shown_all type_tree types ≡ tuple_parts T → is_some (slice_get types (length vs)) ≡ true → AreReadEach tree of Full w (shown_all type_tree types) source ns vs → IsReadWhereDue tree of Full w w (shown type_tree (slice_get types (length vs))) source n (Err e) → IsDoomed tree of Full in_text w T source kind.Tuple (ns ++ n ∷ []) (fault.Part e)
+    pub item_refused : (T : TypeTree) (types : List (Bor S)) (ns : List NodeTree) (vs : List V) (n : NodeTree) (e : Diagnostic) → HasFullParts Full → kind_of T ≡ kinds.Tuple → shown_all type_tree types ≡ tuple_parts T → is_some (slice_get types (length vs)) ≡ true → AreReadEach tree of Full w (shown_all type_tree types) source ns vs → IsReadWhereExpected tree of Full w w (shown type_tree (slice_get types (length vs))) source n (Err e) → IsRefusedWhateverFollows tree of Full in_text w T source kind.Tuple (ns ++ n ∷ []) (fault.Part e)
     item_refused T types ns vs n e full tuples parts some h now =
-        let due = type_due types ns vs n e some h now in
-        item_dooms T due.part (shown_all type_tree types) ns vs n e full (tuple_is T (shown_all type_tree types) (sym tuples) parts) h due.here due.refused
+        let expected = type_expected types ns vs n e some h now in
+        item_rejects T expected.part (shown_all type_tree types) ns vs n e full (tuple_is T (shown_all type_tree types) (sym tuples) parts) h expected.here expected.refused
 
   -- ---- the whole
 
@@ -189,15 +189,15 @@ module _ {V : Type 0} (tree : V → Value) (of : V → TypeTree → Type 0) (Ful
       subst (λ (U : TypeTree). TypedTuple of U vs) (sym is.is) (subst (λ (Ts : List TypeTree). AreOf of Ts vs) is.parts_are (each_of parts source ns vs (parts_distinct T parts is distinct) (sym many ∙ (same ∙ wanted)) all))
 
   -- the tuple was made, or its constructor refused
-  pub tuple_read : (T : TypeTree) (parts : List TypeTree) (source : List ℕ) (p : Range ℕ) (ns : List NodeTree) (vs : List V) (want count : ℕ) (m : Result V WasmValueError) (r : Result V Diagnostic) → kind_of T ≡ kinds.Tuple → parts ≡ tuple_parts T → want ≡ length parts → count ≡ length ns → count ≡ want → AreReadEach tree of Full w parts source ns vs → IfOk m (MakesTuple tree of T vs) → IfErr m (FullTuple of Full T vs) → IsMadeOrMemory (node kind.Tuple p (node_trees ns)) m r → IsReadAs tree of Full o w T source (node kind.Tuple p (node_trees ns)) r
+  pub tuple_read : (T : TypeTree) (parts : List TypeTree) (source : List ℕ) (p : Range ℕ) (ns : List NodeTree) (vs : List V) (want count : ℕ) (m : Result V WasmValueError) (r : Result V Diagnostic) → kind_of T ≡ kinds.Tuple → parts ≡ tuple_parts T → want ≡ length parts → count ≡ length ns → count ≡ want → AreReadEach tree of Full w parts source ns vs → IfOk m (MakesTuple tree of T vs) → IfErr m (FullTuple of Full T vs) → IsBuiltOrMemory (node kind.Tuple p (node_trees ns)) m r → IsReadAs tree of Full o w T source (node kind.Tuple p (node_trees ns)) r
   tuple_read T parts source p ns vs want count m r tuples parts_are wanted many same all ok full done =
-      made_anew (MakesTuple tree of T vs) (FullTuple of Full T vs) (node kind.Tuple p (node_trees ns)) m r (λ a f Ts is all. tt) ok full done (λ m ok full done.
+      built_anew (MakesTuple tree of T vs) (FullTuple of Full T vs) (node kind.Tuple p (node_trees ns)) m r (λ a f Ts is all. tt) ok full done (λ m ok full done.
       let n : NodeTree = node kind.Tuple p (node_trees ns) in
       let is : TupleType T parts = tuple_is T parts (sym tuples) parts_are in
       let children : ns ≡ children_of n = sym (list_of_trees ns) in
       let counts : length ns ≡ length parts = sym many ∙ (same ∙ wanted) in
       record {
-        answer = λ t node distinct. tuple_made tree of Full o w source T parts n t ns vs (length ns) m r is distinct node refl children counts (omega arith) (each_placed parts source ns (tuple_nodes source n t node refl).items vs (parts_distinct T parts is distinct) counts (given_items source n t ns node refl children) all) ok full done;
-        within = λ value. made_in source n m r (inl value) done;
-        typed = made_of of T (MakesTuple tree of T vs) n m r (λ v makes distinct. (makes distinct).is_of) ok done;
+        answer = λ t node distinct. tuple_built tree of Full o w source T parts n t ns vs (length ns) m r is distinct node refl children counts (omega arith) (each_placed parts source ns (tuple_nodes source n t node refl).items vs (parts_distinct T parts is distinct) counts (given_items source n t ns node refl children) all) ok full done;
+        within = λ value. built_in source n m r (inl value) done;
+        typed = built_of of T (MakesTuple tree of T vs) n m r (λ v makes distinct. (makes distinct).is_of) ok done;
       })

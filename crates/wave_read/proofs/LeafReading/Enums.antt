@@ -21,11 +21,11 @@ use Rattle.wave_grammar.specs.NodeAccessors.{RefusedAs, node_text}
 use Rattle.wave_grammar.specs.PartReading.{IsCaused}
 use Rattle.wave_grammar.specs.declared.form.NodeType.TheVariants as kind
 use Rattle.wave_grammar.proofs.ByKind.Leaves.{said}
-use Rattle.wave_grammar.proofs.ByKind.Enums.{enum_is, enum_fault, unknown_blame, enum_made}
-use Rattle.wave_grammar.proofs.ErrorSpans.Nodes.{at_in, form_at, caused_at, made_in}
+use Rattle.wave_grammar.proofs.ByKind.Enums.{enum_is, enum_fault, unknown_blame, enum_built}
+use Rattle.wave_grammar.proofs.ErrorSpans.Nodes.{at_in, form_at, caused_at, built_in}
 use Rattle.wave_read.specs.Reading.{IsReadAs}
 use Rattle.wave_read.specs.Errors.{IsRefusedBy}
-use Rattle.wave_read.proofs.ReadErrors.HandedOn.{made_anew}
+use Rattle.wave_read.proofs.ReadErrors.HandedOn.{built_anew}
 
 module _ {V : Type 0} (tree : V → Value) (of : V → TypeTree → Type 0) (Full : TypeTree → Type 0) (o w : Order) where
   -- a node of another form than an enum's
@@ -56,11 +56,11 @@ module _ {V : Type 0} (tree : V → Value) (of : V → TypeTree → Type 0) (Ful
       subst (IsOneOf names) (sym (same_name name other same)) one
 
   -- a case that was made is one of the type's
-  pub case_made : (T : TypeTree) (source : List ℕ) (n : NodeTree) (name : List ℕ) (v : V) → kind_of T ≡ kinds.Enum → type_of n ≡ kind.Label → name ≡ name_of (node_text source n) → MakesEnum tree of T name v → IsReadAs tree of Full o w T source n (Ok v)
-  case_made T source n name v is ty named makes =
+  pub case_built : (T : TypeTree) (source : List ℕ) (n : NodeTree) (name : List ℕ) (v : V) → kind_of T ≡ kinds.Enum → type_of n ≡ kind.Label → name ≡ name_of (node_text source n) → MakesEnum tree of T name v → IsReadAs tree of Full o w T source n (Ok v)
+  case_built T source n name v is ty named makes =
       let enum = enum_is T (sym is) (enum_names T) refl in
       record {
-        answer = λ t node distinct. enum_made tree of Full o w T (enum_names T) source n t name (Ok v) (Ok v) enum distinct node.0 ty named (one_of T (enum_names T) name enum (makes distinct).fits) makes tt refl;
+        answer = λ t node distinct. enum_built tree of Full o w T (enum_names T) source n t name (Ok v) (Ok v) enum distinct node.0 ty named (one_of T (enum_names T) name enum (makes distinct).fits) makes tt refl;
         within = λ v. tt;
         typed = λ distinct. (makes distinct).is_of;
       }
@@ -68,9 +68,9 @@ module _ {V : Type 0} (tree : V → Value) (of : V → TypeTree → Type 0) (Ful
   -- a case that is there, which its constructor refused
   pub case_refused : (T : TypeTree) (source : List ℕ) (n : NodeTree) (name : List ℕ) (is_case : Bool) (cause : WasmValueError) (e : Diagnostic) → kind_of T ≡ kinds.Enum → type_of n ≡ kind.Label → name ≡ name_of (node_text source n) → is_case ≡ is_one_of (enum_names T) name → is_case ≡ true → FullEnum of Full T name cause → IsRefusedBy cause e → e.span ≡ place_of n → IsReadAs tree of Full o w T source n (Err e)
   case_refused T source n name is_case cause e is ty named tested there full refused place =
-      made_anew (MakesEnum tree of T name) (FullEnum of Full T name) n (Err cause) (Err e) (λ a f names is one. tt) tt full (refused, place) (λ m ok full done.
+      built_anew (MakesEnum tree of T name) (FullEnum of Full T name) n (Err cause) (Err e) (λ a f names is one. tt) tt full (refused, place) (λ m ok full done.
       record {
-        answer = λ t node distinct. enum_made tree of Full o w T (enum_names T) source n t name m (Err e) (enum_is T (sym is) (enum_names T) refl) distinct node.0 ty named (is_one (enum_names T) name (sym tested ∙ there)) ok full done;
-        within = λ v. made_in source n m (Err e) (inl v) done;
+        answer = λ t node distinct. enum_built tree of Full o w T (enum_names T) source n t name m (Err e) (enum_is T (sym is) (enum_names T) refl) distinct node.0 ty named (is_one (enum_names T) name (sym tested ∙ there)) ok full done;
+        within = λ v. built_in source n m (Err e) (inl v) done;
         typed = tt;
       })

@@ -10,7 +10,7 @@ use Rattle.wave_grammar.specs.declared.form.NodeType.{NodeType}
 use Rattle.wave_grammar.specs.declared.form.NodeType.TheVariants as kind
 use Rattle.wave_grammar.proofs.ByKind.Unreadable.{IsUnread}
 use Rattle.wave_grammar.specs.NodeParts.{IsOneToken}
-use Rattle.wave_read.specs.PlainReading.{IsPlain, SparesWhereDue}
+use Rattle.wave_read.specs.PlainReading.{IsPlain, SparesWhereExpected}
 
 -- the kinds of whole types are read nowhere else
 pub unread : (which : Whole) → IsUnread (whole_kind which)
@@ -44,7 +44,7 @@ plain_parts (type.simple type.char) plain = record { list = λ e. cc; fixed = λ
 plain_parts _ plain = absurd plain
 
 -- a node of another form than a tuple or a list
-pub no_row_spares : {V : Type 0} (due : Option TypeTree) (n : NodeTree) (r : Result V Diagnostic) → ((type_of n ≡ kind.Tuple) ⊎ (type_of n ≡ kind.List) → ⊥) → SparesWhereDue due n r
+pub no_row_spares : {V : Type 0} (expected : Option TypeTree) (n : NodeTree) (r : Result V Diagnostic) → ((type_of n ≡ kind.Tuple) ⊎ (type_of n ≡ kind.List) → ⊥) → SparesWhereExpected expected n r
 no_row_spares None n r other = tt
 no_row_spares (Some T) n r other = λ plain row. absurd (other row)
 

@@ -19,9 +19,9 @@ use Rattle.wave_grammar.specs.NodeTree.{NodeTree}
 use Rattle.wave_grammar.specs.Nodes.{placed_of}
 use Rattle.wave_grammar.specs.NodeAccessors.{node_text, GivesBool, GivesNumber, GivesChar}
 use Rattle.wave_grammar.specs.NodeStrings.{StandsFor}
-use Rattle.wave_grammar.specs.TypedReading.{IsMade}
+use Rattle.wave_grammar.specs.TypedReading.{IsBuilt}
 use Rattle.wave_grammar.specs.declared.form.NodeType.TheVariants as kind
-use Rattle.wave_grammar.proofs.ByKind.MakerAnswers.{leaf_made}
+use Rattle.wave_grammar.proofs.ByKind.MakerAnswers.{leaf_built}
 use Rattle.wave_grammar.proofs.ByKind.Leaves.{bool_read, number_read}
 use Rattle.wave_grammar.proofs.ByKind.TextLeaves.{char_read, string_read}
 use Rattle.wave_read.specs.Leaves.{leaf_node, IsLeafIn}
@@ -54,11 +54,11 @@ run_stands source l x is here own none = inl (is, (x, sym here ∙ own, plain_de
 module _ {V : Type 0} (tree : V → Value) (of : V → TypeTree → Type 0) (Full : TypeTree → Type 0) (o w : Order) where
   -- what the node says was made a value, so that is what is read of it
   soon : (T : TypeTree) (one : value.Leaf) (source : List ℕ) (n : NodeTree) (m : Result V WasmValueError) (r : Option V) → simple_kind (leaf_type one) ≡ kind_of T → ((t : SpannedTree) → placed_of source n ≡ Some t → SimpleTree (leaf_type one) (tree_of t) (value.leaf one)) → IfOk m (MakesLeaf tree of one) → IfErr m (FullLeaf Full one) → IfSome r (λ v. m ≡ Ok v) → IfSome r (λ v. IsReadAs tree of Full o w T source n (Ok v))
-  soon T one source n m None is read made full done = tt
-  soon T one source n m (Some v) is read made full done = read_at_kind tree of Full o w (leaf_type one) T source n (Ok v) is (record {
-    answer = λ t placed distinct. leaf_made tree of Full o w (type.simple (leaf_type one)) t n one m (Ok v) refl (read t placed.0) made full (subst (λ (x : Result V WasmValueError). IsMade n x (Ok v)) (sym done) refl);
+  soon T one source n m None is read built full done = tt
+  soon T one source n m (Some v) is read built full done = read_at_kind tree of Full o w (leaf_type one) T source n (Ok v) is (record {
+    answer = λ t placed distinct. leaf_built tree of Full o w (type.simple (leaf_type one)) t n one m (Ok v) refl (read t placed.0) built full (subst (λ (x : Result V WasmValueError). IsBuilt n x (Ok v)) (sym done) refl);
     within = λ parsed. tt;
-    typed = λ distinct. (subst (λ (x : Result V WasmValueError). IfOk x (MakesLeaf tree of one)) done made).is_of;
+    typed = λ distinct. (subst (λ (x : Result V WasmValueError). IfOk x (MakesLeaf tree of one)) done built).is_of;
   })
 
   -- a whole number

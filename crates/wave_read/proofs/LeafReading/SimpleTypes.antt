@@ -1,4 +1,4 @@
--- What is read where a simple type is due, or one that has no values.
+-- What is read where a simple type is expected, or one that has no values.
 use Rattle.std.proofs.Common.{ℕ, ◌≡◌, ◌≢◌, ◌⊎◌, inl, inr, Bool, true, false, List, Result, Err, refl, sym, ◌∙◌, subst}
 use Rattle.std.specs.declared.ops.Range.{Range}
 use Rattle.wave_wasm.specs.Types as type
@@ -112,14 +112,14 @@ module _ {V : Type 0} (tree : V → Value) (of : V → TypeTree → Type 0) (Ful
 
   -- so where it is known of the type that it is a simple one or has no values
   pub form_refused : (T : TypeTree) (source : List ℕ) (n : NodeTree) (e : Diagnostic) → ((u : Unreadable) → kind_of T ≢ unreadable_kind u) → IsSimpleOrUnreadable T → IsOfParts (type_of n) ⊎ (type_of n ≡ kind.Flags) → RefusedAs why.InvalidType n e → IsReadAs tree of Full o w T source n (Err e)
-  form_refused (type.simple S) source n e values due other refused = other_form S source n e other refused
-  form_refused (type.unreadable u) source n e values due other refused = absurd (values u refl)
-  form_refused _ source n e values due other refused = absurd due
+  form_refused (type.simple S) source n e values expected other refused = other_form S source n e other refused
+  form_refused (type.unreadable u) source n e values expected other refused = absurd (values u refl)
+  form_refused _ source n e values expected other refused = absurd expected
 
   pub type_refused : (T : TypeTree) (k : WasmTypeKind) (u : Unreadable) (source : List ℕ) (n : NodeTree) (e : Diagnostic) → k ≡ kind_of T → k ≡ unreadable_kind u → IsSimpleOrUnreadable T → IsCaused (unsupported_type (kind_word k)) n e → e.span ≡ place_of n → IsReadAs tree of Full o w T source n (Err e)
-  type_refused (type.simple S) k u source n e is same due caused place = absurd (has_values S u (sym is ∙ same))
-  type_refused (type.unreadable v) k u source n e is same due caused place = unreadable_form v k source n e is caused place
-  type_refused _ k u source n e is same due caused place = absurd due
+  type_refused (type.simple S) k u source n e is same expected caused place = absurd (has_values S u (sym is ∙ same))
+  type_refused (type.unreadable v) k u source n e is same expected caused place = unreadable_form v k source n e is caused place
+  type_refused _ k u source n e is same expected caused place = absurd expected
 
   -- ---- leaves
 
@@ -156,8 +156,8 @@ module _ {V : Type 0} (tree : V → Value) (of : V → TypeTree → Type 0) (Ful
 
   -- what is read at another kind, which is that of a whole type or has no values
   pub whole_at_kind : (T : TypeTree) (k : WasmTypeKind) (source : List ℕ) (n : NodeTree) (r : Result V Diagnostic) → k ≡ kind_of T → k ≢ kinds.Bool → k ≢ kinds.Char → k ≢ kinds.String → IsSimpleOrUnreadable T → AnswersWhole tree of Full k source n r → IsReadAs tree of Full o w T source n r
-  whole_at_kind T k source n r is bool char string due h = record {
-    answer = λ t node distinct. whole_answers tree of Full o w T k source n t r is node.0 (by T is due) h;
+  whole_at_kind T k source n r is bool char string expected h = record {
+    answer = λ t node distinct. whole_answers tree of Full o w T k source n t r is node.0 (by T is expected) h;
     within = λ value. all_in source n r (inl value) (whole_at tree of Full k source n r h);
     typed = whole_of T k source n r is h;
   }

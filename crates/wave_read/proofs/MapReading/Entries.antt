@@ -27,15 +27,15 @@ use Rattle.wave_grammar.proofs.ChildNodes.Inside.{inside, AreParsed, parsed, nod
 use Rattle.wave_grammar.proofs.ChildNodes.Trees.{list_of_trees}
 use Rattle.wave_grammar.proofs.ChildNodes.Cases.{shape_at}
 use Rattle.wave_grammar.proofs.ChildNodes.Entries.{AreEntriesOf, IsOfMap, map_nodes}
-use Rattle.wave_grammar.proofs.ByKind.Maps.{EntriesFine, key_none, IsMapOf, map_distinct, NextEntry, map_fault, key_blame, value_blame, EntriesRead, map_made, same_texts}
+use Rattle.wave_grammar.proofs.ByKind.Maps.{EntriesFine, key_none, IsMapOf, map_distinct, NextEntry, map_fault, key_blame, value_blame, EntriesRead, map_built, same_texts}
 use Rattle.wave_grammar.proofs.OneFault.FaultyTrees.{leaf_none, value_fine}
 use Rattle.wave_grammar.proofs.OneFault.FirstOfSeveral.{neither}
-use Rattle.wave_grammar.proofs.ErrorSpans.Nodes.{BelongsTo, children_belong, deeper, at_in, form_at, made_in}
+use Rattle.wave_grammar.proofs.ErrorSpans.Nodes.{BelongsTo, children_belong, deeper, at_in, form_at, built_in}
 use Rattle.wave_read.specs.Reading.{IsReadAs}
 use Rattle.wave_read.proofs.MapReading.KeyedChildren.{ArePaired, paired_from}
 use Rattle.wave_read.specs.MapParts.{AreReadInTurn}
-use Rattle.wave_read.specs.Errors.{IsMadeOrMemory}
-use Rattle.wave_read.proofs.ReadErrors.HandedOn.{made_anew, made_of, anew_of}
+use Rattle.wave_read.specs.Errors.{IsBuiltOrMemory}
+use Rattle.wave_read.proofs.ReadErrors.HandedOn.{built_anew, built_of, anew_of}
 
 -- ---- the type
 
@@ -215,10 +215,10 @@ module _ {V : Type 0} (tree : V → Value) (of : V → TypeTree → Type 0) (Ful
 
   -- a child's refusal stands in the node
   child_in : (source : List ℕ) (before more : List NodeTree) (k : NodeTree) (p : Range ℕ) (e : Diagnostic) → IsValueOf source (node kind.TupleSet p (node_trees ((before ++ k ∷ []) ++ more))) → RefusesIn k e → RefusesIn (node kind.TupleSet p (node_trees ((before ++ k ∷ []) ++ more))) e
-  child_in source before more k p e value told =
+  child_in source before more k p e value reported =
       let m : NodeTree = node kind.TupleSet p (node_trees ((before ++ k ∷ []) ++ more)) in
       let all : AllOf (BelongsTo m) (before ++ k ∷ more) = subst (AllOf (BelongsTo m)) (list_of_trees ((before ++ k ∷ []) ++ more) ∙ append_assoc before (k ∷ []) more) (children_belong source m value) in
-      deeper m k e (belongs_behind (BelongsTo m) before more k all) told
+      deeper m k e (belongs_behind (BelongsTo m) before more k all) reported
 
   -- the next entry, where its key is the first of the nodes
   record KeyHere (source : List ℕ) (k : NodeTree) (es done left : List PlacedEntry) : Type 0 where
@@ -257,8 +257,8 @@ module _ {V : Type 0} (tree : V → Value) (of : V → TypeTree → Type 0) (Ful
       (neither (MapKeyFault K e.place e.key) (FirstFault w w U e.value) (key_fine K e x.0 h.0) (value_fine w w U e.value (tree x.1) distinct h.1.reads), entries_fine K U es xs distinct h.2)
 
   -- a key that is refused dooms the map
-  pub key_dooms : (T S U : TypeTree) (source : List ℕ) (ns more : List NodeTree) (xs : List (V × V)) (k : NodeTree) (p : Range ℕ) (e : Diagnostic) → IsMapOf T S U → HasFullParts Full → AreReadInTurn tree of Full w S U source ns xs None → AnswersMapKey tree of Full S source k (Err e) → (IsKeyOf source k → RefusesIn k e) → IsReadAs tree of Full o w T source (node kind.TupleSet p (node_trees ((ns ++ k ∷ []) ++ more))) (Err e)
-  key_dooms T S U source ns more xs k p e m parts h blamed told =
+  pub key_rejects : (T S U : TypeTree) (source : List ℕ) (ns more : List NodeTree) (xs : List (V × V)) (k : NodeTree) (p : Range ℕ) (e : Diagnostic) → IsMapOf T S U → HasFullParts Full → AreReadInTurn tree of Full w S U source ns xs None → AnswersMapKey tree of Full S source k (Err e) → (IsKeyOf source k → RefusesIn k e) → IsReadAs tree of Full o w T source (node kind.TupleSet p (node_trees ((ns ++ k ∷ []) ++ more))) (Err e)
+  key_rejects T S U source ns more xs k p e m parts h blamed reported =
       record {
         answer = λ t is distinct.
             let c = map_children source ((ns ++ k ∷ []) ++ more) p t is in
@@ -270,7 +270,7 @@ module _ {V : Type 0} (tree : V → Value) (of : V → TypeTree → Type 0) (Ful
             let c = map_children source ((ns ++ k ∷ []) ++ more) p value.0 value.1 in
             let x = key_placed m.key S U source ns more k xs (entry_list c.given) m.key_is h c.nodes in
             let next = x.here.next in
-            child_in source ns more k p e value (told (next.here.place, next.here.key, next.key));
+            child_in source ns more k p e value (reported (next.here.place, next.here.key, next.key));
         typed = tt;
       }
 
@@ -300,8 +300,8 @@ module _ {V : Type 0} (tree : V → Value) (of : V → TypeTree → Type 0) (Ful
       first_is a b xs ys e = cc
 
   -- a value that is refused dooms the map
-  pub value_dooms : (T S U : TypeTree) (source : List ℕ) (ns more : List NodeTree) (xs : List (V × V)) (x : V) (n : NodeTree) (p : Range ℕ) (e : Diagnostic) → IsMapOf T S U → HasFullParts Full → AreReadInTurn tree of Full w S U source ns xs (Some x) → IsReadAs tree of Full w w U source n (Err e) → IsReadAs tree of Full o w T source (node kind.TupleSet p (node_trees ((ns ++ n ∷ []) ++ more))) (Err e)
-  value_dooms T S U source ns more xs x n p e m parts h read =
+  pub value_rejects : (T S U : TypeTree) (source : List ℕ) (ns more : List NodeTree) (xs : List (V × V)) (x : V) (n : NodeTree) (p : Range ℕ) (e : Diagnostic) → IsMapOf T S U → HasFullParts Full → AreReadInTurn tree of Full w S U source ns xs (Some x) → IsReadAs tree of Full w w U source n (Err e) → IsReadAs tree of Full o w T source (node kind.TupleSet p (node_trees ((ns ++ n ∷ []) ++ more))) (Err e)
+  value_rejects T S U source ns more xs x n p e m parts h read =
       record {
         answer = λ t is distinct.
             let c = map_children source ((ns ++ n ∷ []) ++ more) p t is in
@@ -339,35 +339,35 @@ module _ {V : Type 0} (tree : V → Value) (of : V → TypeTree → Type 0) (Ful
       subst (λ (l : List PlacedEntry). EntriesRead tree of Full K U l xs) same (d.read distinct)
 
   -- the map was made of the merged entries, or its constructor refused
-  pub entries_made : (T S U : TypeTree) (source : List ℕ) (ns : List NodeTree) (xs handed : List (V × V)) (waits : Option V) (p : Range ℕ) (made_map : Result V WasmValueError) (r : Result V Diagnostic) → IsMapOf T S U → AreReadInTurn tree of Full w S U source ns xs waits → ((v : V) (T : TypeTree) → of v T → HasType T (tree v)) → handed ≡ merge (same_texts tree of Full) xs → IfOk made_map (MakesMap tree of T handed) → IfErr made_map (FullMap of Full T handed) → IsMadeOrMemory (node kind.TupleSet p (node_trees ns)) made_map r → IsReadAs tree of Full o w T source (node kind.TupleSet p (node_trees ns)) r
-  entries_made T S U source ns xs handed (Some x) p made_map r m h fits merged ok full done =
+  pub entries_built : (T S U : TypeTree) (source : List ℕ) (ns : List NodeTree) (xs handed : List (V × V)) (waits : Option V) (p : Range ℕ) (built_map : Result V WasmValueError) (r : Result V Diagnostic) → IsMapOf T S U → AreReadInTurn tree of Full w S U source ns xs waits → ((v : V) (T : TypeTree) → of v T → HasType T (tree v)) → handed ≡ merge (same_texts tree of Full) xs → IfOk built_map (MakesMap tree of T handed) → IfErr built_map (FullMap of Full T handed) → IsBuiltOrMemory (node kind.TupleSet p (node_trees ns)) built_map r → IsReadAs tree of Full o w T source (node kind.TupleSet p (node_trees ns)) r
+  entries_built T S U source ns xs handed (Some x) p built_map r m h fits merged ok full done =
       record {
         answer = λ t is distinct. absurd (key_alone m.key S U source ns xs x p t m.key_is h is);
         within = λ value. absurd (key_alone m.key S U source ns xs x p value.0 m.key_is h value.1);
-        typed = anew_of of T (MakesMap tree of T handed) (node kind.TupleSet p (node_trees ns)) made_map r (λ v makes distinct. (makes distinct).2.is_of) ok done;
+        typed = anew_of of T (MakesMap tree of T handed) (node kind.TupleSet p (node_trees ns)) built_map r (λ v makes distinct. (makes distinct).2.is_of) ok done;
       }
-  entries_made T S U source ns xs handed None p made_map r m h fits merged ok full done =
-      made_anew (MakesMap tree of T handed) (FullMap of Full T handed) (node kind.TupleSet p (node_trees ns)) made_map r (λ a f K V is all. tt) ok full done (λ made_map ok full done.
+  entries_built T S U source ns xs handed None p built_map r m h fits merged ok full done =
+      built_anew (MakesMap tree of T handed) (FullMap of Full T handed) (node kind.TupleSet p (node_trees ns)) built_map r (λ a f K V is all. tt) ok full done (λ built_map ok full done.
       record {
         answer = λ t is distinct.
             let c = map_children source ns p t is in
             let all = all_read m.key S U source ns xs (entry_list c.given) m.key_is h c.nodes (map_distinct T S U m distinct) in
-            map_made tree of Full o w T S U t c.given xs handed (node kind.TupleSet p (node_trees ns)) made_map r m distinct c.shape fits all merged ok full done;
-        within = λ value. made_in source (node kind.TupleSet p (node_trees ns)) made_map r (inl value) done;
-        typed = made_of of T (MakesMap tree of T handed) (node kind.TupleSet p (node_trees ns)) made_map r (λ v makes distinct. (makes distinct).2.is_of) ok done;
+            map_built tree of Full o w T S U t c.given xs handed (node kind.TupleSet p (node_trees ns)) built_map r m distinct c.shape fits all merged ok full done;
+        within = λ value. built_in source (node kind.TupleSet p (node_trees ns)) built_map r (inl value) done;
+        typed = built_of of T (MakesMap tree of T handed) (node kind.TupleSet p (node_trees ns)) built_map r (λ v makes distinct. (makes distinct).2.is_of) ok done;
       })
 
   -- the map of `{}` was made, or its constructor refused
-  pub none_made : (T : TypeTree) (source : List ℕ) (p : Range ℕ) (handed : List (V × V)) (made_map : Result V WasmValueError) (r : Result V Diagnostic) → kind_of T ≡ kinds.Map → ((v : V) (T : TypeTree) → of v T → HasType T (tree v)) → handed ≡ [] → IfOk made_map (MakesMap tree of T handed) → IfErr made_map (FullMap of Full T handed) → IsMadeOrMemory (node kind.EmptySet p no_nodes) made_map r → IsReadAs tree of Full o w T source (node kind.EmptySet p no_nodes) r
-  none_made T source p handed made_map r is_map fits none ok full done =
-      made_anew (MakesMap tree of T handed) (FullMap of Full T handed) (node kind.EmptySet p no_nodes) made_map r (λ a f K V is all. tt) ok full done (λ made_map ok full done.
+  pub none_built : (T : TypeTree) (source : List ℕ) (p : Range ℕ) (handed : List (V × V)) (built_map : Result V WasmValueError) (r : Result V Diagnostic) → kind_of T ≡ kinds.Map → ((v : V) (T : TypeTree) → of v T → HasType T (tree v)) → handed ≡ [] → IfOk built_map (MakesMap tree of T handed) → IfErr built_map (FullMap of Full T handed) → IsBuiltOrMemory (node kind.EmptySet p no_nodes) built_map r → IsReadAs tree of Full o w T source (node kind.EmptySet p no_nodes) r
+  none_built T source p handed built_map r is_map fits none ok full done =
+      built_anew (MakesMap tree of T handed) (FullMap of Full T handed) (node kind.EmptySet p no_nodes) built_map r (λ a f K V is all. tt) ok full done (λ built_map ok full done.
       let (K, U, same) = of_map_kind T is_map in
       record {
         answer = λ t is distinct.
             let c = map_nodes source (node kind.EmptySet p no_nodes) t is (inr refl) in
-            map_made tree of Full o w T (type.simple K) U t c.given [] handed (node kind.EmptySet p no_nodes) made_map r (record { key = K; key_is = refl; is = same }) distinct c.shape fits (nothing K U (entry_list c.given) c.nodes) none ok full done;
-        within = λ value. made_in source (node kind.EmptySet p no_nodes) made_map r (inl value) done;
-        typed = made_of of T (MakesMap tree of T handed) (node kind.EmptySet p no_nodes) made_map r (λ v makes distinct. (makes distinct).2.is_of) ok done;
+            map_built tree of Full o w T (type.simple K) U t c.given [] handed (node kind.EmptySet p no_nodes) built_map r (record { key = K; key_is = refl; is = same }) distinct c.shape fits (nothing K U (entry_list c.given) c.nodes) none ok full done;
+        within = λ value. built_in source (node kind.EmptySet p no_nodes) built_map r (inl value) done;
+        typed = built_of of T (MakesMap tree of T handed) (node kind.EmptySet p no_nodes) built_map r (λ v makes distinct. (makes distinct).2.is_of) ok done;
       })
     where
       nothing : (K : Simple) (U : TypeTree) (es : List PlacedEntry) → AreEntriesOf source [] es → EntriesRead tree of Full K U es []

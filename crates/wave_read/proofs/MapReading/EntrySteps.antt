@@ -19,14 +19,14 @@ use Rattle.wave_grammar.specs.ErrorSpans.{RefusesIn}
 use Rattle.wave_grammar.specs.declared.form.NodeType.TheVariants as kind
 use Rattle.wave_grammar.proofs.ByKind.Maps.{IsMapOf, map_is, map_distinct, merged_of, same_texts}
 use Rattle.wave_grammar.specs.NodeParts.{TakesKey, TakesPart}
-use Rattle.wave_read.specs.Reading.{IsReadAs, IsReadWhereDue, IsOfType}
-use Rattle.wave_read.specs.Faults.{IsDoomed}
-use Rattle.wave_read.specs.MapParts.{AreReadInTurn, AreEntries, AreKeysOf, value_type_due}
+use Rattle.wave_read.specs.Reading.{IsReadAs, IsReadWhereExpected, IsOfType}
+use Rattle.wave_read.specs.Faults.{IsRefusedWhateverFollows}
+use Rattle.wave_read.specs.MapParts.{AreReadInTurn, AreEntries, AreKeysOf, value_type_expected}
 use Rattle.wave_read.specs.declared.fault.Fault.TheVariants as fault
 use Rattle.wave_read.specs.declared.maps.Entries.{Entries}
-use Rattle.wave_read.proofs.ReadErrors.DoomedValues.{told_dooms}
-use Rattle.wave_read.proofs.MapReading.Entries.{none_waits, one_waits, key_more, value_more, key_dooms, value_dooms, entries_made}
-use Rattle.wave_read.specs.Errors.{IsMadeOrMemory}
+use Rattle.wave_read.proofs.ReadErrors.RejectedValues.{reported_rejects}
+use Rattle.wave_read.proofs.MapReading.Entries.{none_waits, one_waits, key_more, value_more, key_rejects, value_rejects, entries_built}
+use Rattle.wave_read.specs.Errors.{IsBuiltOrMemory}
 
 module _ {V : Type 0} (tree : V → Value) (of : V → TypeTree → Type 0) (Full : TypeTree → Type 0) (o w : Order) {X : Type 0} (type_tree : X → TypeTree) (T : TypeTree) (source : List ℕ) where
   -- after one entry more
@@ -52,7 +52,7 @@ module _ {V : Type 0} (tree : V → Value) (of : V → TypeTree → Type 0) (Ful
     parts_of : IsMapOf T (type_tree x.key_type.now) (type_tree x.value_type.now)
     parts_of = map_is type_tree T (Some (x.key_type, x.value_type)) (x.key_type, x.value_type) refl (sym h.parts_are)
 
-    -- a key is due where none waits
+    -- a key is expected where none waits
     read_for_key : TakesKey kind.TupleSet children → AreReadInTurn tree of Full w (type_tree x.key_type.now) (type_tree x.value_type.now) source children x.entries.items None
     read_for_key even =
         subst (AreReadInTurn tree of Full w (type_tree x.key_type.now) (type_tree x.value_type.now) source children x.entries.items) (none_waits tree of Full o w (type_tree x.key_type.now) (type_tree x.value_type.now) source children x.entries.items x.key even.0 h.read even.1) h.read
@@ -67,22 +67,22 @@ module _ {V : Type 0} (tree : V → Value) (of : V → TypeTree → Type 0) (Ful
     }
 
     -- a key was refused
-    pub key_refused : (k : NodeTree) (e : Diagnostic) → HasFullParts Full → TakesKey kind.TupleSet children → AnswersMapKey tree of Full (type_tree x.key_type.now) source k (Err e) → (IsKeyOf source k → RefusesIn k e) → IsDoomed tree of Full o w T source kind.TupleSet (children ++ k ∷ []) (fault.Part e)
+    pub key_refused : (k : NodeTree) (e : Diagnostic) → HasFullParts Full → TakesKey kind.TupleSet children → AnswersMapKey tree of Full (type_tree x.key_type.now) source k (Err e) → (IsKeyOf source k → RefusesIn k e) → IsRefusedWhateverFollows tree of Full o w T source kind.TupleSet (children ++ k ∷ []) (fault.Part e)
     key_refused k e parts even blamed within =
-        told_dooms tree of Full o w T source kind.TupleSet (children ++ k ∷ []) e (λ more p. key_dooms tree of Full o w T (type_tree x.key_type.now) (type_tree x.value_type.now) source children more x.entries.items k p e parts_of parts (read_for_key even) blamed within)
+        reported_rejects tree of Full o w T source kind.TupleSet (children ++ k ∷ []) e (λ more p. key_rejects tree of Full o w T (type_tree x.key_type.now) (type_tree x.value_type.now) source children more x.entries.items k p e parts_of parts (read_for_key even) blamed within)
 
     -- after the key that waits
     read_for_value : (key : V) → x.key ≡ Some key → AreReadInTurn tree of Full w (type_tree x.key_type.now) (type_tree x.value_type.now) source children x.entries.items (Some key)
     read_for_value key waits = subst (AreReadInTurn tree of Full w (type_tree x.key_type.now) (type_tree x.value_type.now) source children x.entries.items) waits h.read
 
     -- the value after the key that waits was read at its type
-    due_type : (key : V) (n : NodeTree) (r : Result V Diagnostic) → x.key ≡ Some key → IsReadWhereDue tree of Full w w (shown type_tree (value_type_due x)) source n r → IsReadAs tree of Full w w (type_tree x.value_type.now) source n r
-    due_type key n r waits read = subst (λ (o : Option V). IsReadWhereDue tree of Full w w (shown type_tree (option_map (λ k. x.value_type) o)) source n r) waits read
+    expected_type : (key : V) (n : NodeTree) (r : Result V Diagnostic) → x.key ≡ Some key → IsReadWhereExpected tree of Full w w (shown type_tree (value_type_expected x)) source n r → IsReadAs tree of Full w w (type_tree x.value_type.now) source n r
+    expected_type key n r waits read = subst (λ (o : Option V). IsReadWhereExpected tree of Full w w (shown type_tree (option_map (λ k. x.value_type) o)) source n r) waits read
 
     -- a value was read
-    pub value_taken : (n : NodeTree) (r : Result V Diagnostic) (key v : V) (keys : Option V) (all : Vec (V × V) Global) → x.key ≡ Some key → r ≡ Ok v → IsReadWhereDue tree of Full w w (shown type_tree (value_type_due x)) source n r → keys ≡ None → all.items ≡ x.entries.items ++ (key, v) ∷ [] → AreEntries type_tree tree of Full w T source (children ++ n ∷ []) (record x { entries = all; key = keys })
-    value_taken n r key v keys all waits made read no_key is =
-        let here : IsReadAs tree of Full w w (type_tree x.value_type.now) source n (Ok v) = subst (IsReadAs tree of Full w w (type_tree x.value_type.now) source n) made (due_type key n r waits read) in
+    pub value_taken : (n : NodeTree) (r : Result V Diagnostic) (key v : V) (keys : Option V) (all : Vec (V × V) Global) → x.key ≡ Some key → r ≡ Ok v → IsReadWhereExpected tree of Full w w (shown type_tree (value_type_expected x)) source n r → keys ≡ None → all.items ≡ x.entries.items ++ (key, v) ∷ [] → AreEntries type_tree tree of Full w T source (children ++ n ∷ []) (record x { entries = all; key = keys })
+    value_taken n r key v keys all waits built read no_key is =
+        let here : IsReadAs tree of Full w w (type_tree x.value_type.now) source n (Ok v) = subst (IsReadAs tree of Full w w (type_tree x.value_type.now) source n) built (expected_type key n r waits read) in
         let more : AreReadInTurn tree of Full w (type_tree x.key_type.now) (type_tree x.value_type.now) source (children ++ n ∷ []) (x.entries.items ++ (key, v) ∷ []) None = value_more tree of Full o w (type_tree x.key_type.now) (type_tree x.value_type.now) source children x.entries.items n key v (read_for_value key waits) here in
         record {
           type_is = h.type_is;
@@ -91,7 +91,7 @@ module _ {V : Type 0} (tree : V → Value) (of : V → TypeTree → Type 0) (Ful
           keys = subst (λ (l : List (V × V)). AreKeysOf of (type_tree x.key_type.now) l keys) (sym is) (subst (AreKeysOf of (type_tree x.key_type.now) (x.entries.items ++ (key, v) ∷ [])) (sym no_key) (all_keys (type_tree x.key_type.now) x.entries.items key v h.keys.0 (subst (λ (o : Option V). IfSome o (λ v. HasDistinctNames (type_tree x.key_type.now) → of v (type_tree x.key_type.now))) waits h.keys.1), tt));
         }
 
-    -- a key waits where a value is due
+    -- a key waits where a value is expected
     key_before_value : TakesPart kind.TupleSet children → (key : V) × (x.key ≡ Some key)
     key_before_value odd = one_waits tree of Full o w (type_tree x.key_type.now) (type_tree x.value_type.now) source children x.entries.items x.key odd.0 h.read odd.1
 
@@ -101,11 +101,11 @@ module _ {V : Type 0} (tree : V → Value) (of : V → TypeTree → Type 0) (Ful
         absurd (cc (sym waits ∙ is))
 
     -- a value was refused
-    pub value_refused : (n : NodeTree) (r : Result V Diagnostic) (e : Diagnostic) → HasFullParts Full → TakesPart kind.TupleSet children → r ≡ Err e → IsReadWhereDue tree of Full w w (shown type_tree (value_type_due x)) source n r → IsDoomed tree of Full o w T source kind.TupleSet (children ++ n ∷ []) (fault.Part e)
-    value_refused n r e parts odd made read =
+    pub value_refused : (n : NodeTree) (r : Result V Diagnostic) (e : Diagnostic) → HasFullParts Full → TakesPart kind.TupleSet children → r ≡ Err e → IsReadWhereExpected tree of Full w w (shown type_tree (value_type_expected x)) source n r → IsRefusedWhateverFollows tree of Full o w T source kind.TupleSet (children ++ n ∷ []) (fault.Part e)
+    value_refused n r e parts odd built read =
         let (key, waits) = key_before_value odd in
-        let here : IsReadAs tree of Full w w (type_tree x.value_type.now) source n (Err e) = subst (IsReadAs tree of Full w w (type_tree x.value_type.now) source n) made (due_type key n r waits read) in
-        told_dooms tree of Full o w T source kind.TupleSet (children ++ n ∷ []) e (λ more p. value_dooms tree of Full o w T (type_tree x.key_type.now) (type_tree x.value_type.now) source children more x.entries.items key n p e parts_of parts (read_for_value key waits) here)
+        let here : IsReadAs tree of Full w w (type_tree x.value_type.now) source n (Err e) = subst (IsReadAs tree of Full w w (type_tree x.value_type.now) source n) built (expected_type key n r waits read) in
+        reported_rejects tree of Full o w T source kind.TupleSet (children ++ n ∷ []) e (λ more p. value_rejects tree of Full o w T (type_tree x.key_type.now) (type_tree x.value_type.now) source children more x.entries.items key n p e parts_of parts (read_for_value key waits) here)
 
     -- a map of the type has the merged entries
     pub map_typed : (handed : List (V × V)) → handed ≡ merge (same_texts tree of Full) x.entries.items → HasDistinctNames T → TypedMap of T handed
@@ -117,6 +117,6 @@ module _ {V : Type 0} (tree : V → Value) (of : V → TypeTree → Type 0) (Ful
         subst (λ (W : TypeTree). TypedMap of W handed) (sym m.is) (subst (AllOf (λ (e : V × V). of e.0 (type.simple m.key) × of e.1 U)) (sym merged) (merged_of tree of Full m.key U x.entries.items keys values))
 
     -- the map was made of the merged entries, or its constructor refused
-    pub whole_made : (p : Range ℕ) (handed : List (V × V)) (made_map : Result V WasmValueError) (r : Result V Diagnostic) → ((v : V) (U : TypeTree) → of v U → HasType U (tree v)) → handed ≡ merge (same_texts tree of Full) x.entries.items → IfOk made_map (MakesMap tree of (type_tree x.ty.now) handed) → IfErr made_map (FullMap of Full (type_tree x.ty.now) handed) → IsMadeOrMemory (node kind.TupleSet p (node_trees children)) made_map r → IsReadAs tree of Full o w T source (node kind.TupleSet p (node_trees children)) r
-    whole_made p handed made_map r fits merged ok full done =
-        entries_made tree of Full o w T (type_tree x.key_type.now) (type_tree x.value_type.now) source children x.entries.items handed x.key p made_map r parts_of h.read fits merged (subst (λ (U : TypeTree). IfOk made_map (MakesMap tree of U handed)) h.type_is ok) (subst (λ (U : TypeTree). IfErr made_map (FullMap of Full U handed)) h.type_is full) done
+    pub whole_built : (p : Range ℕ) (handed : List (V × V)) (built_map : Result V WasmValueError) (r : Result V Diagnostic) → ((v : V) (U : TypeTree) → of v U → HasType U (tree v)) → handed ≡ merge (same_texts tree of Full) x.entries.items → IfOk built_map (MakesMap tree of (type_tree x.ty.now) handed) → IfErr built_map (FullMap of Full (type_tree x.ty.now) handed) → IsBuiltOrMemory (node kind.TupleSet p (node_trees children)) built_map r → IsReadAs tree of Full o w T source (node kind.TupleSet p (node_trees children)) r
+    whole_built p handed built_map r fits merged ok full done =
+        entries_built tree of Full o w T (type_tree x.key_type.now) (type_tree x.value_type.now) source children x.entries.items handed x.key p built_map r parts_of h.read fits merged (subst (λ (U : TypeTree). IfOk built_map (MakesMap tree of U handed)) h.type_is ok) (subst (λ (U : TypeTree). IfErr built_map (FullMap of Full U handed)) h.type_is full) done

@@ -10,11 +10,11 @@ use Rattle.wave_lex.specs.Errors.{Diagnostic, Says}
 use Rattle.wave_lex.specs.declared.error.ParserErrorKind.TheVariants.{InvalidType}
 use Rattle.wave_grammar.specs.NodeTree.{NodeTree, node, node_trees}
 use Rattle.wave_grammar.specs.declared.form.NodeType.{NodeType}
-use Rattle.wave_read.specs.PlainReading.{IsPlain, TakesMemory, SparesWhereDue}
-use Rattle.wave_read.specs.Reading.{IsReadAs, IsReadWhereDue}
+use Rattle.wave_read.specs.PlainReading.{IsPlain, TakesMemory, SparesWhereExpected}
+use Rattle.wave_read.specs.Reading.{IsReadAs, IsReadWhereExpected}
 use Rattle.wave_read.proofs.ReadErrors.HandedOn.{form_spares}
 use Rattle.wave_read.specs.Flat.{IsFlatAt, IsOfFlatPart}
-use Rattle.wave_read.specs.KeptParts.{AreOfType, AreKeptWhereDue}
+use Rattle.wave_read.specs.KeptParts.{AreOfType, AreKeptWhereExpected}
 use Rattle.wave_read.specs.PartsOfKinds.{AreParts, AreBareOrRead, IsBare, IsSimpleAt}
 use Rattle.wave_read.specs.declared.parts.Partial.{Partial}
 use Rattle.wave_read.specs.declared.parts.Partial.TheVariants as parts
@@ -36,7 +36,7 @@ module _ {S V : Type 0} (type_tree : S → TypeTree) (tree : V → Value) (of : 
   more_of_type T children n (Some x) kept new step h = (h.0, (h.1.0, h.1.1, step h.1.0 h.1.2))
 
   -- after one more
-  pub one_more : (due : Option TypeTree) (children : List NodeTree) (n : NodeTree) (kept : Frame S V) (next : Partial S V) → ((U : TypeTree) → AreParts type_tree tree of Full w U source ty children kept.parts → AreParts type_tree tree of Full w U source ty (children ++ n ∷ []) next) → (IsBare kept.parts → next ≡ kept.parts) → AreKeptWhereDue type_tree tree of Full w due source ty children kept → AreKeptWhereDue type_tree tree of Full w due source ty (children ++ n ∷ []) (record { around = kept.around; parts = next })
+  pub one_more : (expected : Option TypeTree) (children : List NodeTree) (n : NodeTree) (kept : Frame S V) (next : Partial S V) → ((U : TypeTree) → AreParts type_tree tree of Full w U source ty children kept.parts → AreParts type_tree tree of Full w U source ty (children ++ n ∷ []) next) → (IsBare kept.parts → next ≡ kept.parts) → AreKeptWhereExpected type_tree tree of Full w expected source ty children kept → AreKeptWhereExpected type_tree tree of Full w expected source ty (children ++ n ∷ []) (record { around = kept.around; parts = next })
   one_more None children n kept next step stays h = (subst (λ (x : Partial S V). IsBare x) (sym (stays h.0)) h.0, h.1)
   one_more (Some T) children n kept next step stays h = (
     more_of_type T children n kept.around kept (record { around = kept.around; parts = next }) step h.0,
@@ -48,48 +48,48 @@ module _ {S V : Type 0} (type_tree : S → TypeTree) (tree : V → Value) (of : 
   of_type_read T children (Some x) kept h = inr (w, h.1.0, source, ty, children, h.1.2)
 
   -- of those that are kept nothing is kept, or they were read
-  pub kept_read : (due : Option TypeTree) (children : List NodeTree) (kept : Frame S V) → AreKeptWhereDue type_tree tree of Full w due source ty children kept → AreBareOrRead type_tree tree of Full kept.parts
+  pub kept_read : (expected : Option TypeTree) (children : List NodeTree) (kept : Frame S V) → AreKeptWhereExpected type_tree tree of Full w expected source ty children kept → AreBareOrRead type_tree tree of Full kept.parts
   kept_read None children kept h = inl h.0
   kept_read (Some T) children kept h = of_type_read T children kept.around kept h.0
 
   module _ (children : List NodeTree) (place : Range ℕ) where
     -- the whole, where nothing is around it
-    pub whole_alone : (due : Option TypeTree) (kept : Frame S V) (r : Result V Diagnostic) → kept.around ≡ None → ((U : TypeTree) → AreParts type_tree tree of Full w U source ty children kept.parts → IsReadAs tree of Full in_text w U source (node ty place (node_trees children)) r) → AreKeptWhereDue type_tree tree of Full w due source ty children kept → IsReadWhereDue tree of Full in_text w due source (node ty place (node_trees children)) r
+    pub whole_alone : (expected : Option TypeTree) (kept : Frame S V) (r : Result V Diagnostic) → kept.around ≡ None → ((U : TypeTree) → AreParts type_tree tree of Full w U source ty children kept.parts → IsReadAs tree of Full in_text w U source (node ty place (node_trees children)) r) → AreKeptWhereExpected type_tree tree of Full w expected source ty children kept → IsReadWhereExpected tree of Full in_text w expected source (node ty place (node_trees children)) r
     whole_alone None kept r alone whole h = tt
     whole_alone (Some T) kept r alone whole h = whole T (subst (λ (o : Option (Bor S)). AreOfType type_tree tree of Full w T source ty children o kept) alone h.0)
 
     -- where an option or a result is
-    pub whole_around : (due : Option TypeTree) (kept : Frame S V) (x : Bor S) (made r : Result V Diagnostic) → kept.around ≡ Some x → ((U : TypeTree) → AreParts type_tree tree of Full w U source ty children kept.parts → IsReadAs tree of Full in_text w U source (node ty place (node_trees children)) made) → ((U : TypeTree) → IsFlatAt (type_tree x.now) ty U → IsReadAs tree of Full in_text w U source (node ty place (node_trees children)) made → IsReadAs tree of Full in_text w (type_tree x.now) source (node ty place (node_trees children)) r) → AreKeptWhereDue type_tree tree of Full w due source ty children kept → IsReadWhereDue tree of Full in_text w due source (node ty place (node_trees children)) r
-    whole_around None kept x made r is whole around h = tt
-    whole_around (Some T) kept x made r is whole around h =
+    pub whole_around : (expected : Option TypeTree) (kept : Frame S V) (x : Bor S) (built r : Result V Diagnostic) → kept.around ≡ Some x → ((U : TypeTree) → AreParts type_tree tree of Full w U source ty children kept.parts → IsReadAs tree of Full in_text w U source (node ty place (node_trees children)) built) → ((U : TypeTree) → IsFlatAt (type_tree x.now) ty U → IsReadAs tree of Full in_text w U source (node ty place (node_trees children)) built → IsReadAs tree of Full in_text w (type_tree x.now) source (node ty place (node_trees children)) r) → AreKeptWhereExpected type_tree tree of Full w expected source ty children kept → IsReadWhereExpected tree of Full in_text w expected source (node ty place (node_trees children)) r
+    whole_around None kept x built r is whole around h = tt
+    whole_around (Some T) kept x built r is whole around h =
         let held = subst (λ (o : Option (Bor S)). AreOfType type_tree tree of Full w T source ty children o kept) is h.0 in
         subst (λ (W : TypeTree). IsReadAs tree of Full in_text w W source (node ty place (node_trees children)) r) held.0
         (around held.1.0 (subst (λ (W : TypeTree). IsFlatAt W ty held.1.0) (sym held.0) held.1.1) (whole held.1.0 held.1.2))
 
     -- what is read of the parts of a flat payload is of its type
-    pub part_around : (due : Option TypeTree) (kept : Frame S V) (x : Bor S) (made : Result V Diagnostic) → kept.around ≡ Some x → ((U : TypeTree) → AreParts type_tree tree of Full w U source ty children kept.parts → IsReadAs tree of Full in_text w U source (node ty place (node_trees children)) made) → AreKeptWhereDue type_tree tree of Full w due source ty children kept → IsOfFlatPart of (type_tree x.now) made
-    part_around None kept x made is whole h = absurd (cc (sym h.1 ∙ is))
-    part_around (Some T) kept x made is whole h =
+    pub part_around : (expected : Option TypeTree) (kept : Frame S V) (x : Bor S) (built : Result V Diagnostic) → kept.around ≡ Some x → ((U : TypeTree) → AreParts type_tree tree of Full w U source ty children kept.parts → IsReadAs tree of Full in_text w U source (node ty place (node_trees children)) built) → AreKeptWhereExpected type_tree tree of Full w expected source ty children kept → IsOfFlatPart of (type_tree x.now) built
+    part_around None kept x built is whole h = absurd (cc (sym h.1 ∙ is))
+    part_around (Some T) kept x built is whole h =
         let held = subst (λ (o : Option (Bor S)). AreOfType type_tree tree of Full w T source ty children o kept) is h.0 in
         (ty, held.1.0, subst (λ (W : TypeTree). IsFlatAt W ty held.1.0) (sym held.0) held.1.1, (whole held.1.0 held.1.2).typed)
 
     -- at a plain type it is refused without memory
-    pub alone_spares : (due : Option TypeTree) (n : NodeTree) (kept : Frame S V) (r : Result V Diagnostic) → ((T : TypeTree) → IsPlain T → IsSimpleAt type_tree T kept.parts → IfErr r (λ e. Says e InvalidType place None)) → AreKeptWhereDue type_tree tree of Full w due source ty children kept → SparesWhereDue due n r
+    pub alone_spares : (expected : Option TypeTree) (n : NodeTree) (kept : Frame S V) (r : Result V Diagnostic) → ((T : TypeTree) → IsPlain T → IsSimpleAt type_tree T kept.parts → IfErr r (λ e. Says e InvalidType place None)) → AreKeptWhereExpected type_tree tree of Full w expected source ty children kept → SparesWhereExpected expected n r
     alone_spares None n kept r whole h = tt
     alone_spares (Some T) n kept r whole h = λ plain row. form_spares r place (whole T plain (h.1 plain))
 
     -- and nothing is around it
-    pub around_spares : (due : Option TypeTree) (n : NodeTree) (kept : Frame S V) (x : Bor S) (s : Result V Diagnostic) → kept.around ≡ Some x → AreKeptWhereDue type_tree tree of Full w due source ty children kept → SparesWhereDue due n s
+    pub around_spares : (expected : Option TypeTree) (n : NodeTree) (kept : Frame S V) (x : Bor S) (s : Result V Diagnostic) → kept.around ≡ Some x → AreKeptWhereExpected type_tree tree of Full w expected source ty children kept → SparesWhereExpected expected n s
     around_spares None n kept x s is h = tt
     around_spares (Some T) n kept x s is h = λ plain row.
         let held = subst (λ (o : Option (Bor S)). AreOfType type_tree tree of Full w T source ty children o kept) is h.0 in
         absurd (none_flat T held.1.0 ty plain held.1.1)
 
 -- out of memory is answered only where memory is taken for parts
-pub wants_where_due : {S V A E : Type 0} (type_tree : S → TypeTree) (tree : V → Value) (of : V → TypeTree → Type 0) (Full : TypeTree → Type 0) (kept : Frame S V) (r : Result A E) → (IsBare kept.parts → IsOk r) → IfErr r (λ _. (w : Order) (due : Option TypeTree) (source : List ℕ) (ty : NodeType) (children : List NodeTree) → AreKeptWhereDue type_tree tree of Full w due source ty children kept → TakesMemory due)
-wants_where_due type_tree tree of Full kept (Ok a) bare = tt
-wants_where_due {S} {V} {A} {E} type_tree tree of Full kept (Err e) bare = wants
+pub wants_where_expected : {S V A E : Type 0} (type_tree : S → TypeTree) (tree : V → Value) (of : V → TypeTree → Type 0) (Full : TypeTree → Type 0) (kept : Frame S V) (r : Result A E) → (IsBare kept.parts → IsOk r) → IfErr r (λ _. (w : Order) (expected : Option TypeTree) (source : List ℕ) (ty : NodeType) (children : List NodeTree) → AreKeptWhereExpected type_tree tree of Full w expected source ty children kept → TakesMemory expected)
+wants_where_expected type_tree tree of Full kept (Ok a) bare = tt
+wants_where_expected {S} {V} {A} {E} type_tree tree of Full kept (Err e) bare = wants
   where
-    wants : (w : Order) (due : Option TypeTree) (source : List ℕ) (ty : NodeType) (children : List NodeTree) → AreKeptWhereDue type_tree tree of Full w due source ty children kept → TakesMemory due
+    wants : (w : Order) (expected : Option TypeTree) (source : List ℕ) (ty : NodeType) (children : List NodeTree) → AreKeptWhereExpected type_tree tree of Full w expected source ty children kept → TakesMemory expected
     wants w None source ty children h = absurd (no_ok A e (bare h.0))
     wants w (Some T) source ty children h = λ plain. absurd (no_ok A e (bare (simple_bare type_tree T kept.parts (h.1 plain))))

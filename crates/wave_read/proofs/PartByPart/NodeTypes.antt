@@ -1,4 +1,4 @@
--- The type at which a node is read: the one that is due, or that of the flat payload that the node stands for.
+-- The type at which a node is read: the one that is expected, or that of the flat payload that the node stands for.
 use Rattle.std.proofs.Common.{ℕ, IfSome, IfNone, MatchOption, ◌≡◌, ◌≢◌, ◌⊎◌, inl, inr, Bool, true, false, List, [], length, Option, Some, None, Bor, Err, refl, sym, ap, ◌∙◌, subst}
 use Rattle.std.specs.declared.ops.Range.{Range}
 use Rattle.wave_wasm.specs.Types as type
@@ -15,12 +15,12 @@ use Rattle.wave_grammar.specs.declared.form.NodeType.TheVariants as node_type
 use Rattle.wave_grammar.proofs.ByKind.Tuples.{as_shown, counted}
 use Rattle.wave_read.specs.Leaves.{IsSimpleOrUnreadable}
 use Rattle.wave_read.specs.PlainReading.{IsReadSparing}
-use Rattle.wave_read.specs.Faults.{IsOfKind, Tells}
+use Rattle.wave_read.specs.Faults.{IsOfKind, Reports}
 use Rattle.wave_read.specs.Flat.{IsAround, IsCounted, IsFlatAt, IsReadAt, ReadsFlags, ReadsNoRecord}
-use Rattle.wave_read.specs.KeptParts.{AreKeptWhereDue, AreOfType}
+use Rattle.wave_read.specs.KeptParts.{AreKeptWhereExpected, AreOfType}
 use Rattle.wave_read.specs.Payloads.{result_node}
 use Rattle.wave_read.specs.TupleParts.{IsRow}
-use Rattle.wave_read.specs.PartsOfKinds.{AreDoomedAtOnce, AreParts, IsSimpleAt}
+use Rattle.wave_read.specs.PartsOfKinds.{AreRefusedAtOnce, AreParts, IsSimpleAt}
 use Rattle.wave_read.specs.declared.fault.Fault.{Fault}
 use Rattle.wave_read.specs.declared.parts.Partial.{Partial}
 use Rattle.wave_read.specs.declared.parts.Partial.TheVariants as parts
@@ -118,12 +118,12 @@ module _ {S V : Type 0} (type_tree : S → TypeTree) (tree : V → Value) (of : 
   -- the tuple that is read at a node of these parts, of which none was read yet, has so many items
   abbrev AreCounted : Type 0
   AreCounted =
-      (w : Order) (T : TypeTree) (source : List ℕ) (ty : NodeType) → IsOfParts ty → AreKeptWhereDue type_tree tree of Full w (Some T) source ty [] x
-      → AreDoomedAtOnce type_tree tree of Full T ty x.parts → IsCounted T ty count
+      (w : Order) (T : TypeTree) (source : List ℕ) (ty : NodeType) → IsOfParts ty → AreKeptWhereExpected type_tree tree of Full w (Some T) source ty [] x
+      → AreRefusedAtOnce type_tree tree of Full T ty x.parts → IsCounted T ty count
 
   -- where a row has as many types
   pub row_counts : (row : TupleItems S V) (r : Option Diagnostic) → x.parts ≡ parts.TupleItems row → MatchOption r (count ≡ length row.types.items) (λ _. count ≢ length row.types.items) → IfNone r AreCounted
-  row_counts row None is counts = λ w T source ty of_parts kept doomed.
+  row_counts row None is counts = λ w T source ty of_parts kept rejected.
       counted_items type_tree tree of Full w source T ty x count (λ f e. no_fault f (sym is ∙ e)) (λ s same. subst (λ (z : TupleItems S V). count ≡ length z.types.items) (one_row row s (sym is ∙ same)) counts) kept.0
     where
       no_fault : (f : Fault) → parts.TupleItems row ≡ parts.Faulty f → ⊥
@@ -135,24 +135,24 @@ module _ {S V : Type 0} (type_tree : S → TypeTree) (tree : V → Value) (of : 
 
   -- where the parts are neither a row nor have a fault
   pub others_count : ((f : Fault) → x.parts ≡ parts.Faulty f → ⊥) → ((row : TupleItems S V) → x.parts ≡ parts.TupleItems row → ⊥) → AreCounted
-  others_count faulty none w T source ty of_parts kept doomed = counted_items type_tree tree of Full w source T ty x count faulty (λ row is. absurd (none row is)) kept.0
+  others_count faulty none w T source ty of_parts kept rejected = counted_items type_tree tree of Full w source T ty x count faulty (λ row is. absurd (none row is)) kept.0
 
   module _ (f : Fault) (is : x.parts ≡ parts.Faulty f) where
     -- a fault of parts of which none was read yet is of its kind alone
-    pub fault_counts : (r : Option Diagnostic) (p : Range ℕ) → MatchOption r (IsOfKind f → ⊥) (Tells f p) → IfNone r AreCounted
-    fault_counts None p none = λ w T source ty of_parts kept doomed. absurd (none (doomed f is).0)
-    fault_counts (Some e) p told = tt
+    pub fault_counts : (r : Option Diagnostic) (p : Range ℕ) → MatchOption r (IsOfKind f → ⊥) (Reports f p) → IfNone r AreCounted
+    fault_counts None p none = λ w T source ty of_parts kept rejected. absurd (none (rejected f is).0)
+    fault_counts (Some e) p reported = tt
 
     -- and is that of the whole, in whatever order
-    pub fault_answered : (r : Option Diagnostic) (p : Range ℕ) → MatchOption r (IsOfKind f → ⊥) (Tells f p)
-        → IfSome r (λ e. (w : Order) (due : Option TypeTree) (source : List ℕ) (ty : NodeType) (children : List NodeTree) → IsOfParts ty → length children ≡ count → AreKeptWhereDue type_tree tree of Full w due source ty [] x
-        → ((T : TypeTree) → due ≡ Some T → AreDoomedAtOnce type_tree tree of Full T ty x.parts) → IsReadSparing tree of Full by_type w due source (node ty p (node_trees children)) (Err e))
+    pub fault_answered : (r : Option Diagnostic) (p : Range ℕ) → MatchOption r (IsOfKind f → ⊥) (Reports f p)
+        → IfSome r (λ e. (w : Order) (expected : Option TypeTree) (source : List ℕ) (ty : NodeType) (children : List NodeTree) → IsOfParts ty → length children ≡ count → AreKeptWhereExpected type_tree tree of Full w expected source ty [] x
+        → ((T : TypeTree) → expected ≡ Some T → AreRefusedAtOnce type_tree tree of Full T ty x.parts) → IsReadSparing tree of Full by_type w expected source (node ty p (node_trees children)) (Err e))
     fault_answered None p none = tt
-    fault_answered (Some e) p told = answered
+    fault_answered (Some e) p reported = answered
       where
-        answered : (w : Order) (due : Option TypeTree) (source : List ℕ) (ty : NodeType) (children : List NodeTree) → IsOfParts ty → length children ≡ count → AreKeptWhereDue type_tree tree of Full w due source ty [] x → ((T : TypeTree) → due ≡ Some T → AreDoomedAtOnce type_tree tree of Full T ty x.parts) → IsReadSparing tree of Full by_type w due source (node ty p (node_trees children)) (Err e)
-        answered w None source ty children of_parts long kept doomed = (tt, tt)
-        answered w (Some T) source ty children of_parts long kept doomed = (
-          (doomed T refl f is).1 by_type w source of_parts children p e told,
+        answered : (w : Order) (expected : Option TypeTree) (source : List ℕ) (ty : NodeType) (children : List NodeTree) → IsOfParts ty → length children ≡ count → AreKeptWhereExpected type_tree tree of Full w expected source ty [] x → ((T : TypeTree) → expected ≡ Some T → AreRefusedAtOnce type_tree tree of Full T ty x.parts) → IsReadSparing tree of Full by_type w expected source (node ty p (node_trees children)) (Err e)
+        answered w None source ty children of_parts long kept rejected = (tt, tt)
+        answered w (Some T) source ty children of_parts long kept rejected = (
+          (rejected T refl f is).1 by_type w source of_parts children p e reported,
           λ plain. absurd (subst (IsSimpleAt type_tree T) is (kept.1 plain)),
         )

@@ -22,20 +22,20 @@ use Rattle.wave_grammar.specs.NodeAccessors.{node_text}
 use Rattle.wave_grammar.specs.TypedReading.{IsValueOf}
 use Rattle.wave_grammar.specs.PartReading.{IsCaused, IsPayloadNodeOf}
 use Rattle.wave_grammar.specs.declared.form.NodeType.TheVariants as kind
-use Rattle.wave_grammar.proofs.ByKind.Variants.{HasCase, case_found, case_missing, case_distinct, case_blame, no_case_blame, variant_made}
-use Rattle.wave_grammar.proofs.ErrorSpans.Nodes.{at_in, caused_at, made_in, deeper}
-use Rattle.wave_read.specs.Reading.{IsReadAs, IsReadWhereDue}
-use Rattle.wave_read.specs.CaseParts.{payload_due, IsLabelOf, IsCaseRead, AreCaseParts}
-use Rattle.wave_read.specs.Faults.{IsDoomed}
+use Rattle.wave_grammar.proofs.ByKind.Variants.{HasCase, case_found, case_missing, case_distinct, case_blame, no_case_blame, variant_built}
+use Rattle.wave_grammar.proofs.ErrorSpans.Nodes.{at_in, caused_at, built_in, deeper}
+use Rattle.wave_read.specs.Reading.{IsReadAs, IsReadWhereExpected}
+use Rattle.wave_read.specs.CaseParts.{payload_expected, IsLabelOf, IsCaseRead, AreCaseParts}
+use Rattle.wave_read.specs.Faults.{IsRefusedWhateverFollows}
 use Rattle.wave_read.specs.Private.Faults.{IsFaultOf}
 use Rattle.wave_read.specs.declared.fault.Fault.TheVariants as fault
 use Rattle.wave_read.specs.declared.variants.CasePayload.{CasePayload}
 use Rattle.wave_read.proofs.PayloadReading.CaseNodes.{variant_type, case_named, case_node, payload_belongs, unexpected_blame, payload_blame, payload_read}
-use Rattle.wave_read.proofs.ReadErrors.DoomedValues.{told_dooms, caused_dooms}
-use Rattle.wave_read.specs.Errors.{IsMadeOrMemory}
+use Rattle.wave_read.proofs.ReadErrors.RejectedValues.{reported_rejects, caused_rejects}
+use Rattle.wave_read.specs.Errors.{IsBuiltOrMemory}
 use Rattle.wave_read.specs.declared.fault.Fault.{Fault}
 use Rattle.wave_wasm.specs.ValueErrors.{cause_of}
-use Rattle.wave_read.proofs.ReadErrors.HandedOn.{made_anew, made_of}
+use Rattle.wave_read.proofs.ReadErrors.HandedOn.{built_anew, built_of}
 
 first_same : (n u : NodeTree) (more : List NodeTree) → n ∷ more ≡ u ∷ [] → u ≡ n
 first_same n u more e = cc
@@ -66,8 +66,8 @@ module _ {S V : Type 0} (type_tree : S → TypeTree) (tree : V → Value) (of : 
   label_read T source label before case (Some v) none h = absurd none
 
   -- no case has the name
-  pub unknown_doomed : (T : TypeTree) (source : List ℕ) (c : NodeTree) (name : List ℕ) (cause : WasmValueError) (f : Fault) → kind_of T ≡ kinds.Variant → name ≡ name_of (node_text source c) → None ≡ look_up (variant_parts T) name → cause_of cause ≡ unknown_case name → IsFaultOf cause f → IsDoomed tree of Full o w T source kind.VariantWithPayload (c ∷ []) f
-  unknown_doomed T source c name cause f is named missing said told = caused_dooms tree of Full o w T source kind.VariantWithPayload (c ∷ []) cause f told (λ more p e same place.
+  pub unknown_rejected : (T : TypeTree) (source : List ℕ) (c : NodeTree) (name : List ℕ) (cause : WasmValueError) (f : Fault) → kind_of T ≡ kinds.Variant → name ≡ name_of (node_text source c) → None ≡ look_up (variant_parts T) name → cause_of cause ≡ unknown_case name → IsFaultOf cause f → IsRefusedWhateverFollows tree of Full o w T source kind.VariantWithPayload (c ∷ []) f
+  unknown_rejected T source c name cause f is named missing said reported = caused_rejects tree of Full o w T source kind.VariantWithPayload (c ∷ []) cause f reported (λ more p e same place.
       let variant = variant_type T is in
       let n = node kind.VariantWithPayload p (node_trees (c ∷ more)) in
       let refused : IsCaused (unknown_case name) n e = inr (same ∙ ap refused_by said, place) in
@@ -80,8 +80,8 @@ module _ {S V : Type 0} (type_tree : S → TypeTree) (tree : V → Value) (of : 
       })
 
   -- the case of the name has no payload
-  pub unexpected_doomed : (T : TypeTree) (source : List ℕ) (c : NodeTree) (name : List ℕ) (cause : WasmValueError) (f : Fault) → HasFullParts Full → kind_of T ≡ kinds.Variant → name ≡ name_of (node_text source c) → Some None ≡ look_up (variant_parts T) name → cause_of cause ≡ unexpected_payload name → IsFaultOf cause f → IsDoomed tree of Full o w T source kind.VariantWithPayload (c ∷ []) f
-  unexpected_doomed T source c name cause f parts is named here said told = caused_dooms tree of Full o w T source kind.VariantWithPayload (c ∷ []) cause f told (λ more p e same place.
+  pub unexpected_rejected : (T : TypeTree) (source : List ℕ) (c : NodeTree) (name : List ℕ) (cause : WasmValueError) (f : Fault) → HasFullParts Full → kind_of T ≡ kinds.Variant → name ≡ name_of (node_text source c) → Some None ≡ look_up (variant_parts T) name → cause_of cause ≡ unexpected_payload name → IsFaultOf cause f → IsRefusedWhateverFollows tree of Full o w T source kind.VariantWithPayload (c ∷ []) f
+  unexpected_rejected T source c name cause f parts is named here said reported = caused_rejects tree of Full o w T source kind.VariantWithPayload (c ∷ []) cause f reported (λ more p e same place.
       let variant = variant_type T is in
       let n = node kind.VariantWithPayload p (node_trees (c ∷ more)) in
       let found : HasCase variant.cases name type.no_type = case_found T (variant_parts T) variant name None here in
@@ -96,8 +96,8 @@ module _ {S V : Type 0} (type_tree : S → TypeTree) (tree : V → Value) (of : 
   -- ---- the payload
 
   -- the refusal of the payload of this case
-  told_of_payload : (T : TypeTree) (source : List ℕ) (c n : NodeTree) (case : Bor (List ℕ) × Bor S) (error : Diagnostic) → HasFullParts Full → kind_of T ≡ kinds.Variant → IsLabelOf type_tree tree of Full w T source c case → IsReadAs tree of Full w w (type_tree case.1.now) source n (Err error) → IsDoomed tree of Full o w T source kind.VariantWithPayload (c ∷ n ∷ []) (fault.Part error)
-  told_of_payload T source c n case error parts is label read = told_dooms tree of Full o w T source kind.VariantWithPayload (c ∷ n ∷ []) error (λ more p.
+  reported_of_payload : (T : TypeTree) (source : List ℕ) (c n : NodeTree) (case : Bor (List ℕ) × Bor S) (error : Diagnostic) → HasFullParts Full → kind_of T ≡ kinds.Variant → IsLabelOf type_tree tree of Full w T source c case → IsReadAs tree of Full w w (type_tree case.1.now) source n (Err error) → IsRefusedWhateverFollows tree of Full o w T source kind.VariantWithPayload (c ∷ n ∷ []) (fault.Part error)
+  reported_of_payload T source c n case error parts is label read = reported_rejects tree of Full o w T source kind.VariantWithPayload (c ∷ n ∷ []) error (λ more p.
       let variant = variant_type T is in
       let name = case.0.now in
       let U = type_tree case.1.now in
@@ -113,17 +113,17 @@ module _ {S V : Type 0} (type_tree : S → TypeTree) (tree : V → Value) (of : 
         typed = tt;
       })
 
-  refused : (T : TypeTree) (source : List ℕ) (children : List NodeTree) (n : NodeTree) (case : Option (Bor (List ℕ) × Bor S)) (payload : Option V) (error : Diagnostic) → HasFullParts Full → kind_of T ≡ kinds.Variant → length children ≡ 1 → IsCaseRead type_tree tree of Full w T source children case payload → IsReadWhereDue tree of Full w w (shown type_tree (option_map (λ c. c.1) case)) source n (Err error) → IsDoomed tree of Full o w T source kind.VariantWithPayload (children ++ n ∷ []) (fault.Part error)
+  refused : (T : TypeTree) (source : List ℕ) (children : List NodeTree) (n : NodeTree) (case : Option (Bor (List ℕ) × Bor S)) (payload : Option V) (error : Diagnostic) → HasFullParts Full → kind_of T ≡ kinds.Variant → length children ≡ 1 → IsCaseRead type_tree tree of Full w T source children case payload → IsReadWhereExpected tree of Full w w (shown type_tree (option_map (λ c. c.1) case)) source n (Err error) → IsRefusedWhateverFollows tree of Full o w T source kind.VariantWithPayload (children ++ n ∷ []) (fault.Part error)
   refused T source [] n case payload error parts is count h read = absurd (omega (arith, count))
   refused T source (c ∷ []) n None payload error parts is count h read = absurd h
-  refused T source (c ∷ []) n (Some case) None error parts is count h read = told_of_payload T source c n case error parts is h read
+  refused T source (c ∷ []) n (Some case) None error parts is count h read = reported_of_payload T source c n case error parts is h read
   refused T source (c ∷ []) n (Some case) (Some v) error parts is count h read = absurd h
   refused T source (c ∷ d ∷ more) n case payload error parts is count h read = absurd (omega (arith, count))
 
   -- the payload was refused
-  pub part_refused : (T : TypeTree) (source : List ℕ) (children : List NodeTree) (n : NodeTree) (x : CasePayload S V) (made : Result V Diagnostic) (error : Diagnostic) → HasFullParts Full → length children ≡ 1 → made ≡ Err error → AreCaseParts type_tree tree of Full w T source children x → IsReadWhereDue tree of Full w w (shown type_tree (payload_due x)) source n made → IsDoomed tree of Full o w T source kind.VariantWithPayload (children ++ n ∷ []) (fault.Part error)
-  part_refused T source children n x made error parts count failed h read =
-      refused T source children n x.case x.payload error parts h.kind count h.read (subst (IsReadWhereDue tree of Full w w (shown type_tree (payload_due x)) source n) failed read)
+  pub part_refused : (T : TypeTree) (source : List ℕ) (children : List NodeTree) (n : NodeTree) (x : CasePayload S V) (built : Result V Diagnostic) (error : Diagnostic) → HasFullParts Full → length children ≡ 1 → built ≡ Err error → AreCaseParts type_tree tree of Full w T source children x → IsReadWhereExpected tree of Full w w (shown type_tree (payload_expected x)) source n built → IsRefusedWhateverFollows tree of Full o w T source kind.VariantWithPayload (children ++ n ∷ []) (fault.Part error)
+  part_refused T source children n x built error parts count failed h read =
+      refused T source children n x.case x.payload error parts h.kind count h.read (subst (IsReadWhereExpected tree of Full w w (shown type_tree (payload_expected x)) source n) failed read)
 
   -- ---- the whole
 
@@ -152,11 +152,11 @@ module _ {S V : Type 0} (type_tree : S → TypeTree) (tree : V → Value) (of : 
       (read_typed T source children case v h.kind (subst (IsCaseRead type_tree tree of Full w T source children (Some case)) valued cased))
 
   -- the case and the payload that were read
-  read_whole : (T : TypeTree) (source : List ℕ) (children : List NodeTree) (p : Range ℕ) (case : Bor (List ℕ) × Bor S) (v : V) (m : Result V WasmValueError) (r : Result V Diagnostic) → kind_of T ≡ kinds.Variant → IsCaseRead type_tree tree of Full w T source children (Some case) (Some v) → IfOk m (MakesVariant tree of T case.0.now (Some v)) → IfErr m (FullVariant of Full T case.0.now (Some v)) → IsMadeOrMemory (node kind.VariantWithPayload p (node_trees children)) m r → IsReadAs tree of Full o w T source (node kind.VariantWithPayload p (node_trees children)) r
+  read_whole : (T : TypeTree) (source : List ℕ) (children : List NodeTree) (p : Range ℕ) (case : Bor (List ℕ) × Bor S) (v : V) (m : Result V WasmValueError) (r : Result V Diagnostic) → kind_of T ≡ kinds.Variant → IsCaseRead type_tree tree of Full w T source children (Some case) (Some v) → IfOk m (MakesVariant tree of T case.0.now (Some v)) → IfErr m (FullVariant of Full T case.0.now (Some v)) → IsBuiltOrMemory (node kind.VariantWithPayload p (node_trees children)) m r → IsReadAs tree of Full o w T source (node kind.VariantWithPayload p (node_trees children)) r
   read_whole T source [] p case v m r is read ok full done = absurd read
   read_whole T source (c ∷ []) p case v m r is read ok full done = absurd read
   read_whole T source (c ∷ n ∷ []) p case v m r is read ok full done =
-      made_anew (MakesVariant tree of T case.0.now (Some v)) (FullVariant of Full T case.0.now (Some v)) (node kind.VariantWithPayload p (node_trees (c ∷ n ∷ []))) m r (λ a f cs is P some of. tt) ok full done (λ m ok full done.
+      built_anew (MakesVariant tree of T case.0.now (Some v)) (FullVariant of Full T case.0.now (Some v)) (node kind.VariantWithPayload p (node_trees (c ∷ n ∷ []))) m r (λ a f cs is P some of. tt) ok full done (λ m ok full done.
       let variant = variant_type T is in
       let name = case.0.now in
       let U = type_tree case.1.now in
@@ -167,15 +167,15 @@ module _ {S V : Type 0} (type_tree : S → TypeTree) (tree : V → Value) (of : 
             let k = case_node source p c (n ∷ []) t name node read.0.0 in
             let inner = subst (λ (u : NodeTree). IsPayloadNodeOf source (Some u) k.2.payload) (first_same n k.0 [] k.1) k.2.node in
             let names : HasDistinctNames U = case_distinct variant.cases name (type.a_type U) found (subst HasDistinctNames variant.is distinct).1 in
-            variant_made tree of Full o w T variant.cases source t whole name (Some k.0) k.2 (type.a_type U) (Some v) m r variant.is distinct found (payload_read tree of Full o w U source n k.2.payload v inner names read.1) ok full done;
-        within = λ w. made_in source whole m r (inl w) done;
-        typed = made_of of T (MakesVariant tree of T case.0.now (Some v)) whole m r (λ x makes distinct. (makes distinct).is_of) ok done;
+            variant_built tree of Full o w T variant.cases source t whole name (Some k.0) k.2 (type.a_type U) (Some v) m r variant.is distinct found (payload_read tree of Full o w U source n k.2.payload v inner names read.1) ok full done;
+        within = λ w. built_in source whole m r (inl w) done;
+        typed = built_of of T (MakesVariant tree of T case.0.now (Some v)) whole m r (λ x makes distinct. (makes distinct).is_of) ok done;
       })
   read_whole T source (c ∷ n ∷ d ∷ more) p case v m r is read ok full done = absurd read
 
   -- the variant was made, or its constructor refused
-  pub whole_made : (T : TypeTree) (source : List ℕ) (children : List NodeTree) (x : CasePayload S V) (p : Range ℕ) (case : Bor (List ℕ) × Bor S) (v : V) (m : Result V WasmValueError) (r : Result V Diagnostic) → x.case ≡ Some case → x.payload ≡ Some v → AreCaseParts type_tree tree of Full w T source children x → IfOk m (MakesVariant tree of (type_tree x.ty.now) case.0.now (Some v)) → IfErr m (FullVariant of Full (type_tree x.ty.now) case.0.now (Some v)) → IsMadeOrMemory (node kind.VariantWithPayload p (node_trees children)) m r → IsReadAs tree of Full o w T source (node kind.VariantWithPayload p (node_trees children)) r
-  whole_made T source children x p case v m r named valued h ok full done =
+  pub whole_built : (T : TypeTree) (source : List ℕ) (children : List NodeTree) (x : CasePayload S V) (p : Range ℕ) (case : Bor (List ℕ) × Bor S) (v : V) (m : Result V WasmValueError) (r : Result V Diagnostic) → x.case ≡ Some case → x.payload ≡ Some v → AreCaseParts type_tree tree of Full w T source children x → IfOk m (MakesVariant tree of (type_tree x.ty.now) case.0.now (Some v)) → IfErr m (FullVariant of Full (type_tree x.ty.now) case.0.now (Some v)) → IsBuiltOrMemory (node kind.VariantWithPayload p (node_trees children)) m r → IsReadAs tree of Full o w T source (node kind.VariantWithPayload p (node_trees children)) r
+  whole_built T source children x p case v m r named valued h ok full done =
       let cased = subst (λ (o : Option (Bor (List ℕ) × Bor S)). IsCaseRead type_tree tree of Full w T source children o x.payload) named h.read in
       read_whole T source children p case v m r h.kind (subst (IsCaseRead type_tree tree of Full w T source children (Some case)) valued cased)
       (subst (λ (U : TypeTree). IfOk m (MakesVariant tree of U case.0.now (Some v))) (sym h.ty) ok) (subst (λ (U : TypeTree). IfErr m (FullVariant of Full U case.0.now (Some v))) (sym h.ty) full) done

@@ -34,11 +34,11 @@ use Rattle.wave_grammar.proofs.ChildNodes.Cases.{shape_at, case_shape}
 use Rattle.wave_grammar.proofs.ChildNodes.Trees.{list_of_trees}
 use Rattle.wave_grammar.proofs.ByKind.Leaves.{tree_is}
 use Rattle.wave_grammar.proofs.ByKind.Enums.{label_node}
-use Rattle.wave_grammar.proofs.ByKind.Variants.{VariantType, HasCase, CaseNode, variant_is, variant_fault, flag_text, case_found, case_missing, case_blame, no_case_blame, variant_made}
-use Rattle.wave_grammar.proofs.ErrorSpans.Nodes.{BelongsTo, children_belong, at_in, form_at, caused_at, made_in}
+use Rattle.wave_grammar.proofs.ByKind.Variants.{VariantType, HasCase, CaseNode, variant_is, variant_fault, flag_text, case_found, case_missing, case_blame, no_case_blame, variant_built}
+use Rattle.wave_grammar.proofs.ErrorSpans.Nodes.{BelongsTo, children_belong, at_in, form_at, caused_at, built_in}
 use Rattle.wave_read.specs.Reading.{IsReadAs}
 use Rattle.wave_read.specs.Errors.{IsRefusedBy}
-use Rattle.wave_read.proofs.ReadErrors.HandedOn.{made_anew}
+use Rattle.wave_read.proofs.ReadErrors.HandedOn.{built_anew}
 
 -- the type of a variant, by its kind
 pub variant_type : (T : TypeTree) → kind_of T ≡ kinds.Variant → VariantType T (variant_parts T)
@@ -143,12 +143,12 @@ bare_label cs source n t name placed ty named (other, payload, case, same) =
 -- ---- payloads
 
 module _ {V : Type 0} (tree : V → Value) (of : V → TypeTree → Type 0) (Full : TypeTree → Type 0) (o w : Order) where
-  -- a payload that is there and not due
+  -- a payload that is there and not expected
   pub unexpected_blame : (source : List ℕ) (n u : NodeTree) (name : List ℕ) (payload : MaybePlaced) (e : Diagnostic) → IsPayloadNodeOf source (Some u) payload → RefusesFor (unexpected_payload name) (place_of n) (refusal_of e) e.span → IsPayloadBlamed Full w name type.no_type n payload e
   unexpected_blame source n u name no_placed e h refused = absurd h
   unexpected_blame source n u name (a_placed t) e h refused = inr (inl refused)
 
-  -- a payload that is due and not there
+  -- a payload that is expected and not there
   pub missing_blame : (U : TypeTree) (source : List ℕ) (n : NodeTree) (name : List ℕ) (payload : MaybePlaced) (e : Diagnostic) → IsPayloadNodeOf source None payload → IsCaused (missing_payload name) n e → IsPayloadBlamed Full w name (type.a_type U) n payload e
   missing_blame U source n name no_placed e h (inl memory) = inl memory
   missing_blame U source n name no_placed e h (inr refused) = inr (inl refused)
@@ -171,7 +171,7 @@ module _ {V : Type 0} (tree : V → Value) (of : V → TypeTree → Type 0) (Ful
       let value : IsTypedValue tree of U t v = read.answer t h distinct in
       record { reads = (tree_of t, tree v, refl, value.reads, refl); is_of = value.is_of }
 
-  -- no payload, where none is due
+  -- no payload, where none is expected
   pub none_read : (source : List ℕ) (payload : MaybePlaced) → IsPayloadNodeOf source None payload → IsPayloadRead tree of type.no_type payload None
   none_read source no_placed h = record { reads = (refl, refl); is_of = tt }
   none_read source (a_placed t) h = absurd h
@@ -212,14 +212,14 @@ module _ {V : Type 0} (tree : V → Value) (of : V → TypeTree → Type 0) (Ful
       }
 
   -- the label of a case without one, which was made
-  pub case_made : (T : TypeTree) (source : List ℕ) (n : NodeTree) (name : List ℕ) (v : V) → kind_of T ≡ kinds.Variant → type_of n ≡ kind.Label → name ≡ name_of (node_text source n) → MakesVariant tree of T name None v → IsReadAs tree of Full o w T source n (Ok v)
-  case_made T source n name v is ty named makes =
+  pub case_built : (T : TypeTree) (source : List ℕ) (n : NodeTree) (name : List ℕ) (v : V) → kind_of T ≡ kinds.Variant → type_of n ≡ kind.Label → name ≡ name_of (node_text source n) → MakesVariant tree of T name None v → IsReadAs tree of Full o w T source n (Ok v)
+  case_built T source n name v is ty named makes =
       let variant = variant_type T is in
       record {
         answer = λ t node distinct.
-            let made = makes distinct in
-            let read = bare_label variant.cases source n t name node.0 ty named (subst (λ (U : TypeTree). HasType U (value.variant name no_value)) variant.is made.fits) in
-            record { reads = subst (λ (U : TypeTree). TreeReads U (tree_of t) (tree v)) (sym variant.is) (subst (TreeReads (type.variant variant.cases) (tree_of t)) (sym made.means) read); is_of = made.is_of };
+            let built = makes distinct in
+            let read = bare_label variant.cases source n t name node.0 ty named (subst (λ (U : TypeTree). HasType U (value.variant name no_value)) variant.is built.fits) in
+            record { reads = subst (λ (U : TypeTree). TreeReads U (tree_of t) (tree v)) (sym variant.is) (subst (TreeReads (type.variant variant.cases) (tree_of t)) (sym built.means) read); is_of = built.is_of };
         within = λ v. tt;
         typed = λ distinct. (makes distinct).is_of;
       }
@@ -227,13 +227,13 @@ module _ {V : Type 0} (tree : V → Value) (of : V → TypeTree → Type 0) (Ful
   -- the label of a case without one, which its constructor refused
   pub case_refused : (T : TypeTree) (source : List ℕ) (n : NodeTree) (name : List ℕ) (cause : WasmValueError) (e : Diagnostic) → kind_of T ≡ kinds.Variant → type_of n ≡ kind.Label → name ≡ name_of (node_text source n) → Some None ≡ look_up (variant_parts T) name → FullVariant of Full T name None cause → IsRefusedBy cause e → e.span ≡ place_of n → IsReadAs tree of Full o w T source n (Err e)
   case_refused T source n name cause e is ty named here full refused place =
-      made_anew (MakesVariant tree of T name None) (FullVariant of Full T name None) n (Err cause) (Err e) (λ a f cs is P some of. tt) tt full (refused, place) (λ m ok full done.
+      built_anew (MakesVariant tree of T name None) (FullVariant of Full T name None) n (Err cause) (Err e) (λ a f cs is P some of. tt) tt full (refused, place) (λ m ok full done.
       let variant = variant_type T is in
       let found : HasCase variant.cases name type.no_type = case_found T (variant_parts T) variant name None here in
       record {
         answer = λ t node distinct.
             let k = label_case source n t name node ty named in
-            variant_made tree of Full o w T variant.cases source t n name None k type.no_type None m (Err e) variant.is distinct found (none_read source k.payload k.node) ok full done;
-        within = λ v. made_in source n m (Err e) (inl v) done;
+            variant_built tree of Full o w T variant.cases source t n name None k type.no_type None m (Err e) variant.is distinct found (none_read source k.payload k.node) ok full done;
+        within = λ v. built_in source n m (Err e) (inl v) done;
         typed = tt;
       })

@@ -13,18 +13,18 @@ use Rattle.wave_grammar.specs.TypedGrammar.{IsFlat}
 use Rattle.wave_grammar.specs.NodeTree.{NodeTree, node, node_trees, type_of, place_of}
 use Rattle.wave_grammar.specs.declared.form.NodeType.{NodeType}
 use Rattle.wave_grammar.specs.NodeAccessors.{RefusedAs}
-use Rattle.wave_grammar.proofs.ByKind.Options.{flat_made, flat_blame}
-use Rattle.wave_grammar.proofs.ByKind.Results.{result_flat_made, result_flat_blame}
-use Rattle.wave_grammar.proofs.ErrorSpans.Nodes.{made_in}
+use Rattle.wave_grammar.proofs.ByKind.Options.{flat_built, flat_blame}
+use Rattle.wave_grammar.proofs.ByKind.Results.{result_flat_built, result_flat_blame}
+use Rattle.wave_grammar.proofs.ErrorSpans.Nodes.{built_in}
 use Rattle.wave_read.specs.PlainReading.{IsPlain}
 use Rattle.wave_read.specs.Reading.{IsReadAs}
 use Rattle.wave_read.specs.Flat.{IsFlatAt, IsAround}
 use Rattle.wave_read.specs.KeptParts.{AreOfType}
-use Rattle.wave_read.specs.PartsOfKinds.{AreDoomedAtOnce, AreParts, IsSimpleAt}
+use Rattle.wave_read.specs.PartsOfKinds.{AreRefusedAtOnce, AreParts, IsSimpleAt}
 use Rattle.wave_read.specs.declared.parts.Partial.{Partial}
 use Rattle.wave_read.specs.declared.values.Frame.{Frame}
-use Rattle.wave_read.specs.Errors.{IsMadeOrMemory}
-use Rattle.wave_read.proofs.ReadErrors.HandedOn.{made_anew, made_of}
+use Rattle.wave_read.specs.Errors.{IsBuiltOrMemory}
+use Rattle.wave_read.proofs.ReadErrors.HandedOn.{built_anew, built_of}
 
 -- what a node of another form would be refused for
 abbrev other_form : NodeTree → Diagnostic
@@ -45,20 +45,20 @@ module _ {V : Type 0} (tree : V → Value) (of : V → TypeTree → Type 0) (Ful
   flat_refused _ U source n e parts h read = absurd h
 
   -- an option around a value of the payload's type
-  pub option_around : (T U : TypeTree) (source : List ℕ) (n : NodeTree) (v : V) (m : Result V WasmValueError) (r : Result V Diagnostic) → kind_of T ≡ kinds.Option → IsFlatAt T (type_of n) U → IsReadAs tree of Full o w U source n (Ok v) → IfOk m (MakesOption tree of T (Some v)) → IfErr m (FullOption of Full T (Some v)) → IsMadeOrMemory n m r → IsReadAs tree of Full o w T source n r
+  pub option_around : (T U : TypeTree) (source : List ℕ) (n : NodeTree) (v : V) (m : Result V WasmValueError) (r : Result V Diagnostic) → kind_of T ≡ kinds.Option → IsFlatAt T (type_of n) U → IsReadAs tree of Full o w U source n (Ok v) → IfOk m (MakesOption tree of T (Some v)) → IfErr m (FullOption of Full T (Some v)) → IsBuiltOrMemory n m r → IsReadAs tree of Full o w T source n r
   option_around (type.option P) U source n v m r kind h read makes full done =
-      made_anew (MakesOption tree of (type.option P) (Some v)) (FullOption of Full (type.option P) (Some v)) (n) m r (λ a f P is of. tt) makes full done (λ m makes full done.
+      built_anew (MakesOption tree of (type.option P) (Some v)) (FullOption of Full (type.option P) (Some v)) (n) m r (λ a f P is of. tt) makes full done (λ m makes full done.
       let inner : IsReadAs tree of Full o w P source n (Ok v) = subst (λ (W : TypeTree). IsReadAs tree of Full o w W source n (Ok v)) h.0 read in
-      record { answer = λ t is distinct. flat_made tree of Full o w (type.option P) P t n v m r refl distinct h.1 (inner.answer t is distinct) makes full done; within = λ value. made_in source n m r (inl value) done; typed = made_of of (type.option P) (MakesOption tree of (type.option P) (Some v)) n m r (λ x makes distinct. (makes distinct).is_of) makes done })
+      record { answer = λ t is distinct. flat_built tree of Full o w (type.option P) P t n v m r refl distinct h.1 (inner.answer t is distinct) makes full done; within = λ value. built_in source n m r (inl value) done; typed = built_of of (type.option P) (MakesOption tree of (type.option P) (Some v)) n m r (λ x makes distinct. (makes distinct).is_of) makes done })
   option_around (type.result A B) U source n v m r kind h read makes full done = absurd (cc kind)
   option_around _ U source n v m r kind h read makes full done = absurd h
 
   -- a result around one
-  pub result_around : (T U : TypeTree) (source : List ℕ) (n : NodeTree) (v : V) (m : Result V WasmValueError) (r : Result V Diagnostic) → kind_of T ≢ kinds.Option → IsFlatAt T (type_of n) U → IsReadAs tree of Full o w U source n (Ok v) → IfOk m (MakesResult tree of T (Ok (Some v))) → IfErr m (FullResult of Full T (Ok (Some v))) → IsMadeOrMemory n m r → IsReadAs tree of Full o w T source n r
+  pub result_around : (T U : TypeTree) (source : List ℕ) (n : NodeTree) (v : V) (m : Result V WasmValueError) (r : Result V Diagnostic) → kind_of T ≢ kinds.Option → IsFlatAt T (type_of n) U → IsReadAs tree of Full o w U source n (Ok v) → IfOk m (MakesResult tree of T (Ok (Some v))) → IfErr m (FullResult of Full T (Ok (Some v))) → IsBuiltOrMemory n m r → IsReadAs tree of Full o w T source n r
   result_around (type.result (type.a_type A) B) U source n v m r kind h read makes full done =
-      made_anew (MakesResult tree of (type.result (type.a_type A) B) (Ok (Some v))) (FullResult of Full (type.result (type.a_type A) B) (Ok (Some v))) (n) m r (λ a f A B is of. tt) makes full done (λ m makes full done.
+      built_anew (MakesResult tree of (type.result (type.a_type A) B) (Ok (Some v))) (FullResult of Full (type.result (type.a_type A) B) (Ok (Some v))) (n) m r (λ a f A B is of. tt) makes full done (λ m makes full done.
       let inner : IsReadAs tree of Full o w A source n (Ok v) = subst (λ (W : TypeTree). IsReadAs tree of Full o w W source n (Ok v)) h.0 read in
-      record { answer = λ t is distinct. result_flat_made tree of Full o w (type.result (type.a_type A) B) A B t n v m r refl distinct h.1 (inner.answer t is distinct.0) makes full done; within = λ value. made_in source n m r (inl value) done; typed = made_of of (type.result (type.a_type A) B) (MakesResult tree of (type.result (type.a_type A) B) (Ok (Some v))) n m r (λ x makes distinct. (makes distinct).is_of) makes done })
+      record { answer = λ t is distinct. result_flat_built tree of Full o w (type.result (type.a_type A) B) A B t n v m r refl distinct h.1 (inner.answer t is distinct.0) makes full done; within = λ value. built_in source n m r (inl value) done; typed = built_of of (type.result (type.a_type A) B) (MakesResult tree of (type.result (type.a_type A) B) (Ok (Some v))) n m r (λ x makes distinct. (makes distinct).is_of) makes done })
   result_around (type.option P) U source n v m r kind h read makes full done = absurd (kind refl)
   result_around _ U source n v m r kind h read makes full done = absurd h
 
@@ -102,11 +102,11 @@ module _ {S : Type 0} (type_tree : S → TypeTree) (T : TypeTree) (ty : NodeType
   begun_around tree of Full w source (Some whole) x kept h parts = (h.0, (type_tree x.now, h.1, parts))
 
   -- where parts of that type have a fault at once, so have those of the whole
-  pub doomed_around : {V : Type 0} (tree : V → Value) (of : V → TypeTree → Type 0) (Full : TypeTree → Type 0) (around : Option (Bor S)) (x : Bor S) (begun : Partial S V) → HasFullParts Full → IsAround type_tree T ty around x → AreDoomedAtOnce type_tree tree of Full (type_tree x.now) ty begun → AreDoomedAtOnce type_tree tree of Full T ty begun
-  doomed_around tree of Full None x begun full h doomed = subst (λ (W : TypeTree). AreDoomedAtOnce type_tree tree of Full W ty begun) h.0 doomed
-  doomed_around tree of Full (Some whole) x begun full h doomed = λ f is. (
-    (doomed f is).0,
-    λ o w source of_parts more p e tells. flat_refused tree of Full o w T (type_tree x.now) source (node ty p (node_trees ([] ++ more))) e full h.1 ((doomed f is).1 o w source of_parts more p e tells),
+  pub rejected_around : {V : Type 0} (tree : V → Value) (of : V → TypeTree → Type 0) (Full : TypeTree → Type 0) (around : Option (Bor S)) (x : Bor S) (begun : Partial S V) → HasFullParts Full → IsAround type_tree T ty around x → AreRefusedAtOnce type_tree tree of Full (type_tree x.now) ty begun → AreRefusedAtOnce type_tree tree of Full T ty begun
+  rejected_around tree of Full None x begun full h rejected = subst (λ (W : TypeTree). AreRefusedAtOnce type_tree tree of Full W ty begun) h.0 rejected
+  rejected_around tree of Full (Some whole) x begun full h rejected = λ f is. (
+    (rejected f is).0,
+    λ o w source of_parts more p e tells. flat_refused tree of Full o w T (type_tree x.now) source (node ty p (node_trees ([] ++ more))) e full h.1 ((rejected f is).1 o w source of_parts more p e tells),
   )
 
   -- of a plain type nothing is kept

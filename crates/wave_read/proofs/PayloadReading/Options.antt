@@ -15,15 +15,15 @@ use Rattle.wave_grammar.specs.NodeTree.{NodeTree, node, node_trees, type_of}
 use Rattle.wave_grammar.specs.Nodes.{IsNodeOf}
 use Rattle.wave_grammar.specs.NodeAccessors.{RefusedAs}
 use Rattle.wave_grammar.specs.declared.form.NodeType.TheVariants as node_type
-use Rattle.wave_grammar.proofs.ByKind.Options.{SomeNode, some_node, given_none, some_made, some_blame, none_made, option_fault}
-use Rattle.wave_grammar.proofs.ErrorSpans.Nodes.{made_in, deeper, first_belongs, at_in, form_at}
+use Rattle.wave_grammar.proofs.ByKind.Options.{SomeNode, some_node, given_none, some_built, some_blame, none_built, option_fault}
+use Rattle.wave_grammar.proofs.ErrorSpans.Nodes.{built_in, deeper, first_belongs, at_in, form_at}
 use Rattle.wave_read.specs.Reading.{IsReadAs}
 use Rattle.wave_read.specs.Flat.{IsFlatAt}
 use Rattle.wave_wasm.proofs.TypesOfValues.TypeOfKind.{formed_as}
-use Rattle.wave_read.specs.Faults.{IsMadeAt}
+use Rattle.wave_read.specs.Faults.{IsBuiltAt}
 use Rattle.wave_read.specs.Payloads.{IsReadPayload}
-use Rattle.wave_read.specs.Errors.{IsMadeOrMemory}
-use Rattle.wave_read.proofs.ReadErrors.HandedOn.{made_anew, made_of}
+use Rattle.wave_read.specs.Errors.{IsBuiltOrMemory}
+use Rattle.wave_read.proofs.ReadErrors.HandedOn.{built_anew, built_of}
 
 -- the node of `some` of these
 abbrev some_of : Range ℕ → List NodeTree → NodeTree
@@ -42,12 +42,12 @@ module _ {V : Type 0} (tree : V → Value) (of : V → TypeTree → Type 0) (Ful
   some_typed T P source children v option (inner, is, read) distinct = subst (λ (U : TypeTree). TypedOption of U (Some v)) (sym option) (read.typed (subst HasDistinctNames option distinct))
 
   -- `some` of a value
-  pub some_read : (T P : TypeTree) (source : List ℕ) (p : Range ℕ) (children : List NodeTree) (v : V) (m : Result V WasmValueError) (r : Result V Diagnostic) → T ≡ type.option P → IsReadPayload tree of Full w (Some P) source children (Some (Ok v)) → IfOk m (MakesOption tree of T (Some v)) → IfErr m (FullOption of Full T (Some v)) → IsMadeAt p m r → IsReadAs tree of Full o w T source (some_of p children) r
+  pub some_read : (T P : TypeTree) (source : List ℕ) (p : Range ℕ) (children : List NodeTree) (v : V) (m : Result V WasmValueError) (r : Result V Diagnostic) → T ≡ type.option P → IsReadPayload tree of Full w (Some P) source children (Some (Ok v)) → IfOk m (MakesOption tree of T (Some v)) → IfErr m (FullOption of Full T (Some v)) → IsBuiltAt p m r → IsReadAs tree of Full o w T source (some_of p children) r
   some_read T P source p children v m r option (inner, is, read) makes full done =
-      made_anew (MakesOption tree of T (Some v)) (FullOption of Full T (Some v)) (some_of p (inner ∷ [])) m r (λ a f P is of. tt) makes full (done (some_of p (inner ∷ [])) refl) (λ m makes full done.
+      built_anew (MakesOption tree of T (Some v)) (FullOption of Full T (Some v)) (some_of p (inner ∷ [])) m r (λ a f P is of. tt) makes full (done (some_of p (inner ∷ [])) refl) (λ m makes full done.
       let n = some_of p (inner ∷ []) in
       subst (λ (ns : List NodeTree). IsReadAs tree of Full o w T source (some_of p ns) r) (sym is)
-      (record { answer = λ t here distinct. let k = some_node source n t here refl in some_made tree of Full o w T P t k.payload n v m r option distinct k.shape (read.answer k.payload (some_payload source p inner t k) (subst HasDistinctNames option distinct)) makes full done; within = λ value. made_in source n m r (inl value) done; typed = made_of of T (MakesOption tree of T (Some v)) n m r (λ x makes distinct. (makes distinct).is_of) makes done }))
+      (record { answer = λ t here distinct. let k = some_node source n t here refl in some_built tree of Full o w T P t k.payload n v m r option distinct k.shape (read.answer k.payload (some_payload source p inner t k) (subst HasDistinctNames option distinct)) makes full done; within = λ value. built_in source n m r (inl value) done; typed = built_of of T (MakesOption tree of T (Some v)) n m r (λ x makes distinct. (makes distinct).is_of) makes done }))
 
   -- `some` of a payload that was refused
   pub some_refused : (T P : TypeTree) (source : List ℕ) (p : Range ℕ) (children : List NodeTree) (e : Diagnostic) → T ≡ type.option P → HasFullParts Full → IsReadPayload tree of Full w (Some P) source children (Some (Err e)) → IsReadAs tree of Full o w T source (some_of p children) (Err e)
@@ -57,11 +57,11 @@ module _ {V : Type 0} (tree : V → Value) (of : V → TypeTree → Type 0) (Ful
       (record { answer = λ t here distinct. let k = some_node source n t here refl in some_blame tree of Full o w T P t k.payload e option k.shape parts (read.answer k.payload (some_payload source p inner t k) (subst HasDistinctNames option distinct)); within = λ value. let k = some_node source n value.0 value.1 refl in deeper n inner e (first_belongs source n (Some inner) value refl inner refl) (read.within (k.payload, some_payload source p inner value.0 k)); typed = tt })
 
   -- `none`
-  pub none_read : (T : TypeTree) (source : List ℕ) (n : NodeTree) (m : Result V WasmValueError) (r : Result V Diagnostic) → kind_of T ≡ kinds.Option → type_of n ≡ node_type.OptionNone → IfOk m (MakesOption tree of T None) → IfErr m (FullOption of Full T None) → IsMadeOrMemory n m r → IsReadAs tree of Full o w T source n r
+  pub none_read : (T : TypeTree) (source : List ℕ) (n : NodeTree) (m : Result V WasmValueError) (r : Result V Diagnostic) → kind_of T ≡ kinds.Option → type_of n ≡ node_type.OptionNone → IfOk m (MakesOption tree of T None) → IfErr m (FullOption of Full T None) → IsBuiltOrMemory n m r → IsReadAs tree of Full o w T source n r
   none_read T source n m r kind form makes full done =
-      made_anew (MakesOption tree of T None) (FullOption of Full T None) (n) m r (λ a f P is of. tt) makes full done (λ m makes full done.
+      built_anew (MakesOption tree of T None) (FullOption of Full T None) (n) m r (λ a f P is of. tt) makes full done (λ m makes full done.
       let option = formed_as kinds.Option T (sym kind) in
-      record { answer = λ t is distinct. none_made tree of Full o w T option.0 source t n m r option.1 distinct (given_none source n t is (inr (form, refl))) makes full done; within = λ value. made_in source n m r (inl value) done; typed = made_of of T (MakesOption tree of T None) n m r (λ x makes distinct. (makes distinct).is_of) makes done })
+      record { answer = λ t is distinct. none_built tree of Full o w T option.0 source t n m r option.1 distinct (given_none source n t is (inr (form, refl))) makes full done; within = λ value. built_in source n m r (inl value) done; typed = built_of of T (MakesOption tree of T None) n m r (λ x makes distinct. (makes distinct).is_of) makes done })
 
   -- at an option, a node of another form than an option's and a flat payload's
   pub other_option : (T : TypeTree) (source : List ℕ) (n : NodeTree) (e : Diagnostic) → kind_of T ≡ kinds.Option → type_of n ≢ node_type.OptionSome → type_of n ≢ node_type.OptionNone → ((U : TypeTree) → IsFlatAt T (type_of n) U → ⊥) → RefusedAs InvalidType n e → IsReadAs tree of Full o w T source n (Err e)

@@ -17,17 +17,17 @@ use Rattle.wave_grammar.specs.TypedReading.{IsValueOf}
 use Rattle.wave_grammar.specs.PartReading.{IsPayloadOf, AnswersPayload}
 use Rattle.wave_grammar.specs.ErrorSpans.{RefusesIn, RefusesInPart}
 use Rattle.wave_grammar.specs.declared.form.NodeType.TheVariants as node_type
-use Rattle.wave_grammar.proofs.ByKind.Results.{maybe_back, ok_node, err_node, ok_made, err_made, ok_blame, err_blame, result_fault}
+use Rattle.wave_grammar.proofs.ByKind.Results.{maybe_back, ok_node, err_node, ok_built, err_built, ok_blame, err_blame, result_fault}
 use Rattle.wave_wasm.proofs.TypesOfValues.TypeOfKind.{simple_is}
 use Rattle.wave_grammar.proofs.ChildNodes.Inside.{some_is}
 use Rattle.wave_grammar.proofs.ChildNodes.Trees.{list_of_trees}
-use Rattle.wave_grammar.proofs.ErrorSpans.Nodes.{made_in, part_in, first_belongs, at_in, form_at}
+use Rattle.wave_grammar.proofs.ErrorSpans.Nodes.{built_in, part_in, first_belongs, at_in, form_at}
 use Rattle.wave_read.specs.Reading.{IsReadAs}
 use Rattle.wave_read.specs.Flat.{IsFlatAt}
-use Rattle.wave_read.specs.Faults.{IsMadeAt}
+use Rattle.wave_read.specs.Faults.{IsBuiltAt}
 use Rattle.wave_read.specs.Payloads.{result_node, payload_of}
 use Rattle.wave_read.specs.Private.Payloads.{result_name, result_with, IsOfPayloadType}
-use Rattle.wave_read.proofs.ReadErrors.HandedOn.{made_anew, made_of}
+use Rattle.wave_read.proofs.ReadErrors.HandedOn.{built_anew, built_of}
 
 -- the type of a result with these payloads
 result_is : (T : TypeTree) (parts : Option TypeTree × Option TypeTree) → result_parts T ≡ Some parts → T ≡ type.result (maybe_type parts.0) (maybe_type parts.1)
@@ -73,15 +73,15 @@ module _ {V : Type 0} (tree : V → Value) (of : V → TypeTree → Type 0) (Ful
       subst (λ (o : Option NodeTree). AnswersPayload tree of Full w (result_name is_ok) D source (result_of is_ok p children) o r) (sym (first_child is_ok p children)) answers
 
   -- `ok` or `err` with its payload, or without one
-  case_made : (is_ok : Bool) (T : TypeTree) (A B : Option TypeTree) (source : List ℕ) (p : Range ℕ) (children : List NodeTree) (v : Option V) (m : Result V WasmValueError) (r : Result V Diagnostic) → T ≡ type.result (maybe_type A) (maybe_type B) → AnswersPayload tree of Full w (result_name is_ok) (payload_of is_ok (A, B)) source (result_of is_ok p children) (first_of children) (Ok v) → IfOk m (MakesResult tree of T (result_with is_ok v)) → IfErr m (FullResult of Full T (result_with is_ok v)) → IsMadeAt p m r → IsReadAs tree of Full o w T source (result_of is_ok p children) r
-  case_made true T A B source p children v m r is answers makes full done =
+  case_built : (is_ok : Bool) (T : TypeTree) (A B : Option TypeTree) (source : List ℕ) (p : Range ℕ) (children : List NodeTree) (v : Option V) (m : Result V WasmValueError) (r : Result V Diagnostic) → T ≡ type.result (maybe_type A) (maybe_type B) → AnswersPayload tree of Full w (result_name is_ok) (payload_of is_ok (A, B)) source (result_of is_ok p children) (first_of children) (Ok v) → IfOk m (MakesResult tree of T (result_with is_ok v)) → IfErr m (FullResult of Full T (result_with is_ok v)) → IsBuiltAt p m r → IsReadAs tree of Full o w T source (result_of is_ok p children) r
+  case_built true T A B source p children v m r is answers makes full done =
       let n = result_of true p children in
-      made_anew (MakesResult tree of T (Ok v)) (FullResult of Full T (Ok v)) n m r (λ a f A B is of. tt) makes full (done n refl) (λ m makes full done.
-      record { answer = λ t here distinct. let k = ok_node source n t here refl in ok_made tree of Full o w T (maybe_type A) (maybe_type B) t n k.0 v m r is distinct k.1 (answers_first true A source p children (Ok v) answers k.0 k.2 (subst HasDistinctNames is distinct).0) makes full done; within = λ value. made_in source n m r (inl value) done; typed = made_of of T (MakesResult tree of T (Ok v)) n m r (λ x makes distinct. (makes distinct).is_of) makes done })
-  case_made false T A B source p children v m r is answers makes full done =
+      built_anew (MakesResult tree of T (Ok v)) (FullResult of Full T (Ok v)) n m r (λ a f A B is of. tt) makes full (done n refl) (λ m makes full done.
+      record { answer = λ t here distinct. let k = ok_node source n t here refl in ok_built tree of Full o w T (maybe_type A) (maybe_type B) t n k.0 v m r is distinct k.1 (answers_first true A source p children (Ok v) answers k.0 k.2 (subst HasDistinctNames is distinct).0) makes full done; within = λ value. built_in source n m r (inl value) done; typed = built_of of T (MakesResult tree of T (Ok v)) n m r (λ x makes distinct. (makes distinct).is_of) makes done })
+  case_built false T A B source p children v m r is answers makes full done =
       let n = result_of false p children in
-      made_anew (MakesResult tree of T (Err v)) (FullResult of Full T (Err v)) n m r (λ a f A B is of. tt) makes full (done n refl) (λ m makes full done.
-      record { answer = λ t here distinct. let k = err_node source n t here refl in err_made tree of Full o w T (maybe_type A) (maybe_type B) t n k.0 v m r is distinct k.1 (answers_first false B source p children (Ok v) answers k.0 k.2 (subst HasDistinctNames is distinct).1) makes full done; within = λ value. made_in source n m r (inl value) done; typed = made_of of T (MakesResult tree of T (Err v)) n m r (λ x makes distinct. (makes distinct).is_of) makes done })
+      built_anew (MakesResult tree of T (Err v)) (FullResult of Full T (Err v)) n m r (λ a f A B is of. tt) makes full (done n refl) (λ m makes full done.
+      record { answer = λ t here distinct. let k = err_node source n t here refl in err_built tree of Full o w T (maybe_type A) (maybe_type B) t n k.0 v m r is distinct k.1 (answers_first false B source p children (Ok v) answers k.0 k.2 (subst HasDistinctNames is distinct).1) makes full done; within = λ value. built_in source n m r (inl value) done; typed = built_of of T (MakesResult tree of T (Err v)) n m r (λ x makes distinct. (makes distinct).is_of) makes done })
 
   -- a refusal of the payload stands in the node
   case_within : (is_ok : Bool) (source : List ℕ) (p : Range ℕ) (children : List NodeTree) (e : Diagnostic) → (IsPayloadOf source (first_of children) → RefusesInPart (result_of is_ok p children) (first_of children) e) → IsValueOf source (result_of is_ok p children) → RefusesIn (result_of is_ok p children) e
@@ -99,9 +99,9 @@ module _ {V : Type 0} (tree : V → Value) (of : V → TypeTree → Type 0) (Ful
       record { answer = λ t here distinct. let k = err_node source n t here refl in err_blame tree of Full o w T (maybe_type A) (maybe_type B) source n t k.0 e is here.0 k.1 parts (answers_first false B source p children (Err e) answers k.0 k.2 (subst HasDistinctNames is distinct).1); within = case_within false source p children e within; typed = tt }
 
   -- the value was made of the payload
-  pub result_read : (is_ok : Bool) (T : TypeTree) (D : Option TypeTree) (source : List ℕ) (p : Range ℕ) (children : List NodeTree) (v : Option V) (m : Result V WasmValueError) (r : Result V Diagnostic) → (parts : Option TypeTree × Option TypeTree) × (result_parts T ≡ Some parts) × (D ≡ payload_of is_ok parts) → AnswersPayload tree of Full w (result_name is_ok) D source (result_of is_ok p children) (first_of children) (Ok v) → IfOk m (MakesResult tree of T (result_with is_ok v)) → IfErr m (FullResult of Full T (result_with is_ok v)) → IsMadeAt p m r → IsReadAs tree of Full o w T source (result_of is_ok p children) r
-  result_read is_ok T D source p children v m r (parts, is, due) answers makes full done =
-      case_made is_ok T parts.0 parts.1 source p children v m r (result_is T parts is) (subst (λ (E : Option TypeTree). AnswersPayload tree of Full w (result_name is_ok) E source (result_of is_ok p children) (first_of children) (Ok v)) due answers) makes full done
+  pub result_read : (is_ok : Bool) (T : TypeTree) (D : Option TypeTree) (source : List ℕ) (p : Range ℕ) (children : List NodeTree) (v : Option V) (m : Result V WasmValueError) (r : Result V Diagnostic) → (parts : Option TypeTree × Option TypeTree) × (result_parts T ≡ Some parts) × (D ≡ payload_of is_ok parts) → AnswersPayload tree of Full w (result_name is_ok) D source (result_of is_ok p children) (first_of children) (Ok v) → IfOk m (MakesResult tree of T (result_with is_ok v)) → IfErr m (FullResult of Full T (result_with is_ok v)) → IsBuiltAt p m r → IsReadAs tree of Full o w T source (result_of is_ok p children) r
+  result_read is_ok T D source p children v m r (parts, is, expected) answers makes full done =
+      case_built is_ok T parts.0 parts.1 source p children v m r (result_is T parts is) (subst (λ (E : Option TypeTree). AnswersPayload tree of Full w (result_name is_ok) E source (result_of is_ok p children) (first_of children) (Ok v)) expected answers) makes full done
 
   -- a result of the type has the payload
   option_back : (o : Option TypeTree) → type_option (maybe_type o) ≡ o
@@ -109,17 +109,17 @@ module _ {V : Type 0} (tree : V → Value) (of : V → TypeTree → Type 0) (Ful
   option_back (Some T) = refl
 
   pub result_typed : (is_ok : Bool) (T : TypeTree) (D : Option TypeTree) (v : Option V) → (parts : Option TypeTree × Option TypeTree) × (result_parts T ≡ Some parts) × (D ≡ payload_of is_ok parts) → IsOfPayloadType of D v → HasDistinctNames T → TypedResult of T (result_with is_ok v)
-  result_typed true T D v (parts, is, due) typed distinct =
+  result_typed true T D v (parts, is, expected) typed distinct =
       let names = subst HasDistinctNames (result_is T parts is) distinct in
-      subst (λ (U : TypeTree). TypedResult of U (result_with true v)) (sym (result_is T parts is)) (subst (λ (E : Option TypeTree). PayloadIsOf of E v) (sym (option_back parts.0)) (subst (λ (E : Option TypeTree). IsOfPayloadType of E v) due typed names.0))
-  result_typed false T D v (parts, is, due) typed distinct =
+      subst (λ (U : TypeTree). TypedResult of U (result_with true v)) (sym (result_is T parts is)) (subst (λ (E : Option TypeTree). PayloadIsOf of E v) (sym (option_back parts.0)) (subst (λ (E : Option TypeTree). IsOfPayloadType of E v) expected typed names.0))
+  result_typed false T D v (parts, is, expected) typed distinct =
       let names = subst HasDistinctNames (result_is T parts is) distinct in
-      subst (λ (U : TypeTree). TypedResult of U (result_with false v)) (sym (result_is T parts is)) (subst (λ (E : Option TypeTree). PayloadIsOf of E v) (sym (option_back parts.1)) (subst (λ (E : Option TypeTree). IsOfPayloadType of E v) due typed names.1))
+      subst (λ (U : TypeTree). TypedResult of U (result_with false v)) (sym (result_is T parts is)) (subst (λ (E : Option TypeTree). PayloadIsOf of E v) (sym (option_back parts.1)) (subst (λ (E : Option TypeTree). IsOfPayloadType of E v) expected typed names.1))
 
   -- the payload was refused
   pub result_refused : (is_ok : Bool) (T : TypeTree) (D : Option TypeTree) (source : List ℕ) (p : Range ℕ) (children : List NodeTree) (e : Diagnostic) → HasFullParts Full → (parts : Option TypeTree × Option TypeTree) × (result_parts T ≡ Some parts) × (D ≡ payload_of is_ok parts) → AnswersPayload tree of Full w (result_name is_ok) D source (result_of is_ok p children) (first_of children) (Err e) → (IsPayloadOf source (first_of children) → RefusesInPart (result_of is_ok p children) (first_of children) e) → IsReadAs tree of Full o w T source (result_of is_ok p children) (Err e)
-  result_refused is_ok T D source p children e full (parts, is, due) answers within =
-      case_refused is_ok T parts.0 parts.1 source p children e (result_is T parts is) full (subst (λ (E : Option TypeTree). AnswersPayload tree of Full w (result_name is_ok) E source (result_of is_ok p children) (first_of children) (Err e)) due answers) within
+  result_refused is_ok T D source p children e full (parts, is, expected) answers within =
+      case_refused is_ok T parts.0 parts.1 source p children e (result_is T parts is) full (subst (λ (E : Option TypeTree). AnswersPayload tree of Full w (result_name is_ok) E source (result_of is_ok p children) (first_of children) (Err e)) expected answers) within
 
   -- at a result, a node of another form than a result's and a flat payload's
   pub other_result : (T : TypeTree) (source : List ℕ) (n : NodeTree) (e : Diagnostic) → kind_of T ≡ kinds.Result → type_of n ≢ node_type.ResultOk → type_of n ≢ node_type.ResultErr → ((U : TypeTree) → IsFlatAt T (type_of n) U → ⊥) → RefusedAs InvalidType n e → IsReadAs tree of Full o w T source n (Err e)

@@ -7,9 +7,9 @@ use Rattle.wave_lex.specs.Errors.{Diagnostic}
 use Rattle.wave_grammar.specs.NodeTree.{NodeTree, type_of}
 use Rattle.wave_grammar.specs.declared.form.NodeType.{NodeType}
 use Rattle.wave_read.specs.Reading.{IsReadAs, IsOfType}
-use Rattle.wave_read.specs.Flat.{IsFlatAt, IsAround, IsAroundWhereDue, IsOfPartWithin}
+use Rattle.wave_read.specs.Flat.{IsFlatAt, IsAround, IsAroundWhereExpected, IsOfPartWithin}
 
-module _ {S V : Type 0} (type_tree : S → TypeTree) (tree : V → Value) (of : V → TypeTree → Type 0) (Full : TypeTree → Type 0) (i w : Order) (T : TypeTree) (source : List ℕ) (n : NodeTree) (o : Option (Bor S)) (x : Bor S) (made : Result V Diagnostic) (is : IsAround type_tree T (type_of n) o x) (read : IsReadAs tree of Full i w (type_tree x.now) source n made) where
+module _ {S V : Type 0} (type_tree : S → TypeTree) (tree : V → Value) (of : V → TypeTree → Type 0) (Full : TypeTree → Type 0) (i w : Order) (T : TypeTree) (source : List ℕ) (n : NodeTree) (o : Option (Bor S)) (x : Bor S) (built : Result V Diagnostic) (is : IsAround type_tree T (type_of n) o x) (read : IsReadAs tree of Full i w (type_tree x.now) source n built) where
   -- an option or a result is around it
   pub around_read : (whole : Bor S) (r : Result V Diagnostic) → o ≡ Some whole → (IsFlatAt (type_tree whole.now) (type_of n) (type_tree x.now) → IsReadAs tree of Full i w (type_tree whole.now) source n r) → IsReadAs tree of Full i w T source n r
   around_read whole r some around =
@@ -17,17 +17,17 @@ module _ {S V : Type 0} (type_tree : S → TypeTree) (tree : V → Value) (of : 
       subst (λ (W : TypeTree). IsReadAs tree of Full i w W source n r) here.0 (around (subst (λ (W : TypeTree). IsFlatAt W (type_of n) (type_tree x.now)) (sym here.0) here.1))
 
   -- nothing is
-  pub alone_read : o ≡ None → IsReadAs tree of Full i w T source n made
+  pub alone_read : o ≡ None → IsReadAs tree of Full i w T source n built
   alone_read none =
       let here : (type_tree x.now ≡ T) × ((U : TypeTree) → IsFlatAt T (type_of n) U → ⊥) = subst (λ (p : Option (Bor S)). IsAround type_tree T (type_of n) p x) none is in
-      subst (λ (W : TypeTree). IsReadAs tree of Full i w W source n made) here.0 read
+      subst (λ (W : TypeTree). IsReadAs tree of Full i w W source n built) here.0 read
 
-module _ {S V : Type 0} (type_tree : S → TypeTree) (of : V → TypeTree → Type 0) (ty : NodeType) (made : Result V Diagnostic) where
+module _ {S V : Type 0} (type_tree : S → TypeTree) (of : V → TypeTree → Type 0) (ty : NodeType) (built : Result V Diagnostic) where
   -- what was read of the payload is of its type
-  pub part_within : (T : TypeTree) (o : Option (Bor S)) (x : Bor S) → IsAround type_tree T ty o x → IsOfType of (type_tree x.now) made → IsOfPartWithin type_tree of o made
+  pub part_within : (T : TypeTree) (o : Option (Bor S)) (x : Bor S) → IsAround type_tree T ty o x → IsOfType of (type_tree x.now) built → IsOfPartWithin type_tree of o built
   part_within T None x is typed = tt
   part_within T (Some whole) x is typed = (ty, type_tree x.now, subst (λ (W : TypeTree). IsFlatAt W ty (type_tree x.now)) (sym is.0) is.1, typed)
 
-  pub due_within : (due : Option TypeTree) (o : Option (Bor S)) (x : Bor S) → IsAroundWhereDue type_tree due ty o x → IsOfType of (type_tree x.now) made → IsOfPartWithin type_tree of o made
-  due_within None o x is typed = absurd is
-  due_within (Some T) o x is typed = part_within T o x is typed
+  pub expected_within : (expected : Option TypeTree) (o : Option (Bor S)) (x : Bor S) → IsAroundWhereExpected type_tree expected ty o x → IsOfType of (type_tree x.now) built → IsOfPartWithin type_tree of o built
+  expected_within None o x is typed = absurd is
+  expected_within (Some T) o x is typed = part_within T o x is typed

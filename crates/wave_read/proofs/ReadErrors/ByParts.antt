@@ -42,8 +42,8 @@ same_parts : (e : Diagnostic) (k : ParserErrorKind) (p : Range ℕ) (t : Option 
 same_parts e k p t c a b f g = rw (a, b, f, g) refl
 
 -- an error is made again of its parts
-made_again : (e : Diagnostic) (k : ParserErrorKind) (p : Range ℕ) (d : Detail) → k ≡ e.kind → p ≡ e.span → detail_text d ≡ e.detail → detail_cause d ≡ e.cause → IsNoMemory (detail_cause d) → error_with k p d ≡ e
-made_again e k p d a b t c h = kept_whole k p d h ∙ same_parts e k p (detail_text d) (detail_cause d) a b t c
+built_again : (e : Diagnostic) (k : ParserErrorKind) (p : Range ℕ) (d : Detail) → k ≡ e.kind → p ≡ e.span → detail_text d ≡ e.detail → detail_cause d ≡ e.cause → IsNoMemory (detail_cause d) → error_with k p d ≡ e
+built_again e k p d a b t c h = kept_whole k p d h ∙ same_parts e k p (detail_text d) (detail_cause d) a b t c
 
 -- an error of words that were copied is one of the words
 pub copied : (k : ParserErrorKind) (p : Range ℕ) (words : Bor (List ℕ)) (copy : String Global) (e : Diagnostic) → string_bytes copy ≡ words.now → IsErrorOf k p (detail.Owned copy) e → IsErrorOf k p (detail.Static words) e
@@ -59,7 +59,7 @@ text_said e (detail.Cause w) held t c = inr (subst (λ o. MatchOption o ⊥ Caus
 
 -- an error in few bytes is the same, or out of memory
 pub kept_or_memory : (e f : Diagnostic) (k : ParserErrorKind) (p : Range ℕ) (d : Detail) → k ≡ e.kind → p ≡ e.span → detail_text d ≡ e.detail → detail_cause d ≡ e.cause → IsNoMemory (detail_cause d) → IsErrorOf k p d f → IsSameOrMemory e f
-kept_or_memory e f k p d a b t c h (inl same) = inl (same ∙ made_again e k p d a b t c h)
+kept_or_memory e f k p d a b t c h (inl same) = inl (same ∙ built_again e k p d a b t c h)
 kept_or_memory e f k p d a b t c h (inr held) = inr (text_said e d held.0 t c, held.1 ∙ ap (λ (q : Range ℕ). detailed why.OutOfMemory q None) b)
 
 -- an error with a cause isn't one of a form alone

@@ -18,10 +18,10 @@ use Rattle.wave_lex.specs.declared.error.ParserErrorKind.TheVariants.{InvalidTyp
 use Rattle.wave_grammar.specs.FaultOrder.{Order}
 use Rattle.wave_grammar.specs.NodeTree.{NodeTree, place_of}
 use Rattle.wave_grammar.specs.ErrorSpans.{RefusesAt, RefusesIn}
-use Rattle.wave_grammar.specs.TypedReading.{IsMade}
+use Rattle.wave_grammar.specs.TypedReading.{IsBuilt}
 use Rattle.wave_grammar.proofs.ErrorSpans.Nodes as nodes
 use Rattle.wave_read.specs.Private.Errors.{IsErrorOf}
-use Rattle.wave_read.specs.Errors.{IsRefusedBy, IsSameOrMemory, IsMadeOrMemory, detailed}
+use Rattle.wave_read.specs.Errors.{IsRefusedBy, IsSameOrMemory, IsBuiltOrMemory, detailed}
 use Rattle.wave_read.specs.Reading.{IsReadAs, IsOfType}
 use Rattle.std.specs.Prelude.{ℤ, MatchResult}
 use Rattle.wave_wasm.specs.Types as type
@@ -36,7 +36,7 @@ use Rattle.wave_grammar.specs.LeafTokens.{Spells}
 use Rattle.wave_grammar.specs.Elaborates.{SimpleTree}
 use Rattle.wave_grammar.specs.Nodes.{IsParsedFrom}
 use Rattle.wave_grammar.specs.NodeAccessors.{GivesNumber}
-use Rattle.wave_grammar.specs.TypedReading.{IsValueOf, Answers, IsLeafMade, IsTypedValue, IsBlamed, IsKeyRead, IsKeyBlamed}
+use Rattle.wave_grammar.specs.TypedReading.{IsValueOf, Answers, IsLeafBuilt, IsTypedValue, IsBlamed, IsKeyRead, IsKeyBlamed}
 use Rattle.wave_grammar.specs.PartReading.{AnswersWhole}
 use Rattle.wave_grammar.proofs.ByKind.MakerAnswers as makers
 use Rattle.wave_grammar.proofs.ByKind.Wholes as wholes
@@ -66,7 +66,7 @@ same_or_memory tree of Full o w T source n e f h (inr memory) = record {
   typed = tt;
 }
 
--- at any type out of memory may be told at the node
+-- at any type out of memory may be reported at the node
 pub no_memory : {V : Type 0} (tree : V → Value) (of : V → TypeTree → Type 0) (Full : TypeTree → Type 0) (o w : Order) (T : TypeTree) (source : List ℕ) (n : NodeTree) (e : Diagnostic) → Says e OutOfMemory (place_of n) None → IsReadAs tree of Full o w T source n (Err e)
 no_memory tree of Full o w T source n e says =
     let memory : e.kind ≡ OutOfMemory = ap (λ (r : Refusal). r.kind) says.is in
@@ -95,16 +95,16 @@ refused_or_memory cause p e (inl same) = let said = cause_said cause p in (inl (
 refused_or_memory cause p e (inr held) = (inr (held.0, ap refusal_of held.1), ap (λ (d : Diagnostic). d.span) held.1)
 
 -- what holds where a constructor made a value, and where it refused for memory too, holds of what its answer becomes
-pub made_anew : {V G : Type 0} (P : V → Type 0) (Q : WasmValueError → Type 0) (n : NodeTree) (m : Result V WasmValueError) (r : Result V Diagnostic) → ((a : AllocError) → Q (error.Memory a)) → IfOk m P → IfErr m Q → IsMadeOrMemory n m r → ((x : Result V WasmValueError) → IfOk x P → IfErr x Q → IsMade n x r → G) → G
-made_anew P Q n (Ok v) (Ok w) any ok full done go = go (Ok v) ok full done
-made_anew P Q n (Err cause) (Err e) any ok full (inl same, place) go = go (Err cause) ok full (same, place)
-made_anew P Q n (Err cause) (Err e) any ok full (inr memory, place) go = go (Err (error.Memory no_memory_left)) tt (any no_memory_left) (memory.1, place)
-made_anew P Q n (Ok v) (Err e) any ok full done go = absurd done
-made_anew P Q n (Err cause) (Ok w) any ok full done go = absurd done
+pub built_anew : {V G : Type 0} (P : V → Type 0) (Q : WasmValueError → Type 0) (n : NodeTree) (m : Result V WasmValueError) (r : Result V Diagnostic) → ((a : AllocError) → Q (error.Memory a)) → IfOk m P → IfErr m Q → IsBuiltOrMemory n m r → ((x : Result V WasmValueError) → IfOk x P → IfErr x Q → IsBuilt n x r → G) → G
+built_anew P Q n (Ok v) (Ok w) any ok full done go = go (Ok v) ok full done
+built_anew P Q n (Err cause) (Err e) any ok full (inl same, place) go = go (Err cause) ok full (same, place)
+built_anew P Q n (Err cause) (Err e) any ok full (inr memory, place) go = go (Err (error.Memory no_memory_left)) tt (any no_memory_left) (memory.1, place)
+built_anew P Q n (Ok v) (Err e) any ok full done go = absurd done
+built_anew P Q n (Err cause) (Ok w) any ok full done go = absurd done
 
 -- it stands at the node
-pub made_at : {V : Type 0} (n : NodeTree) (m : Result V WasmValueError) (r : Result V Diagnostic) → IsMadeOrMemory n m r → IfErr r (RefusesAt n)
-made_at {V} n m r done = made_anew (λ (v : V). Unit {0}) (λ (cause : WasmValueError). Unit {0}) n m r (λ a. tt) (any_ok m) (any_err m) done (λ x ok full made. nodes.made_at n x r made)
+pub built_at : {V : Type 0} (n : NodeTree) (m : Result V WasmValueError) (r : Result V Diagnostic) → IsBuiltOrMemory n m r → IfErr r (RefusesAt n)
+built_at {V} n m r done = built_anew (λ (v : V). Unit {0}) (λ (cause : WasmValueError). Unit {0}) n m r (λ a. tt) (any_ok m) (any_err m) done (λ x ok full built. nodes.built_at n x r built)
   where
     any_ok : (m : Result V WasmValueError) → IfOk m (λ (v : V). Unit {0})
     any_ok (Ok v) = tt
@@ -115,19 +115,19 @@ made_at {V} n m r done = made_anew (λ (v : V). Unit {0}) (λ (cause : WasmValue
     any_err (Err cause) = tt
 
 -- so it stands in it
-pub made_in : {V : Type 0} (source : List ℕ) (n : NodeTree) (m : Result V WasmValueError) (r : Result V Diagnostic) → IsParsedFrom source n → IsMadeOrMemory n m r → IfErr r (RefusesIn n)
-made_in source n m r h done = nodes.all_in source n r h (made_at n m r done)
+pub built_in : {V : Type 0} (source : List ℕ) (n : NodeTree) (m : Result V WasmValueError) (r : Result V Diagnostic) → IsParsedFrom source n → IsBuiltOrMemory n m r → IfErr r (RefusesIn n)
+built_in source n m r h done = nodes.all_in source n r h (built_at n m r done)
 
 -- ---- values are of their types
 
 -- what was made is of the type, where its making says so
-pub made_of : {V : Type 0} (of : V → TypeTree → Type 0) (T : TypeTree) (P : V → Type 0) (n : NodeTree) (m : Result V WasmValueError) (r : Result V Diagnostic) → ((v : V) → P v → HasDistinctNames T → of v T) → IfOk m P → IsMade n m r → IsOfType of T r
-made_of {V} of T P n (Ok v) (Ok w) says ok same = subst (λ (x : V). HasDistinctNames T → of x T) (sym same) (says v ok)
-made_of of T P n (Err cause) (Err e) says ok done = tt
-made_of of T P n (Ok v) (Err e) says ok done = absurd done
-made_of of T P n (Err cause) (Ok w) says ok done = absurd done
+pub built_of : {V : Type 0} (of : V → TypeTree → Type 0) (T : TypeTree) (P : V → Type 0) (n : NodeTree) (m : Result V WasmValueError) (r : Result V Diagnostic) → ((v : V) → P v → HasDistinctNames T → of v T) → IfOk m P → IsBuilt n m r → IsOfType of T r
+built_of {V} of T P n (Ok v) (Ok w) says ok same = subst (λ (x : V). HasDistinctNames T → of x T) (sym same) (says v ok)
+built_of of T P n (Err cause) (Err e) says ok done = tt
+built_of of T P n (Ok v) (Err e) says ok done = absurd done
+built_of of T P n (Err cause) (Ok w) says ok done = absurd done
 
-pub anew_of : {V : Type 0} (of : V → TypeTree → Type 0) (T : TypeTree) (P : V → Type 0) (n : NodeTree) (m : Result V WasmValueError) (r : Result V Diagnostic) → ((v : V) → P v → HasDistinctNames T → of v T) → IfOk m P → IsMadeOrMemory n m r → IsOfType of T r
+pub anew_of : {V : Type 0} (of : V → TypeTree → Type 0) (T : TypeTree) (P : V → Type 0) (n : NodeTree) (m : Result V WasmValueError) (r : Result V Diagnostic) → ((v : V) → P v → HasDistinctNames T → of v T) → IfOk m P → IsBuiltOrMemory n m r → IsOfType of T r
 anew_of {V} of T P n (Ok v) (Ok w) says ok same = subst (λ (x : V). HasDistinctNames T → of x T) (sym same) (says v ok)
 anew_of of T P n (Err cause) (Err e) says ok done = tt
 anew_of of T P n (Ok v) (Err e) says ok done = absurd done
@@ -145,21 +145,21 @@ none_of of T P (Err e) refused = tt
 
 module _ {V : Type 0} (tree : V → Value) (of : V → TypeTree → Type 0) (Full : TypeTree → Type 0) where
   -- what is made of one token is of its type
-  pub leaf_of : (one : Leaf) (n : NodeTree) (r : Result V Diagnostic) → IsLeafMade tree of Full one n r → IsOfType of (type.simple (leaf_type one)) r
-  leaf_of one n r made = made_of of (type.simple (leaf_type one)) (MakesLeaf tree of one) n made.0 r (λ v makes distinct. makes.is_of) made.1 made.3
+  pub leaf_of : (one : Leaf) (n : NodeTree) (r : Result V Diagnostic) → IsLeafBuilt tree of Full one n r → IsOfType of (type.simple (leaf_type one)) r
+  leaf_of one n r built = built_of of (type.simple (leaf_type one)) (MakesLeaf tree of one) n built.0 r (λ v makes distinct. makes.is_of) built.1 built.3
 
   -- the value of one token
-  pub leaf_anew : (one : Leaf) (n : NodeTree) (m : Result V WasmValueError) (r : Result V Diagnostic) → IfOk m (MakesLeaf tree of one) → IfErr m (FullLeaf Full one) → IsMadeOrMemory n m r → IsLeafMade tree of Full one n r
-  leaf_anew one n m r ok full done = made_anew (MakesLeaf tree of one) (FullLeaf Full one) n m r (λ a f. tt) ok full done (λ x ok full made. (x, ok, full, made))
+  pub leaf_anew : (one : Leaf) (n : NodeTree) (m : Result V WasmValueError) (r : Result V Diagnostic) → IfOk m (MakesLeaf tree of one) → IfErr m (FullLeaf Full one) → IsBuiltOrMemory n m r → IsLeafBuilt tree of Full one n r
+  leaf_anew one n m r ok full done = built_anew (MakesLeaf tree of one) (FullLeaf Full one) n m r (λ a f. tt) ok full done (λ x ok full built. (x, ok, full, built))
 
-  pub leaf_made : (o w : Order) (T : TypeTree) (t : SpannedTree) (n : NodeTree) (one : Leaf) (m : Result V WasmValueError) (r : Result V Diagnostic) → T ≡ type.simple (leaf_type one) → SimpleTree (leaf_type one) (tree_of t) (value.leaf one) → IfOk m (MakesLeaf tree of one) → IfErr m (FullLeaf Full one) → IsMadeOrMemory n m r → MatchResult r (IsTypedValue tree of T t) (IsBlamed Full o w T t)
-  leaf_made o w T t n one m r is read ok full done = let x = leaf_anew one n m r ok full done in makers.leaf_made tree of Full o w T t n one x.0 r is read x.1 x.2 x.3
+  pub leaf_built : (o w : Order) (T : TypeTree) (t : SpannedTree) (n : NodeTree) (one : Leaf) (m : Result V WasmValueError) (r : Result V Diagnostic) → T ≡ type.simple (leaf_type one) → SimpleTree (leaf_type one) (tree_of t) (value.leaf one) → IfOk m (MakesLeaf tree of one) → IfErr m (FullLeaf Full one) → IsBuiltOrMemory n m r → MatchResult r (IsTypedValue tree of T t) (IsBlamed Full o w T t)
+  leaf_built o w T t n one m r is read ok full done = let x = leaf_anew one n m r ok full done in makers.leaf_built tree of Full o w T t n one x.0 r is read x.1 x.2 x.3
 
-  pub whole_made : (k : WasmTypeKind) (which : Whole) (source : List ℕ) (n : NodeTree) (y z : ℤ) (m : Result V WasmValueError) (r : Result V Diagnostic) → k ≡ whole_kind which → y ≡ z → GivesNumber which (λ (x : ℤ). x) source n (Ok z) → IfOk m (MakesLeaf tree of (value.whole which y)) → IfErr m (FullLeaf Full (value.whole which y)) → IsMadeOrMemory n m r → AnswersWhole tree of Full k source n r
-  whole_made k which source n y z m r is same gives ok full done = let x = leaf_anew (value.whole which y) n m r ok full done in wholes.whole_made tree of Full k which source n y z x.0 r is same gives x.1 x.2 x.3
+  pub whole_built : (k : WasmTypeKind) (which : Whole) (source : List ℕ) (n : NodeTree) (y z : ℤ) (m : Result V WasmValueError) (r : Result V Diagnostic) → k ≡ whole_kind which → y ≡ z → GivesNumber which (λ (x : ℤ). x) source n (Ok z) → IfOk m (MakesLeaf tree of (value.whole which y)) → IfErr m (FullLeaf Full (value.whole which y)) → IsBuiltOrMemory n m r → AnswersWhole tree of Full k source n r
+  whole_built k which source n y z m r is same gives ok full done = let x = leaf_anew (value.whole which y) n m r ok full done in wholes.whole_built tree of Full k which source n y z x.0 r is same gives x.1 x.2 x.3
 
-  pub key_made : (T : TypeTree) (K S : Simple) (p : Range ℕ) (key : Token) (n : NodeTree) (one : Leaf) (m : Result V WasmValueError) (r : Result V Diagnostic) → T ≡ type.simple K → T ≡ type.simple S → leaf_type one ≡ S → Spells S key one → IfOk m (MakesLeaf tree of one) → IfErr m (FullLeaf Full one) → IsMadeOrMemory n m r → MatchResult r (IsKeyRead tree of K key) (IsKeyBlamed Full K p key)
-  key_made T K S p key n one m r e f is spelled ok full done = let x = leaf_anew one n m r ok full done in keys.key_made tree of Full T K S p key n one x.0 r e f is spelled x.1 x.2 x.3
+  pub key_built : (T : TypeTree) (K S : Simple) (p : Range ℕ) (key : Token) (n : NodeTree) (one : Leaf) (m : Result V WasmValueError) (r : Result V Diagnostic) → T ≡ type.simple K → T ≡ type.simple S → leaf_type one ≡ S → Spells S key one → IfOk m (MakesLeaf tree of one) → IfErr m (FullLeaf Full one) → IsBuiltOrMemory n m r → MatchResult r (IsKeyRead tree of K key) (IsKeyBlamed Full K p key)
+  key_built T K S p key n one m r e f is spelled ok full done = let x = leaf_anew one n m r ok full done in keys.key_built tree of Full T K S p key n one x.0 r e f is spelled x.1 x.2 x.3
 
 -- an error of this kind alone
 pub plain_says : (k : ParserErrorKind) (p : Range ℕ) (e : Diagnostic) → e ≡ detailed k p None → Says e k p None

@@ -53,8 +53,8 @@ module _ {V : Type 0} (tree : V → Value) (of : V → TypeTree → Type 0) (Ful
 module _ {V : Type 0} (tree : V → Value) (of : V → TypeTree → Type 0) (Full : TypeTree → Type 0) (w : Order) (T : TypeTree) (parts : List (List ℕ × TypeTree)) (is : RecordType T parts) (source : List ℕ) where
   module _ (children : List NodeTree) (more : List NodeTree) (p : Range ℕ) (e : Diagnostic) (fine : HasDistinctNames T → AreReadAt w is.fields source (node_pairs children)) where
     -- a key that is refused
-    pub key_dooms : (k : NodeTree) (half : ℕ) → length children ≡ half + half → (HasDistinctNames T → RefusesKey source (names_of (fields_at source children)) k e) → RefusesAt k e → IsReadAs tree of Full in_text w T source (node kind.TupleSet p (node_trees ((children ++ k ∷ []) ++ more))) (Err e)
-    key_dooms k half even refused told =
+    pub key_rejects : (k : NodeTree) (half : ℕ) → length children ≡ half + half → (HasDistinctNames T → RefusesKey source (names_of (fields_at source children)) k e) → RefusesAt k e → IsReadAs tree of Full in_text w T source (node kind.TupleSet p (node_trees ((children ++ k ∷ []) ++ more))) (Err e)
+    key_rejects k half even refused reported =
         let n : NodeTree = node kind.TupleSet p (node_trees ((children ++ k ∷ []) ++ more)) in
         record {
           answer = λ t node distinct.
@@ -64,13 +64,13 @@ module _ {V : Type 0} (tree : V → Value) (of : V → TypeTree → Type 0) (Ful
           within = λ value.
               let (v, here) = key_stands source children k more half p value.0 even value.1 in
               let entry = entry_stands source n value.0 children k v value.1 refl here in
-              deeper n k e (pair_belongs source n children k v value here).0 (at_in source k e (inr (entry.0.place, entry.0.key, entry.2)) told);
+              deeper n k e (pair_belongs source n children k v value here).0 (at_in source k e (inr (entry.0.place, entry.0.key, entry.2)) reported);
           typed = tt;
         }
 
     -- a label that is none of the type's names
-    pub unknown_dooms : (k : NodeTree) (half : ℕ) → length children ≡ half + half → type_of k ≡ kind.Label → IsNoneOf (names_of parts) (name_of (node_text source k)) → Says e why.InvalidValue p None → IsReadAs tree of Full in_text w T source (node kind.TupleSet p (node_trees ((children ++ k ∷ []) ++ more))) (Err e)
-    unknown_dooms k half even label none says =
+    pub unknown_rejects : (k : NodeTree) (half : ℕ) → length children ≡ half + half → type_of k ≡ kind.Label → IsNoneOf (names_of parts) (name_of (node_text source k)) → Says e why.InvalidValue p None → IsReadAs tree of Full in_text w T source (node kind.TupleSet p (node_trees ((children ++ k ∷ []) ++ more))) (Err e)
+    unknown_rejects k half even label none says =
         let n : NodeTree = node kind.TupleSet p (node_trees ((children ++ k ∷ []) ++ more)) in
         let name : List ℕ = name_of (node_text source k) in
         record {
@@ -86,8 +86,8 @@ module _ {V : Type 0} (tree : V → Value) (of : V → TypeTree → Type 0) (Ful
         }
 
     -- a value that is refused, of a field that was not read
-    pub value_dooms : (k v : NodeTree) (i : ℕ) (E : TypeTree) → HasFullParts Full → last_key children ≡ Some k → type_of k ≡ kind.Label → (HasDistinctNames T → IsNoneOf (names_of (fields_at source children)) (name_of (node_text source k))) → HasAt parts i (name_of (node_text source k), E) → IsReadAs tree of Full w w E source v (Err e) → IsReadAs tree of Full in_text w T source (node kind.TupleSet p (node_trees ((children ++ v ∷ []) ++ more))) (Err e)
-    value_dooms k v i E full waits label new typed read =
+    pub value_rejects : (k v : NodeTree) (i : ℕ) (E : TypeTree) → HasFullParts Full → last_key children ≡ Some k → type_of k ≡ kind.Label → (HasDistinctNames T → IsNoneOf (names_of (fields_at source children)) (name_of (node_text source k))) → HasAt parts i (name_of (node_text source k), E) → IsReadAs tree of Full w w E source v (Err e) → IsReadAs tree of Full in_text w T source (node kind.TupleSet p (node_trees ((children ++ v ∷ []) ++ more))) (Err e)
+    value_rejects k v i E full waits label new typed read =
         let n : NodeTree = node kind.TupleSet p (node_trees ((children ++ v ∷ []) ++ more)) in
         let here : StandsBehind n children k v = value_stands children k v more p waits in
         let name : List ℕ = name_of (node_text source k) in

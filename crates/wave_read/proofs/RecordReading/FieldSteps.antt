@@ -27,31 +27,31 @@ use Rattle.wave_grammar.proofs.Fields.Lookup.{all_last, map_last, not_found}
 use Rattle.wave_grammar.proofs.Fields.Reading.{RecordType, record_is, fields_distinct, names_are, look_has, all_from}
 use Rattle.wave_grammar.proofs.ErrorSpans.Nodes.{said_here}
 use Rattle.wave_grammar.specs.NodeParts.{TakesKey, TakesPart}
-use Rattle.wave_read.specs.Reading.{IsReadAs, IsReadWhereDue}
-use Rattle.wave_read.specs.Faults.{IsDoomed}
-use Rattle.wave_read.specs.RecordParts.{AreFields, AreBegun, AreKeptAs, IsKeptAs, IsUnread, IsKeyDue, last_key, type_due, field_name, part_of}
+use Rattle.wave_read.specs.Reading.{IsReadAs, IsReadWhereExpected}
+use Rattle.wave_read.specs.Faults.{IsRefusedWhateverFollows}
+use Rattle.wave_read.specs.RecordParts.{AreFields, AreBegun, AreKeptAs, IsKeptAs, IsUnread, IsKeyExpected, last_key, type_expected, field_name, part_of}
 use Rattle.wave_read.specs.Private.RecordParts.{IsFieldKey, IsReadBefore, IsKeyFault, with_value}
 use Rattle.wave_read.specs.declared.fault.Fault.{Fault}
 use Rattle.wave_read.specs.declared.fault.Fault.TheVariants as fault
 use Rattle.wave_read.specs.declared.records.Field.{Field}
 use Rattle.wave_read.specs.declared.records.Fields.{Fields}
-use Rattle.wave_read.proofs.ReadErrors.DoomedValues.{told_dooms}
+use Rattle.wave_read.proofs.ReadErrors.RejectedValues.{reported_rejects}
 use Rattle.wave_read.proofs.MapReading.KeyedChildren.{pairs_with_key, key_waits, pairs_with_value, none_waits, odd_waits}
-use Rattle.wave_read.proofs.RecordReading.Faults.{key_dooms, unknown_dooms, value_dooms}
+use Rattle.wave_read.proofs.RecordReading.Faults.{key_rejects, unknown_rejects, value_rejects}
 use Rattle.wave_read.proofs.RecordReading.Fields.{has_got, one_of_fields, part_names, same_parts, same_names, kept_more, value_kept}
 use Rattle.wave_read.proofs.ReadErrors.HandedOn.{plain_says}
 
 module _ {V : Type 0} (tree : V → Value) (of : V → TypeTree → Type 0) (Full : TypeTree → Type 0) (w : Order) {S : Type 0} (type_tree : S → TypeTree) (T : TypeTree) (source : List ℕ) where
-  -- what is said of fields speaks of their type, of them and of what is due alone
-  pub same_fields : (children : List NodeTree) (x y : Fields S V) → y.ty ≡ x.ty → y.fields ≡ x.fields → y.due ≡ x.due → AreFields type_tree tree of Full w T source children x → AreFields type_tree tree of Full w T source children y
-  same_fields children x y ty fields due h = record {
+  -- what is said of fields speaks of their type, of them and of what is expected alone
+  pub same_fields : (children : List NodeTree) (x y : Fields S V) → y.ty ≡ x.ty → y.fields ≡ x.fields → y.expected ≡ x.expected → AreFields type_tree tree of Full w T source children x → AreFields type_tree tree of Full w T source children y
+  same_fields children x y ty fields expected h = record {
     type_is = ap (λ (t : Bor S). type_tree t.now) ty ∙ h.type_is;
     of_kind = h.of_kind;
     parts = ap (λ (fs : Vec (Field S V) Global). map (part_of type_tree) fs.items) fields ∙ h.parts;
     begun = record {
       labels = h.begun.labels;
       known = subst (λ (fs : Vec (Field S V) Global). AllOf (IsOneOf (map field_name fs.items)) (names_of (fields_at source children))) (sym fields) h.begun.known;
-      due = subst (λ (fs : Vec (Field S V) Global). IsKeyDue source fs.items (last_key children) y.due) (sym fields) (subst (IsKeyDue source x.fields.items (last_key children)) (sym due) h.begun.due);
+      expected = subst (λ (fs : Vec (Field S V) Global). IsKeyExpected source fs.items (last_key children) y.expected) (sym fields) (subst (IsKeyExpected source x.fields.items (last_key children)) (sym expected) h.begun.expected);
       distinct = h.begun.distinct;
       kept = λ distinct. subst (λ (fs : Vec (Field S V) Global). AreKeptAs type_tree tree of Full w source (fields_at source children) fs.items) (sym fields) (h.begun.kept distinct);
     };
@@ -92,8 +92,8 @@ module _ {V : Type 0} (tree : V → Value) (of : V → TypeTree → Type 0) (Ful
     -- ---- keys
 
     -- the key of a field was taken
-    pub key_taken : (k : NodeTree) (due : ℕ × Bor S) → TakesKey kind.TupleSet children → IsFieldKey x.fields.items (type_of k) (node_text source k) due → AreFields type_tree tree of Full w T source (children ++ k ∷ []) (record x { due = Some due })
-    key_taken k due even key =
+    pub key_taken : (k : NodeTree) (expected : ℕ × Bor S) → TakesKey kind.TupleSet children → IsFieldKey x.fields.items (type_of k) (node_text source k) expected → AreFields type_tree tree of Full w T source (children ++ k ∷ []) (record x { expected = Some expected })
+    key_taken k expected even key =
         let b = h.begun in
         let pairs : node_pairs children ≡ node_pairs (children ++ k ∷ []) = sym (pairs_with_key children k even.0 even.1) in
         record {
@@ -103,7 +103,7 @@ module _ {V : Type 0} (tree : V → Value) (of : V → TypeTree → Type 0) (Ful
           begun = record {
             labels = subst (AllOf IsLabelled) pairs b.labels;
             known = subst (λ (ps : List (NodeTree × NodeTree)). AllOf (IsOneOf (map field_name x.fields.items)) (names_of (map (field_of source) ps))) pairs b.known;
-            due = subst (λ (o : Option NodeTree). IsKeyDue source x.fields.items o (Some due)) (sym (key_waits children k even.0 even.1)) key;
+            expected = subst (λ (o : Option NodeTree). IsKeyExpected source x.fields.items o (Some expected)) (sym (key_waits children k even.0 even.1)) key;
             distinct = λ distinct. subst (λ (ps : List (NodeTree × NodeTree)). AreDistinct (names_of (map (field_of source) ps))) pairs (b.distinct distinct);
             kept = λ distinct. subst (λ (ps : List (NodeTree × NodeTree)). AreKeptAs type_tree tree of Full w source (map (field_of source) ps) x.fields.items) pairs (b.kept distinct);
           };
@@ -116,83 +116,83 @@ module _ {V : Type 0} (tree : V → Value) (of : V → TypeTree → Type 0) (Ful
         subst (IsOneOf (names_of (fields_at source children))) named (is_found (fields_at source children) f.name.now own.0 own.1)
 
     -- a key with a fault dooms the record
-    pub key_doomed : (k : NodeTree) (f : Fault) → TakesKey kind.TupleSet children → IsKeyFault x.fields.items (type_of k) (place_of k) (node_text source k) f → IsDoomed tree of Full in_text w T source kind.TupleSet (children ++ k ∷ []) f
-    key_doomed k (fault.Part e) even (inl (apart, says)) =
-        told_dooms tree of Full in_text w T source kind.TupleSet (children ++ k ∷ []) e (λ more p. key_dooms tree of Full w T (map (part_of type_tree) x.fields.items) is_record source children more p e entries_read k even.0 even.1 (λ distinct. inl (apart, says)) (said_here k e why.InvalidType _ (λ was. cc) tt says))
-    key_doomed k (fault.Whole c) even (inl (apart, told)) = absurd told
-    key_doomed k (fault.Part e) even (inr (inr (label, before, says))) =
-        told_dooms tree of Full in_text w T source kind.TupleSet (children ++ k ∷ []) e (λ more p. key_dooms tree of Full w T (map (part_of type_tree) x.fields.items) is_record source children more p e entries_read k even.0 even.1 (λ distinct. inr (label, read_name (name_of (node_text source k)) (h.begun.kept distinct) before, says)) (said_here k e why.DuplicateField _ (λ was. cc) tt says))
-    key_doomed k (fault.Whole c) even (inr (inr (label, before, told))) = absurd told
-    key_doomed k f even (inr (inl (label, none, is))) =
-        subst (IsDoomed tree of Full in_text w T source kind.TupleSet (children ++ k ∷ [])) (sym is)
-        (λ more p e tells. unknown_dooms tree of Full w T (map (part_of type_tree) x.fields.items) is_record source children more p e entries_read k even.0 even.1 label (subst (λ (names : List (List ℕ)). IsNoneOf names (name_of (node_text source k))) (sym (part_names type_tree x.fields.items)) none) (plain_says why.InvalidValue p e tells))
+    pub key_rejected : (k : NodeTree) (f : Fault) → TakesKey kind.TupleSet children → IsKeyFault x.fields.items (type_of k) (place_of k) (node_text source k) f → IsRefusedWhateverFollows tree of Full in_text w T source kind.TupleSet (children ++ k ∷ []) f
+    key_rejected k (fault.Part e) even (inl (apart, says)) =
+        reported_rejects tree of Full in_text w T source kind.TupleSet (children ++ k ∷ []) e (λ more p. key_rejects tree of Full w T (map (part_of type_tree) x.fields.items) is_record source children more p e entries_read k even.0 even.1 (λ distinct. inl (apart, says)) (said_here k e why.InvalidType _ (λ was. cc) tt says))
+    key_rejected k (fault.Whole c) even (inl (apart, reported)) = absurd reported
+    key_rejected k (fault.Part e) even (inr (inr (label, before, says))) =
+        reported_rejects tree of Full in_text w T source kind.TupleSet (children ++ k ∷ []) e (λ more p. key_rejects tree of Full w T (map (part_of type_tree) x.fields.items) is_record source children more p e entries_read k even.0 even.1 (λ distinct. inr (label, read_name (name_of (node_text source k)) (h.begun.kept distinct) before, says)) (said_here k e why.DuplicateField _ (λ was. cc) tt says))
+    key_rejected k (fault.Whole c) even (inr (inr (label, before, reported))) = absurd reported
+    key_rejected k f even (inr (inl (label, none, is))) =
+        subst (IsRefusedWhateverFollows tree of Full in_text w T source kind.TupleSet (children ++ k ∷ [])) (sym is)
+        (λ more p e tells. unknown_rejects tree of Full w T (map (part_of type_tree) x.fields.items) is_record source children more p e entries_read k even.0 even.1 label (subst (λ (names : List (List ℕ)). IsNoneOf names (name_of (node_text source k))) (sym (part_names type_tree x.fields.items)) none) (plain_says why.InvalidValue p e tells))
 
     -- ---- values
 
-    -- the key that waits, where a value is due
-    waiting : (due : ℕ × Bor S) → x.due ≡ Some due → (k : NodeTree) × (last_key children ≡ Some k) × (type_of k ≡ kind.Label) × IsUnread x.fields.items (name_of (node_text source k)) due
-    waiting due is = by (last_key children) refl (subst (IsKeyDue source x.fields.items (last_key children)) is h.begun.due)
+    -- the key that waits, where a value is expected
+    waiting : (expected : ℕ × Bor S) → x.expected ≡ Some expected → (k : NodeTree) × (last_key children ≡ Some k) × (type_of k ≡ kind.Label) × IsUnread x.fields.items (name_of (node_text source k)) expected
+    waiting expected is = by (last_key children) refl (subst (IsKeyExpected source x.fields.items (last_key children)) is h.begun.expected)
       where
-        by : (o : Option NodeTree) → last_key children ≡ o → IsKeyDue source x.fields.items o (Some due) → (k : NodeTree) × (last_key children ≡ Some k) × (type_of k ≡ kind.Label) × IsUnread x.fields.items (name_of (node_text source k)) due
+        by : (o : Option NodeTree) → last_key children ≡ o → IsKeyExpected source x.fields.items o (Some expected) → (k : NodeTree) × (last_key children ≡ Some k) × (type_of k ≡ kind.Label) × IsUnread x.fields.items (name_of (node_text source k)) expected
         by None e d = absurd d
         by (Some k) e d = (k, e, d.0, d.1)
 
     -- the value was read at the type of the field
-    due_type : (due : ℕ × Bor S) (n : NodeTree) (r : Result V Diagnostic) → x.due ≡ Some due → IsReadWhereDue tree of Full w w (shown type_tree (type_due x)) source n r → IsReadAs tree of Full w w (type_tree due.1.now) source n r
-    due_type due n r is read = subst (λ (o : Option (ℕ × Bor S)). IsReadWhereDue tree of Full w w (shown type_tree (option_map (λ d. d.1) o)) source n r) is read
+    expected_type : (expected : ℕ × Bor S) (n : NodeTree) (r : Result V Diagnostic) → x.expected ≡ Some expected → IsReadWhereExpected tree of Full w w (shown type_tree (type_expected x)) source n r → IsReadAs tree of Full w w (type_tree expected.1.now) source n r
+    expected_type expected n r is read = subst (λ (o : Option (ℕ × Bor S)). IsReadWhereExpected tree of Full w w (shown type_tree (option_map (λ d. d.1) o)) source n r) is read
 
-    -- where no key waits no value is due
-    pub no_value_alone : {A : Type 0} → TakesPart kind.TupleSet children → x.due ≡ None → A
-    no_value_alone odd is = absurd (by (last_key children) refl (subst (IsKeyDue source x.fields.items (last_key children)) is h.begun.due))
+    -- where no key waits no value is expected
+    pub no_value_alone : {A : Type 0} → TakesPart kind.TupleSet children → x.expected ≡ None → A
+    no_value_alone odd is = absurd (by (last_key children) refl (subst (IsKeyExpected source x.fields.items (last_key children)) is h.begun.expected))
       where
-        by : (o : Option NodeTree) → last_key children ≡ o → IsKeyDue source x.fields.items o None → ⊥
+        by : (o : Option NodeTree) → last_key children ≡ o → IsKeyExpected source x.fields.items o None → ⊥
         by None e d = odd_waits children odd.0 odd.1 e
         by (Some k) e d = d
 
     -- one more field was read
-    begun_more : (n k : NodeTree) (v : V) (due : ℕ × Bor S) (f : Field S V) (y : Fields S V) → last_key children ≡ Some k → type_of k ≡ kind.Label → slice_get x.fields.items due.0 ≡ Some f → f.name.now ≡ name_of (node_text source k) → f.value ≡ None → IsReadAs tree of Full w w (type_tree f.ty.now) source n (Ok v) → y.fields.items ≡ set x.fields.items due.0 (with_value f v) → y.due ≡ None → AreBegun type_tree tree of Full w T source (children ++ n ∷ []) y
-    begun_more n k v due f y waits label there named unread read is none =
+    begun_more : (n k : NodeTree) (v : V) (expected : ℕ × Bor S) (f : Field S V) (y : Fields S V) → last_key children ≡ Some k → type_of k ≡ kind.Label → slice_get x.fields.items expected.0 ≡ Some f → f.name.now ≡ name_of (node_text source k) → f.value ≡ None → IsReadAs tree of Full w w (type_tree f.ty.now) source n (Ok v) → y.fields.items ≡ set x.fields.items expected.0 (with_value f v) → y.expected ≡ None → AreBegun type_tree tree of Full w T source (children ++ n ∷ []) y
+    begun_more n k v expected f y waits label there named unread read is none =
         let b = h.begun in
-        let here : HasAt x.fields.items due.0 f = has_got x.fields.items due.0 f there in
+        let here : HasAt x.fields.items expected.0 f = has_got x.fields.items expected.0 f there in
         let given : List (List ℕ × NodeTree) = fields_at source children in
         let pairs : node_pairs (children ++ n ∷ []) ≡ node_pairs children ++ (k, n) ∷ [] = pairs_with_value children k n waits in
         let all : fields_at source (children ++ n ∷ []) ≡ given ++ (f.name.now, n) ∷ [] = ap (map (field_of source)) pairs ∙ (map_last (field_of source) (node_pairs children) (k, n) ∙ ap (λ (name : List ℕ). given ++ (name, n) ∷ []) (sym named)) in
         let all_names : names_of (fields_at source (children ++ n ∷ [])) ≡ names_of given ++ f.name.now ∷ [] = ap names_of all ∙ map_last (λ g. g.0) given (f.name.now, n) in
-        let names : map field_name x.fields.items ≡ map field_name y.fields.items = sym (ap (map field_name) is ∙ same_names x.fields.items due.0 f v here) in
-        let new : HasDistinctNames T → look_up given f.name.now ≡ None = new_name due.0 f there unread in
+        let names : map field_name x.fields.items ≡ map field_name y.fields.items = sym (ap (map field_name) is ∙ same_names x.fields.items expected.0 f v here) in
+        let new : HasDistinctNames T → look_up given f.name.now ≡ None = new_name expected.0 f there unread in
         record {
           labels = subst (AllOf IsLabelled) (sym pairs) (all_last IsLabelled (node_pairs children) (k, n) b.labels label);
-          known = subst (λ (own : List (List ℕ)). AllOf (IsOneOf own) (names_of (fields_at source (children ++ n ∷ [])))) names (subst (AllOf (IsOneOf (map field_name x.fields.items))) (sym all_names) (all_last (IsOneOf (map field_name x.fields.items)) (names_of given) f.name.now b.known (one_of_fields x.fields.items due.0 f here)));
-          due = subst (IsKeyDue source y.fields.items (last_key (children ++ n ∷ []))) (sym none) (subst (λ (o : Option NodeTree). IsKeyDue source y.fields.items o None) (sym (none_waits children k n waits)) tt);
+          known = subst (λ (own : List (List ℕ)). AllOf (IsOneOf own) (names_of (fields_at source (children ++ n ∷ [])))) names (subst (AllOf (IsOneOf (map field_name x.fields.items))) (sym all_names) (all_last (IsOneOf (map field_name x.fields.items)) (names_of given) f.name.now b.known (one_of_fields x.fields.items expected.0 f here)));
+          expected = subst (IsKeyExpected source y.fields.items (last_key (children ++ n ∷ []))) (sym none) (subst (λ (o : Option NodeTree). IsKeyExpected source y.fields.items o None) (sym (none_waits children k n waits)) tt);
           distinct = λ distinct. subst AreDistinct (sym all_names) (distinct_more (names_of given) f.name.now (b.distinct distinct) (not_found given f.name.now (new distinct)));
-          kept = λ distinct. subst (λ (l : List (List ℕ × NodeTree)). AreKeptAs type_tree tree of Full w source l y.fields.items) (sym all) (subst (AreKeptAs type_tree tree of Full w source (given ++ (f.name.now, n) ∷ [])) (sym is) (kept_more tree of Full w type_tree source given n x.fields.items due.0 f v here (apart_names distinct) (new distinct) read (b.kept distinct)));
+          kept = λ distinct. subst (λ (l : List (List ℕ × NodeTree)). AreKeptAs type_tree tree of Full w source l y.fields.items) (sym all) (subst (AreKeptAs type_tree tree of Full w source (given ++ (f.name.now, n) ∷ [])) (sym is) (kept_more tree of Full w type_tree source given n x.fields.items expected.0 f v here (apart_names distinct) (new distinct) read (b.kept distinct)));
         }
 
     -- a value was read
-    pub value_taken : (n : NodeTree) (r : Result V Diagnostic) (v : V) (due : ℕ × Bor S) (dues : Option (ℕ × Bor S)) (fields : Vec (Field S V) Global) (behind : ℕ) → x.due ≡ Some due → r ≡ Ok v → IsReadWhereDue tree of Full w w (shown type_tree (type_due x)) source n r → dues ≡ None → ((f : Field S V) → slice_get x.fields.items due.0 ≡ Some f → fields.items ≡ set x.fields.items due.0 (with_value f v)) → AreFields type_tree tree of Full w T source (children ++ n ∷ []) (record x { fields = fields; behind = behind; due = dues })
-    value_taken n r v due dues fields behind is made read no_due keeps =
-        let (k, waits, label, (f, there, named, typed, unread)) = waiting due is in
-        let own : IsReadAs tree of Full w w (type_tree f.ty.now) source n (Ok v) = subst (λ (t : Bor S). IsReadAs tree of Full w w (type_tree t.now) source n (Ok v)) (sym typed) (subst (IsReadAs tree of Full w w (type_tree due.1.now) source n) made (due_type due n r is read)) in
+    pub value_taken : (n : NodeTree) (r : Result V Diagnostic) (v : V) (expected : ℕ × Bor S) (expectations : Option (ℕ × Bor S)) (fields : Vec (Field S V) Global) (behind : ℕ) → x.expected ≡ Some expected → r ≡ Ok v → IsReadWhereExpected tree of Full w w (shown type_tree (type_expected x)) source n r → expectations ≡ None → ((f : Field S V) → slice_get x.fields.items expected.0 ≡ Some f → fields.items ≡ set x.fields.items expected.0 (with_value f v)) → AreFields type_tree tree of Full w T source (children ++ n ∷ []) (record x { fields = fields; behind = behind; expected = expectations })
+    value_taken n r v expected expectations fields behind is built read no_expected keeps =
+        let (k, waits, label, (f, there, named, typed, unread)) = waiting expected is in
+        let own : IsReadAs tree of Full w w (type_tree f.ty.now) source n (Ok v) = subst (λ (t : Bor S). IsReadAs tree of Full w w (type_tree t.now) source n (Ok v)) (sym typed) (subst (IsReadAs tree of Full w w (type_tree expected.1.now) source n) built (expected_type expected n r is read)) in
         record {
           type_is = h.type_is;
           of_kind = h.of_kind;
-          parts = ap (map (part_of type_tree)) (keeps f there) ∙ (same_parts type_tree x.fields.items due.0 f v (has_got x.fields.items due.0 f there) ∙ h.parts);
-          begun = begun_more n k v due f (record x { fields = fields; behind = behind; due = dues }) waits label there named unread own (keeps f there) no_due;
+          parts = ap (map (part_of type_tree)) (keeps f there) ∙ (same_parts type_tree x.fields.items expected.0 f v (has_got x.fields.items expected.0 f there) ∙ h.parts);
+          begun = begun_more n k v expected f (record x { fields = fields; behind = behind; expected = expectations }) waits label there named unread own (keeps f there) no_expected;
         }
 
-    -- a value was refused that was due
-    due_refused : (n : NodeTree) (r : Result V Diagnostic) (e : Diagnostic) (due : ℕ × Bor S) → HasFullParts Full → x.due ≡ Some due → r ≡ Err e → IsReadWhereDue tree of Full w w (shown type_tree (type_due x)) source n r → IsDoomed tree of Full in_text w T source kind.TupleSet (children ++ n ∷ []) (fault.Part e)
-    due_refused n r e due full is made read =
-        let (k, waits, label, (f, there, named, typed, unread)) = waiting due is in
-        let own : IsReadAs tree of Full w w (type_tree f.ty.now) source n (Err e) = subst (λ (t : Bor S). IsReadAs tree of Full w w (type_tree t.now) source n (Err e)) (sym typed) (subst (IsReadAs tree of Full w w (type_tree due.1.now) source n) made (due_type due n r is read)) in
-        let new : HasDistinctNames T → IsNoneOf (names_of (fields_at source children)) (name_of (node_text source k)) = λ distinct. subst (IsNoneOf (names_of (fields_at source children))) named (not_found (fields_at source children) f.name.now (new_name due.0 f there unread distinct)) in
-        let part : HasAt (map (part_of type_tree) x.fields.items) due.0 (name_of (node_text source k), type_tree f.ty.now) = subst (λ (name : List ℕ). HasAt (map (part_of type_tree) x.fields.items) due.0 (name, type_tree f.ty.now)) named (map_has (part_of type_tree) x.fields.items due.0 f (has_got x.fields.items due.0 f there)) in
-        told_dooms tree of Full in_text w T source kind.TupleSet (children ++ n ∷ []) e (λ more p. value_dooms tree of Full w T (map (part_of type_tree) x.fields.items) is_record source children more p e entries_read k n due.0 (type_tree f.ty.now) full waits label new part own)
+    -- a value was refused that was expected
+    expected_refused : (n : NodeTree) (r : Result V Diagnostic) (e : Diagnostic) (expected : ℕ × Bor S) → HasFullParts Full → x.expected ≡ Some expected → r ≡ Err e → IsReadWhereExpected tree of Full w w (shown type_tree (type_expected x)) source n r → IsRefusedWhateverFollows tree of Full in_text w T source kind.TupleSet (children ++ n ∷ []) (fault.Part e)
+    expected_refused n r e expected full is built read =
+        let (k, waits, label, (f, there, named, typed, unread)) = waiting expected is in
+        let own : IsReadAs tree of Full w w (type_tree f.ty.now) source n (Err e) = subst (λ (t : Bor S). IsReadAs tree of Full w w (type_tree t.now) source n (Err e)) (sym typed) (subst (IsReadAs tree of Full w w (type_tree expected.1.now) source n) built (expected_type expected n r is read)) in
+        let new : HasDistinctNames T → IsNoneOf (names_of (fields_at source children)) (name_of (node_text source k)) = λ distinct. subst (IsNoneOf (names_of (fields_at source children))) named (not_found (fields_at source children) f.name.now (new_name expected.0 f there unread distinct)) in
+        let part : HasAt (map (part_of type_tree) x.fields.items) expected.0 (name_of (node_text source k), type_tree f.ty.now) = subst (λ (name : List ℕ). HasAt (map (part_of type_tree) x.fields.items) expected.0 (name, type_tree f.ty.now)) named (map_has (part_of type_tree) x.fields.items expected.0 f (has_got x.fields.items expected.0 f there)) in
+        reported_rejects tree of Full in_text w T source kind.TupleSet (children ++ n ∷ []) e (λ more p. value_rejects tree of Full w T (map (part_of type_tree) x.fields.items) is_record source children more p e entries_read k n expected.0 (type_tree f.ty.now) full waits label new part own)
 
     -- a value was refused
-    pub value_refused : (n : NodeTree) (r : Result V Diagnostic) (e : Diagnostic) → HasFullParts Full → TakesPart kind.TupleSet children → r ≡ Err e → IsReadWhereDue tree of Full w w (shown type_tree (type_due x)) source n r → IsDoomed tree of Full in_text w T source kind.TupleSet (children ++ n ∷ []) (fault.Part e)
-    value_refused n r e full odd made read = by x.due refl
+    pub value_refused : (n : NodeTree) (r : Result V Diagnostic) (e : Diagnostic) → HasFullParts Full → TakesPart kind.TupleSet children → r ≡ Err e → IsReadWhereExpected tree of Full w w (shown type_tree (type_expected x)) source n r → IsRefusedWhateverFollows tree of Full in_text w T source kind.TupleSet (children ++ n ∷ []) (fault.Part e)
+    value_refused n r e full odd built read = by x.expected refl
       where
-        by : (due : Option (ℕ × Bor S)) → x.due ≡ due → IsDoomed tree of Full in_text w T source kind.TupleSet (children ++ n ∷ []) (fault.Part e)
+        by : (expected : Option (ℕ × Bor S)) → x.expected ≡ expected → IsRefusedWhateverFollows tree of Full in_text w T source kind.TupleSet (children ++ n ∷ []) (fault.Part e)
         by None is = no_value_alone odd is
-        by (Some due) is = due_refused n r e due full is made read
+        by (Some expected) is = expected_refused n r e expected full is built read

@@ -65,9 +65,9 @@ some_there None e = absurd (cc)
 some_there (Some x) e = (x, refl)
 
 -- what an iterator has given is a prefix of its items
-pub given_front : {X A : Type 0} (s : IntoIter X A) (xs : List X) (t : IntoIter X A) → Yields into_iter_steps s xs t → into_iter_items s ≡ xs ++ into_iter_items t
-given_front s [] t y = ap into_iter_items y
-given_front s (x ∷ xs) t y = y.1.0 ∙ ap (λ ys. x ∷ ys) (given_front y.0 xs t y.2)
+pub given_prefix : {X A : Type 0} (s : IntoIter X A) (xs : List X) (t : IntoIter X A) → Yields into_iter_steps s xs t → into_iter_items s ≡ xs ++ into_iter_items t
+given_prefix s [] t y = ap into_iter_items y
+given_prefix s (x ∷ xs) t y = y.1.0 ∙ ap (λ ys. x ∷ ys) (given_prefix y.0 xs t y.2)
 
 no_items : {X : Type 0} (xs : List X) → length xs ≡ 0 → xs ≡ []
 no_items [] e = refl
@@ -75,7 +75,7 @@ no_items (x ∷ xs) e = absurd (omega (arith, e))
 
 -- at its end it has given all of them
 pub given_all : {X A : Type 0} (s : IntoIter X A) (xs : List X) (t : IntoIter X A) → Yields into_iter_steps s xs t → into_iter_len t ≡ 0 → xs ≡ into_iter_items s
-given_all s xs t y none = sym (given_front s xs t y ∙ (ap (λ ys. xs ++ ys) (no_items (into_iter_items t) (sym t.rest.ok.0 ∙ none)) ∙ append-nil xs))
+given_all s xs t y none = sym (given_prefix s xs t y ∙ (ap (λ ys. xs ++ ys) (no_items (into_iter_items t) (sym t.rest.ok.0 ∙ none)) ∙ append-nil xs))
 
 -- ---- names
 

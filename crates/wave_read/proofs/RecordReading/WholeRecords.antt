@@ -26,10 +26,10 @@ use Rattle.wave_grammar.specs.Nodes.{IsNodeOf}
 use Rattle.wave_grammar.specs.ErrorSpans.{RefusesAt}
 use Rattle.wave_grammar.specs.declared.form.NodeType.TheVariants as kind
 use Rattle.wave_grammar.proofs.ChildNodes.Trees.{list_of_trees}
-use Rattle.wave_grammar.proofs.ByKind.MakerAnswers.{made}
+use Rattle.wave_grammar.proofs.ByKind.MakerAnswers.{built}
 use Rattle.wave_grammar.proofs.Fields.Entries.{AreFieldsOf, record_nodes, entry_found, none_found, some_map}
 use Rattle.wave_grammar.proofs.Fields.Reading.{RecordType, fields_distinct, given_fields, FieldIsRead, FieldsRead, field_read, record_reads, record_full}
-use Rattle.wave_grammar.proofs.ErrorSpans.Nodes.{at_in, made_in}
+use Rattle.wave_grammar.proofs.ErrorSpans.Nodes.{at_in, built_in}
 use Rattle.wave_read.specs.Reading.{IsReadAs}
 use Rattle.wave_read.specs.RecordParts.{AreFields, AreKeptAs, IsKeptAs, field_name, part_of}
 use Rattle.wave_read.specs.Private.RecordParts.{IsFull, AreFull, FirstUnfilled, IsLeftUnfilled}
@@ -37,8 +37,8 @@ use Rattle.wave_read.specs.declared.records.Field.{Field}
 use Rattle.wave_read.specs.declared.records.Fields.{Fields}
 use Rattle.wave_read.proofs.RecordReading.Fields.{of_one, part_names}
 use Rattle.wave_read.proofs.RecordReading.FieldSteps.{is_record, entries_read}
-use Rattle.wave_read.specs.Errors.{IsMadeOrMemory}
-use Rattle.wave_read.proofs.ReadErrors.HandedOn.{made_anew, made_of}
+use Rattle.wave_read.specs.Errors.{IsBuiltOrMemory}
+use Rattle.wave_read.proofs.ReadErrors.HandedOn.{built_anew, built_of}
 
 module _ {V : Type 0} (tree : V → Value) (of : V → TypeTree → Type 0) (Full : TypeTree → Type 0) (w : Order) {S : Type 0} (type_tree : S → TypeTree) (T : TypeTree) (source : List ℕ) where
   -- a refusal is handed on
@@ -131,9 +131,9 @@ module _ {V : Type 0} (tree : V → Value) (of : V → TypeTree → Type 0) (Ful
         )
 
     -- the record was made of all its values, or its constructor refused
-    pub whole_made : (p : Range ℕ) (vals : List (Bor (List ℕ) × V)) (made_record : Result V cause.WasmValueError) (r : Result V Diagnostic) → AreFull tree of type_tree x.fields.items vals → IfOk made_record (MakesRecord tree of (type_tree x.ty.now) vals) → IfErr made_record (FullRecord of Full (type_tree x.ty.now) vals) → IsMadeOrMemory (node kind.TupleSet p (node_trees children)) made_record r → IsReadAs tree of Full in_text w T source (node kind.TupleSet p (node_trees children)) r
-    whole_made p vals made_record r filled ok full done =
-        made_anew (MakesRecord tree of (type_tree x.ty.now) vals) (FullRecord of Full (type_tree x.ty.now) vals) (node kind.TupleSet p (node_trees children)) made_record r (λ a f fs is apart ordered same of. tt) ok full done (λ made_record ok full done.
+    pub whole_built : (p : Range ℕ) (vals : List (Bor (List ℕ) × V)) (built_record : Result V cause.WasmValueError) (r : Result V Diagnostic) → AreFull tree of type_tree x.fields.items vals → IfOk built_record (MakesRecord tree of (type_tree x.ty.now) vals) → IfErr built_record (FullRecord of Full (type_tree x.ty.now) vals) → IsBuiltOrMemory (node kind.TupleSet p (node_trees children)) built_record r → IsReadAs tree of Full in_text w T source (node kind.TupleSet p (node_trees children)) r
+    whole_built p vals built_record r filled ok full done =
+        built_anew (MakesRecord tree of (type_tree x.ty.now) vals) (FullRecord of Full (type_tree x.ty.now) vals) (node kind.TupleSet p (node_trees children)) built_record r (λ a f fs is apart ordered same of. tt) ok full done (λ built_record ok full done.
         let n : NodeTree = node kind.TupleSet p (node_trees children) in
         record {
           answer = λ t is distinct.
@@ -145,20 +145,20 @@ module _ {V : Type 0} (tree : V → Value) (of : V → TypeTree → Type 0) (Ful
               let read : FieldsRead tree of Full (type.field_list own.fields) (entry_list inner.given) vals = subst (λ (ps : List (List ℕ × TypeTree)). FieldsRead tree of Full ps (entry_list inner.given) vals) own.parts_are (fields_read given (entry_list inner.given) x.fields.items vals n all apart.within (h.begun.kept distinct) filled) in
               let names : AreDistinct (names_of (type.field_list own.fields)) = subst (λ (ps : List (List ℕ × TypeTree)). AreDistinct (names_of ps)) own.parts_are apart.names in
               let known : (name : List ℕ) → IsOneOf (names_of given) name → IsOneOf (names_of (type.field_list own.fields)) name = λ name one. subst (λ (ns : List (List ℕ)). IsOneOf ns name) (sym (part_names type_tree x.fields.items) ∙ ap names_of own.parts_are) (of_one (IsOneOf (map field_name x.fields.items)) (names_of given) name h.begun.known one) in
-              made tree of Full in_text w T t n made_record r done
-              (record_reads tree of Full T own.fields source n t given vals inner made_record own.is distinct all fields.distinct known names read (subst (λ (U : TypeTree). IfOk made_record (MakesRecord tree of U vals)) h.type_is ok))
-              (record_full tree of Full T own.fields (entry_list inner.given) vals made_record own.is names read (subst (λ (U : TypeTree). IfErr made_record (FullRecord of Full U vals)) h.type_is full));
-          within = λ value. made_in source n made_record r (inl value) done;
-          typed = made_of of T (MakesRecord tree of (type_tree x.ty.now) vals) n made_record r (λ v makes distinct. record_of vals v filled distinct makes) ok done;
+              built tree of Full in_text w T t n built_record r done
+              (record_reads tree of Full T own.fields source n t given vals inner built_record own.is distinct all fields.distinct known names read (subst (λ (U : TypeTree). IfOk built_record (MakesRecord tree of U vals)) h.type_is ok))
+              (record_full tree of Full T own.fields (entry_list inner.given) vals built_record own.is names read (subst (λ (U : TypeTree). IfErr built_record (FullRecord of Full U vals)) h.type_is full));
+          within = λ value. built_in source n built_record r (inl value) done;
+          typed = built_of of T (MakesRecord tree of (type_tree x.ty.now) vals) n built_record r (λ v makes distinct. record_of vals v filled distinct makes) ok done;
         })
 
     -- a field was left out, or there was no memory
     pub whole_unfilled : (p : Range ℕ) (e : Diagnostic) (r : Result V Diagnostic) → IsErrAnd r (λ f. f ≡ e) → HasFullParts Full → IsLeftUnfilled Full type_tree x.fields.items (node kind.TupleSet p (node_trees children)) e → RefusesAt (node kind.TupleSet p (node_trees children)) e → IsReadAs tree of Full in_text w T source (node kind.TupleSet p (node_trees children)) r
-    whole_unfilled p e r same full left told =
+    whole_unfilled p e r same full left reported =
         let n : NodeTree = node kind.TupleSet p (node_trees children) in
         handed_on n e r same (record {
           answer = λ t is distinct. blamed t is distinct left;
-          within = λ value. at_in source n e (inl value) told;
+          within = λ value. at_in source n e (inl value) reported;
           typed = tt;
         })
       where

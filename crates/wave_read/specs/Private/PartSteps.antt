@@ -11,9 +11,9 @@ use Rattle.wave_grammar.specs.FaultOrder.{Order, in_text}
 use Rattle.wave_grammar.specs.NodeTree.{NodeTree, node, no_nodes, node_trees}
 use Rattle.wave_grammar.specs.NodeParts.{TakesKey, TakesPart}
 use Rattle.wave_grammar.specs.declared.form.NodeType.{NodeType}
-use Rattle.wave_read.specs.Reading.{IsReadAs, IsReadWhereDue}
+use Rattle.wave_read.specs.Reading.{IsReadAs, IsReadWhereExpected}
 use Rattle.wave_read.specs.declared.fault.Fault.{Fault}
-use Rattle.wave_read.specs.Faults.{IsDoomed}
+use Rattle.wave_read.specs.Faults.{IsRefusedWhateverFollows}
 
 -- that parts were read of these children of a node, in an order within them, at a type and in a text
 abbrev pub PartsFact : Type 0 → Type 0 → Type 0 → Type 1
@@ -28,7 +28,7 @@ module _ {S V X : Type 0} (Are : PartsFact S V X) (type_tree : S → TypeTree) (
   -- the parts have this child too; or the value, a node of this type, is refused for the fault
   abbrev pub HasOneMore : Order → NodeType → TypeTree → List ℕ → List NodeTree → NodeTree → X → Option Fault → Type 0
   HasOneMore w ty T source children n x found =
-      MatchOption found (Are type_tree tree of Full w T source (children ++ n ∷ []) x) (IsDoomed tree of Full in_text w T source ty (children ++ n ∷ []))
+      MatchOption found (Are type_tree tree of Full w T source (children ++ n ∷ []) x) (IsRefusedWhateverFollows tree of Full in_text w T source ty (children ++ n ∷ []))
 
   -- the key of this type and text, which stands there, is added where a key stands next
   abbrev pub AddsKey : NodeType → X → NodeType → Range ℕ → List ℕ → X → Option Fault → Type 0
@@ -36,11 +36,11 @@ module _ {S V X : Type 0} (Are : PartsFact S V X) (type_tree : S → TypeTree) (
       (w : Order) (T : TypeTree) (source : List ℕ) (children : List NodeTree) → text ≡ slice source p → TakesKey ty children
       → Are type_tree tree of Full w T source children old → HasOneMore w ty T source children (node key p no_nodes) new found
 
-  -- a value that was read at the type that was due is added where a value stands next
+  -- a value that was read at the type that was expected is added where a value stands next
   abbrev pub AddsPart : NodeType → (X → Option (Bor S)) → X → Result V Diagnostic → X → Option Fault → Type 0
-  AddsPart ty due old made new found =
+  AddsPart ty expected old built new found =
       (w : Order) (T : TypeTree) (source : List ℕ) (children : List NodeTree) (n : NodeTree) → TakesPart ty children
-      → Are type_tree tree of Full w T source children old → IsReadWhereDue tree of Full w w (shown type_tree (due old)) source n made
+      → Are type_tree tree of Full w T source children old → IsReadWhereExpected tree of Full w w (shown type_tree (expected old)) source n built
       → HasOneMore w ty T source children n new found
 
   -- this is read of all of the parts, where the value stands there

@@ -15,11 +15,11 @@ abbrev pub result_with : {V : Type 0} → Bool → Option V → Result (Option V
 result_with true payload = Ok payload
 result_with false payload = Err payload
 
--- what is wrong with a payload: it is due and not there, or there and not due
+-- what is wrong with a payload: it is expected and not there, or there and not expected
 abbrev pub payload_cause : Bool → List ℕ → Cause
 payload_cause true name = missing_payload name
 payload_cause false name = unexpected_payload name
 
 -- the payload is there exactly where it has a type, and is of it, where the type's names are distinct
 abbrev pub IsOfPayloadType : {V : Type 0} → (V → TypeTree → Type 0) → Option TypeTree → Option V → Type 0
-IsOfPayloadType of due payload = EachNamesOfMaybe AreDistinct (maybe_type due) → PayloadIsOf of due payload
+IsOfPayloadType of expected payload = EachNamesOfMaybe AreDistinct (maybe_type expected) → PayloadIsOf of expected payload

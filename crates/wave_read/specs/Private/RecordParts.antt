@@ -8,7 +8,7 @@ use Rattle.wave_wasm.specs.Values.{Value}
 use Rattle.wave_wasm.specs.ValueErrors.{cause_of, missing_field}
 use Rattle.wave_wasm.specs.ConstructorContracts.{IsMemory}
 use Rattle.wave_wasm.specs.declared.wasm.WasmValueError.{WasmValueError}
-use Rattle.wave_lex.specs.Errors.{Diagnostic, Says, field_label_due, repeated_name}
+use Rattle.wave_lex.specs.Errors.{Diagnostic, Says, field_label_expected, repeated_name}
 use Rattle.wave_lex.specs.declared.error.ParserErrorKind.{ParserErrorKind}
 use Rattle.wave_lex.specs.declared.error.ParserErrorKind.TheVariants.{InvalidType, InvalidValue, DuplicateField, OutOfMemory}
 use Rattle.wave_grammar.specs.LeafTokens.{name_of}
@@ -33,23 +33,23 @@ IsNamedAt {S} {V} fields name i = (f : Field S V) × (slice_get fields i ≡ Som
 
 -- a key of this type and text is the label of a field that was not read yet, which has this place and type
 abbrev pub IsFieldKey : {S V : Type 0} → List (Field S V) → NodeType → List ℕ → ℕ × Bor S → Type 0
-IsFieldKey fields ty text due = (ty ≡ kind.Label) × IsUnread fields (name_of text) due
+IsFieldKey fields ty text expected = (ty ≡ kind.Label) × IsUnread fields (name_of text) expected
 
 -- a field of this name was read
 abbrev pub IsReadBefore : {S V : Type 0} → List (Field S V) → List ℕ → Type 0
 IsReadBefore {S} {V} fields name = (i : ℕ) × (f : Field S V) × (v : V) × (slice_get fields i ≡ Some f) × (f.name.now ≡ name) × (f.value ≡ Some v)
 
 -- the fault is a refusal of this kind, here, with these words
-abbrev pub IsToldAs : ParserErrorKind → Range ℕ → List ℕ → Fault → Type 0
-IsToldAs why p words (fault.Part e) = Says e why p (Some words)
-IsToldAs why p words _ = ⊥
+abbrev pub IsReportedAs : ParserErrorKind → Range ℕ → List ℕ → Fault → Type 0
+IsReportedAs why p words (fault.Part e) = Says e why p (Some words)
+IsReportedAs why p words _ = ⊥
 
 -- a key that stands here is no label, or the label of no field, or that of one that was read
 abbrev pub IsKeyFault : {S V : Type 0} → List (Field S V) → NodeType → Range ℕ → List ℕ → Fault → Type 0
 IsKeyFault fields ty p text f =
-    (ty ≢ kind.Label) × IsToldAs InvalidType p field_label_due f
+    (ty ≢ kind.Label) × IsReportedAs InvalidType p field_label_expected f
     ⊎ (ty ≡ kind.Label) × IsNoneOf (map field_name fields) (name_of text) × (f ≡ fault.Whole (reason.Plain InvalidValue))
-    ⊎ (ty ≡ kind.Label) × IsReadBefore fields (name_of text) × IsToldAs DuplicateField p (repeated_name (name_of text)) f
+    ⊎ (ty ≡ kind.Label) × IsReadBefore fields (name_of text) × IsReportedAs DuplicateField p (repeated_name (name_of text)) f
 
 -- that a field of this name is missing, or out of memory
 abbrev pub IsMissingOrMemory : List ℕ → WasmValueError → Type 0

@@ -7,14 +7,14 @@ use wasm_wave::value::TypeErrorKind;
 /// What a call was found to answer.
 #[derive(Clone, Copy)]
 pub enum Found {
-    /// What is due.
-    Due,
+    /// What is expected.
+    Expected,
     /// Out of memory.
-    Want,
-    /// Out of memory, and then, called once more, what is due.
-    DueAgain,
+    OutOfMemory,
+    /// Out of memory, and then, called once more, what is expected.
+    ExpectedAgain,
     /// Out of memory, called twice.
-    WantAgain,
+    OutOfMemoryAgain,
     /// Nothing: there was no memory for what it is called on.
     NotCalled,
     /// Something else.
@@ -26,10 +26,10 @@ pub enum Found {
 impl fmt::Display for Found {
     fn fmt<W: fmt::Write>(&self, f: &mut fmt::Formatter<W>) -> fmt::Result {
         f.write_str(match self {
-            Found::Due => "as expected",
-            Found::Want => "want of memory",
-            Found::DueAgain => "want of memory, then as expected",
-            Found::WantAgain => "want of memory, then want of memory",
+            Found::Expected => "as expected",
+            Found::OutOfMemory => "ran out of memory",
+            Found::ExpectedAgain => "ran out of memory, then as expected",
+            Found::OutOfMemoryAgain => "ran out of memory twice",
             Found::NotCalled => "not called",
             Found::Other => "wrong",
             Found::Unknown => "no such call",
@@ -39,7 +39,7 @@ impl fmt::Display for Found {
 
 impl From<AllocError> for Found {
     fn from(_error: AllocError) -> Found {
-        Found::Want
+        Found::OutOfMemory
     }
 }
 
@@ -62,9 +62,9 @@ impl From<ParserError> for Found {
 }
 
 /// Whether it is so.
-pub fn due_if(holds: bool) -> Found {
+pub fn expected_if(holds: bool) -> Found {
     match holds {
-        true => Found::Due,
+        true => Found::Expected,
         false => Found::Other,
     }
 }

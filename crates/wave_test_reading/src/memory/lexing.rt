@@ -1,6 +1,6 @@
 //! Calls on texts that take no memory.
-use crate::memory::due::{Due, exactly};
-use crate::memory::found::{Found, due_if};
+use crate::memory::expected::{Expected, exactly};
+use crate::memory::found::{Found, expected_if};
 use std::fmt;
 use std::fmt::Write;
 use std::ops::Range;
@@ -11,23 +11,23 @@ use wasm_wave::strings::{StringPart, StringPartsIter, unescape};
 
 /// What a call on the text is found to answer: a lexer the tokens with their spans, `StringPartsIter`
 /// the parts, and the others what they find, or `none`.
-pub fn lexed(name: &str, text: &str, due: &str) -> Found {
+pub fn lexed(name: &str, text: &str, expected: &str) -> Found {
     match name {
-        "Lexer" => tokens(false, text, due),
-        "FuncNameLexer" => tokens(true, text, due),
+        "Lexer" => tokens(false, text, expected),
+        "FuncNameLexer" => tokens(true, text, expected),
         "Keyword::decode" => match Keyword::decode(text) {
-            Some(keyword) => exactly(&keyword, due),
-            None => due_if(due == "none"),
+            Some(keyword) => exactly(&keyword, expected),
+            None => expected_if(expected == "none"),
         },
-        "StringPartsIter::new" => parts(false, text, due),
-        "StringPartsIter::new_multiline" => parts(true, text, due),
+        "StringPartsIter::new" => parts(false, text, expected),
+        "StringPartsIter::new_multiline" => parts(true, text, expected),
         "unescape" => match unescape(text) {
             Some((c, length)) => {
-                let mut due = Due::new(due);
-                let _ = write!(due, "{c} {length}");
-                due.found()
+                let mut expected = Expected::new(expected);
+                let _ = write!(expected, "{c} {length}");
+                expected.found()
             }
-            None => due_if(due == "none"),
+            None => expected_if(expected == "none"),
         },
         _ => Found::Unknown,
     }
@@ -35,26 +35,26 @@ pub fn lexed(name: &str, text: &str, due: &str) -> Found {
 
 /// Writes a token or a refusal with its span.
 fn write_item(
-    due: &mut Due<'_>,
+    expected: &mut Expected<'_>,
     item: Result<Token, Range<usize>>,
     span: Range<usize>,
 ) -> fmt::Result {
     let (start, end) = (span.start, span.end);
     match item {
-        Ok(token) => write!(due, "{token} {start}..{end};"),
-        Err(_) => write!(due, "refused {start}..{end};"),
+        Ok(token) => write!(expected, "{token} {start}..{end};"),
+        Err(_) => write!(expected, "refused {start}..{end};"),
     }
 }
 
 /// Writes the tokens that the lexer gives from where it stands.
-fn write_tokens(due: &mut Due<'_>, lexer: Lexer<'_>) {
+fn write_tokens(expected: &mut Expected<'_>, lexer: Lexer<'_>) {
     let mut lexer = lexer;
     let mut asked = Asked::new();
     let copy = lexer.clone();
     for _ in 0..=copy.source().len() {
         match lexer.next_ticked(&mut asked) {
             Some(item) => {
-                let _ = write_item(due, item, lexer.span());
+                let _ = write_item(expected, item, lexer.span());
             }
             None => return,
         }
@@ -63,48 +63,51 @@ fn write_tokens(due: &mut Due<'_>, lexer: Lexer<'_>) {
 
 /// The tokens of the lexer, or the first item of the lexer of names of functions and the tokens after
 /// it.
-fn tokens(is_behind_name: bool, text: &str, due: &str) -> Found {
-    let mut due = Due::new(due);
+fn tokens(is_behind_name: bool, text: &str, expected: &str) -> Found {
+    let mut expected = Expected::new(expected);
     let lexer = match is_behind_name {
         true => {
             let mut lexer = FuncNameLexer::new(text);
             let _ = match lexer.next() {
-                Some(Ok(token)) => write!(due, "{token};"),
-                Some(Err(_)) => write!(due, "refused;"),
-                None => write!(due, "none;"),
+                Some(Ok(token)) => write!(expected, "{token};"),
+                Some(Err(_)) => write!(expected, "refused;"),
+                None => write!(expected, "none;"),
             };
             lexer.into_lexer()
         }
         false => Lexer::new(text),
     };
-    write_tokens(&mut due, lexer);
-    due.found()
+    write_tokens(&mut expected, lexer);
+    expected.found()
 }
 
 /// Writes a part of a string.
-fn write_part(due: &mut Due<'_>, part: Result<StringPart<'_>, ParserError>) -> fmt::Result {
+fn write_part(
+    expected: &mut Expected<'_>,
+    part: Result<StringPart<'_>, ParserError>,
+) -> fmt::Result {
     match part {
-        Ok(StringPart::Run(run)) => write!(due, "run {run};"),
-        Ok(StringPart::Char(c)) => write!(due, "char {c};"),
-        Err(error) => write!(due, "{error};"),
+        Ok(StringPart::Run(run)) => write!(expected, "run {run};"),
+        Ok(StringPart::Char(c)) => write!(expected, "char {c};"),
+        Err(error) => write!(expected, "{error};"),
     }
 }
 
 /// The parts of a text between quotes, or between triple quotes.
-fn parts(is_multiline: bool, text: &str, due: &str) -> Found {
+fn parts(is_multiline: bool, text: &str, expected: &str) -> Found {
     if text.len() > 1_000_000 {
         return Found::Other;
     }
     let parts = match is_multiline {
         true => match StringPartsIter::new_multiline(text, 3) {
             Ok(parts) => parts,
-            Err(error) => return exactly(&error, due),
+            Err(error) => return exactly(&error, expected),
         },
         false => StringPartsIter::new(text, 1),
     };
-    let mut due = Due::new(due);
+    let mut expected = Expected::new(expected);
     for part in parts {
-        let _ = write_part(&mut due, part);
+        let _ = write_part(&mut expected, part);
     }
-    due.found()
+    expected.found()
 }

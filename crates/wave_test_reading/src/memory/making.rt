@@ -1,5 +1,5 @@
 //! Makers of values, from the parts of others and from Rust values.
-use crate::memory::due::{exactly, of_made, of_value};
+use crate::memory::expected::{exactly, of_built, of_value};
 use crate::memory::found::Found;
 use crate::memory::values::viewed;
 use crate::memory::words::word;
@@ -10,7 +10,7 @@ use wasm_wave::wasm::{WasmTypeKind, WasmValueError};
 
 /// The constructor of the value's kind, or that of a list of the value alone, at the type that is the third
 /// argument; then its text or the refusal.
-pub fn made(
+pub fn built(
     alloc: Global,
     is_in_list: bool,
     val: &Value,
@@ -21,7 +21,7 @@ pub fn made(
         true => list(alloc, &ty, &[val]),
         false => of_parts(alloc, &ty, val),
     };
-    Ok(of_made(alloc, &answer, word(words, 3)))
+    Ok(of_built(alloc, &answer, word(words, 3)))
 }
 
 /// A list of copies of the items at the type.
@@ -121,17 +121,17 @@ fn of_part(alloc: Global, ty: &Type, val: &Value) -> Result<Value, WasmValueErro
 }
 
 /// What a call on a text, or on the Rust value or type that has this name, is found to answer.
-pub fn of_rust(alloc: Global, name: &str, text: &str, due: &str) -> Result<Found, Found> {
+pub fn of_rust(alloc: Global, name: &str, text: &str, expected: &str) -> Result<Found, Found> {
     match name {
-        "make_string" => Ok(of_made(alloc, &Value::make_string(alloc, text), due)),
-        "into_value" => Ok(of_value(alloc, &converted(alloc, text)?, due)),
-        "value_type" => Ok(exactly(&type_named(alloc, text)?, due)),
+        "make_string" => Ok(of_built(alloc, &Value::make_string(alloc, text), expected)),
+        "into_value" => Ok(of_value(alloc, &converted(alloc, text)?, expected)),
+        "value_type" => Ok(exactly(&type_named(alloc, text)?, expected)),
         "scalar" => match plain(alloc, text) {
-            Ok(val) => Ok(viewed(&val, due)),
+            Ok(val) => Ok(viewed(&val, expected)),
             Err(_) => Ok(Found::Other),
         },
         _ => match String::from_str(alloc, text) {
-            Ok(text) => Ok(viewed(&Value::from(text), due)),
+            Ok(text) => Ok(viewed(&Value::from(text), expected)),
             Err(_) => Ok(Found::NotCalled),
         },
     }

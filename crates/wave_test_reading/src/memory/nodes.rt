@@ -1,6 +1,6 @@
 //! Calls on an untyped value, and the accessors of its node.
-use crate::memory::due::{Due, exactly, of_refusal};
-use crate::memory::found::{Found, due_if};
+use crate::memory::expected::{Expected, exactly, of_refusal};
+use crate::memory::found::{Found, expected_if};
 use std::alloc::Global;
 use std::fmt::Write;
 use wasm_wave::ast::{CowStr, Node, NodeType};
@@ -8,23 +8,23 @@ use wasm_wave::untyped::UntypedValue;
 
 /// What a call on the untyped value is found to answer: one that takes no memory may refuse only
 /// where the arguments are wrong.
-pub fn on_untyped(alloc: Global, name: &str, value: &UntypedValue<'_>, due: &str) -> Found {
+pub fn on_untyped(alloc: Global, name: &str, value: &UntypedValue<'_>, expected: &str) -> Found {
     match name {
-        "as_str" => text(alloc, value, due),
-        "as_record" => record(alloc, value, due),
-        _ => accessed(value, due).unwrap_or(Found::Other),
+        "as_str" => text(alloc, value, expected),
+        "as_record" => record(alloc, value, expected),
+        _ => accessed(value, expected).unwrap_or(Found::Other),
     }
 }
 
 /// `as_str`; then whether the text is borrowed or owned, and what it is.
 fn text(alloc: Global, value: &UntypedValue<'_>, text: &str) -> Found {
-    let mut due = Due::new(text);
+    let mut expected = Expected::new(text);
     let _ = match value.node().as_str(alloc, value.source()) {
-        Ok(CowStr::Borrowed(text)) => write!(due, "borrowed {text}"),
-        Ok(CowStr::Owned(text)) => write!(due, "owned {text}"),
+        Ok(CowStr::Borrowed(text)) => write!(expected, "borrowed {text}"),
+        Ok(CowStr::Owned(text)) => write!(expected, "owned {text}"),
         Err(error) => return of_refusal(&error, text),
     };
-    due.found()
+    expected.found()
 }
 
 /// `as_record`; then its names.
@@ -33,25 +33,25 @@ fn record(alloc: Global, value: &UntypedValue<'_>, text: &str) -> Found {
         Ok(fields) => fields,
         Err(error) => return of_refusal(&error, text),
     };
-    let mut due = Due::new(text);
+    let mut expected = Expected::new(text);
     for (name, _) in fields {
-        let _ = write!(due, "{name};");
+        let _ = write!(expected, "{name};");
     }
-    due.found()
+    expected.found()
 }
 
 /// Whether the word and the span of the payload are the text.
 fn payload(name: &str, node: Option<&Node>, text: &str) -> Found {
-    let mut due = Due::new(text);
+    let mut expected = Expected::new(text);
     let _ = match node {
         Some(node) => {
             let span = node.span();
             let (start, end) = (span.start, span.end);
-            write!(due, "{name} of {start}..{end}")
+            write!(expected, "{name} of {start}..{end}")
         }
-        None => write!(due, "{name}"),
+        None => write!(expected, "{name}"),
     };
-    due.found()
+    expected.found()
 }
 
 /// Whether the accessor of a scalar's node answers the text; none where it refuses.
@@ -70,18 +70,18 @@ fn scalar(value: &UntypedValue<'_>, text: &str) -> Option<Found> {
 
 /// Whether the accessor of flags, or of a string, answers the text; none where it refuses.
 fn names(value: &UntypedValue<'_>, text: &str) -> Option<Found> {
-    let mut due = Due::new(text);
+    let mut expected = Expected::new(text);
     for name in value.node().as_flags(value.source()).ok()? {
-        let _ = write!(due, "{name};");
+        let _ = write!(expected, "{name};");
     }
-    Some(due.found())
+    Some(expected.found())
 }
 
 /// Whether a node's accessor that takes no memory answers the text; none where it refuses.
 fn accessed(value: &UntypedValue<'_>, text: &str) -> Option<Found> {
     let node = value.node();
     match node.ty() {
-        NodeType::Label => Some(due_if(node.as_enum(value.source()).ok()? == text)),
+        NodeType::Label => Some(expected_if(node.as_enum(value.source()).ok()? == text)),
         NodeType::VariantWithPayload => {
             let (name, val) = node.as_variant(value.source()).ok()?;
             Some(payload(name, val, text))

@@ -1,8 +1,8 @@
 //! Calls that read.
-use crate::memory::due::{exactly, of_display, of_read, of_refusal, of_value, shown};
-use crate::memory::found::{Found, due_if};
+use crate::memory::expected::{exactly, of_display, of_read, of_refusal, of_value, shown};
+use crate::memory::found::{Found, expected_if};
 use crate::memory::words::{read, value_at, word};
-use crate::rows::cuts::is_told_at_each_cut;
+use crate::rows::cuts::is_reported_at_each_cut;
 use crate::rows::reading::is_read_alike;
 use crate::rows::types::type_of;
 use std::alloc::Global;
@@ -12,57 +12,57 @@ use wasm_wave::untyped::{UntypedFuncCall, UntypedValue};
 use wasm_wave::value::{Type, TypeErrorKind, Value};
 use wasm_wave::wasm::{DisplayFuncArgs, DisplayFuncResults};
 
-/// What a call that reads the second argument at the type is found to answer; the third is due, and
-/// of one parser what is due of one value after the other, with what `finish` answers after each.
+/// What a call that reads the second argument at the type is found to answer; the third is expected, and
+/// of one parser what is expected of one value after the other, with what `finish` answers after each.
 /// A text is also read by way of its untyped value, and each prefix of it.
 pub fn at_type(alloc: Global, name: &str, ty: &Type, words: &[String]) -> Result<Found, Found> {
-    let (text, due) = (word(words, 1), word(words, 2));
+    let (text, expected) = (word(words, 1), word(words, 2));
     match name {
-        "text" if !is_read_alike(alloc, ty, text) || !is_told_at_each_cut(alloc, ty, text) => {
+        "text" if !is_read_alike(alloc, ty, text) || !is_reported_at_each_cut(alloc, ty, text) => {
             Ok(Found::Other)
         }
         "parse_value" => Ok(all_read(alloc, Some(ty), words, 2)),
-        "to_wasm_value" => late(alloc, ty, text, due),
-        "Node::to_wasm_value" => of_copy(alloc, ty, text, due),
-        _ => Ok(of_read(alloc, &read(alloc, ty, text), due)),
+        "to_wasm_value" => late(alloc, ty, text, expected),
+        "Node::to_wasm_value" => of_copy(alloc, ty, text, expected),
+        _ => Ok(of_read(alloc, &read(alloc, ty, text), expected)),
     }
 }
 
 /// `to_wasm_value` at the type of the untyped value of the text.
-fn late(alloc: Global, ty: &Type, text: &str, due: &str) -> Result<Found, Found> {
+fn late(alloc: Global, ty: &Type, text: &str, expected: &str) -> Result<Found, Found> {
     let value = UntypedValue::parse(alloc, text)?;
-    Ok(of_read(alloc, &value.to_wasm_value(alloc, ty), due))
+    Ok(of_read(alloc, &value.to_wasm_value(alloc, ty), expected))
 }
 
 /// `to_wasm_value` at the type of a copy of the text's node.
-fn of_copy(alloc: Global, ty: &Type, text: &str, due: &str) -> Result<Found, Found> {
+fn of_copy(alloc: Global, ty: &Type, text: &str, expected: &str) -> Result<Found, Found> {
     let value = UntypedValue::parse(alloc, text)?;
     let node = value.node().clone(alloc)?;
     let answer = node.to_wasm_value::<Value>(alloc, ty, value.source());
-    Ok(of_read(alloc, &answer, due))
+    Ok(of_read(alloc, &answer, expected))
 }
 
 /// What the parser reads next, at the type or without one. Where there is no memory to compare a value
 /// that was read, no call is judged.
-fn next_once(alloc: Global, ty: Option<&Type>, parser: &mut Parser<'_>, due: &str) -> Found {
+fn next_once(alloc: Global, ty: Option<&Type>, parser: &mut Parser<'_>, expected: &str) -> Found {
     let Some(ty) = ty else {
-        return of_display(&parser.parse_raw_value(alloc), due);
+        return of_display(&parser.parse_raw_value(alloc), expected);
     };
     match parser.parse_value::<Value>(alloc, ty) {
-        Ok(val) => match of_value(alloc, &val, due) {
-            Found::Want => Found::NotCalled,
+        Ok(val) => match of_value(alloc, &val, expected) {
+            Found::OutOfMemory => Found::NotCalled,
             found => found,
         },
-        Err(error) => of_refusal(&error, due),
+        Err(error) => of_refusal(&error, expected),
     }
 }
 
 /// What the parser reads next, asked again where it is out of memory.
-fn next(alloc: Global, ty: Option<&Type>, parser: &mut Parser<'_>, due: &str) -> Found {
-    match next_once(alloc, ty, parser, due) {
-        Found::Want => match next_once(alloc, ty, parser, due) {
-            Found::Due => Found::DueAgain,
-            Found::Want => Found::WantAgain,
+fn next(alloc: Global, ty: Option<&Type>, parser: &mut Parser<'_>, expected: &str) -> Found {
+    match next_once(alloc, ty, parser, expected) {
+        Found::OutOfMemory => match next_once(alloc, ty, parser, expected) {
+            Found::Expected => Found::ExpectedAgain,
+            Found::OutOfMemory => Found::OutOfMemoryAgain,
             found => found,
         },
         found => found,
@@ -71,10 +71,12 @@ fn next(alloc: Global, ty: Option<&Type>, parser: &mut Parser<'_>, due: &str) ->
 
 /// Whether nothing is left for the parser, or what is left is refused with these words; `?` stands
 /// for any answer.
-fn finished(parser: &mut Parser<'_>, due: &str) -> Found {
+fn finished(parser: &mut Parser<'_>, expected: &str) -> Found {
     match parser.finish() {
-        Ok(()) => due_if(due.is_empty() || due == "?"),
-        Err(error) => due_if(due == "?" || matches!(exactly(&error, due), Found::Due)),
+        Ok(()) => expected_if(expected.is_empty() || expected == "?"),
+        Err(error) => expected_if(
+            expected == "?" || matches!(exactly(&error, expected), Found::Expected),
+        ),
     }
 }
 
@@ -82,17 +84,17 @@ fn finished(parser: &mut Parser<'_>, due: &str) -> Found {
 /// value after the other. At a type every other one says what `finish` answers, else the last.
 pub fn all_read(alloc: Global, ty: Option<&Type>, words: &[String], first: usize) -> Found {
     let mut parser = Parser::new(word(words, first.saturating_sub(1)));
-    let mut all = Found::Due;
+    let mut all = Found::Expected;
     for at in first..words.len() {
-        let due = word(words, at);
+        let expected = word(words, at);
         let found = match ty {
-            Some(_) if at % 2 == 1 => finished(&mut parser, due),
-            None if at + 1 == words.len() => finished(&mut parser, due),
-            _ => next(alloc, ty, &mut parser, due),
+            Some(_) if at % 2 == 1 => finished(&mut parser, expected),
+            None if at + 1 == words.len() => finished(&mut parser, expected),
+            _ => next(alloc, ty, &mut parser, expected),
         };
         match found {
-            Found::Due => {}
-            Found::DueAgain => all = Found::DueAgain,
+            Found::Expected => {}
+            Found::ExpectedAgain => all = Found::ExpectedAgain,
             other => return other,
         }
     }
@@ -100,18 +102,18 @@ pub fn all_read(alloc: Global, ty: Option<&Type>, words: &[String], first: usize
 }
 
 /// `UntypedValue::parse`, on a text; then the display or the refusal.
-pub fn untyped(alloc: Global, text: &str, due: &str) -> Found {
-    of_display(&UntypedValue::parse(alloc, text), due)
+pub fn untyped(alloc: Global, text: &str, expected: &str) -> Found {
+    of_display(&UntypedValue::parse(alloc, text), expected)
 }
 
 /// `parse_raw_func_call`, on a text; then the display or the refusal.
-pub fn raw_call(alloc: Global, text: &str, due: &str) -> Found {
-    of_display(&parse_raw_func_call(alloc, text), due)
+pub fn raw_call(alloc: Global, text: &str, expected: &str) -> Found {
+    of_display(&parse_raw_func_call(alloc, text), expected)
 }
 
 /// `UntypedFuncCall::parse`, on a text; then the display or the refusal.
-pub fn call(alloc: Global, text: &str, due: &str) -> Found {
-    of_display(&UntypedFuncCall::parse(alloc, text), due)
+pub fn call(alloc: Global, text: &str, expected: &str) -> Found {
+    of_display(&UntypedFuncCall::parse(alloc, text), expected)
 }
 
 /// The types that are the arguments from this place on.
@@ -135,10 +137,10 @@ pub fn params(alloc: Global, words: &[String]) -> Result<Found, Found> {
 }
 
 /// Whether the display of the arguments, or the refusal, is this one.
-fn of_params(alloc: Global, answer: Result<Vec<Value>, ParserError>, due: &str) -> Found {
+fn of_params(alloc: Global, answer: Result<Vec<Value>, ParserError>, expected: &str) -> Found {
     match answer {
-        Ok(vals) => shown(&DisplayFuncArgs::new(alloc, vals.as_slice()), due),
-        Err(error) => of_refusal(&error, due),
+        Ok(vals) => shown(&DisplayFuncArgs::new(alloc, vals.as_slice()), expected),
+        Err(error) => of_refusal(&error, expected),
     }
 }
 
@@ -158,7 +160,7 @@ pub fn results(alloc: Global, words: &[String]) -> Result<Found, Found> {
 
 /// Whether this is displayed as the second word, and was read from the first.
 fn is_of<D: Display>(read: &D, source: &str, words: &[String]) -> bool {
-    source == word(words, 0) && matches!(exactly(read, word(words, 1)), Found::Due)
+    source == word(words, 0) && matches!(exactly(read, word(words, 1)), Found::Expected)
 }
 
 /// The answer, where it is so.
@@ -175,8 +177,11 @@ fn owned_again(alloc: Global, value: UntypedValue<'_>, words: &[String]) -> Foun
         return Found::Other;
     }
     match value.into_owned(alloc) {
-        Ok(value) => found_if(is_of(&value, value.source(), words), Found::DueAgain),
-        Err(value) => found_if(is_of(&value, value.source(), words), Found::WantAgain),
+        Ok(value) => found_if(is_of(&value, value.source(), words), Found::ExpectedAgain),
+        Err(value) => found_if(
+            is_of(&value, value.source(), words),
+            Found::OutOfMemoryAgain,
+        ),
     }
 }
 
@@ -184,7 +189,7 @@ fn owned_again(alloc: Global, value: UntypedValue<'_>, words: &[String]) -> Foun
 pub fn owned(alloc: Global, words: &[String]) -> Result<Found, Found> {
     let value = UntypedValue::parse(alloc, word(words, 0))?;
     Ok(match value.into_owned(alloc) {
-        Ok(value) => due_if(is_of(&value, value.source(), words)),
+        Ok(value) => expected_if(is_of(&value, value.source(), words)),
         Err(value) => owned_again(alloc, value, words),
     })
 }
@@ -195,8 +200,8 @@ fn owned_call_again(alloc: Global, call: UntypedFuncCall<'_>, words: &[String]) 
         return Found::Other;
     }
     match call.into_owned(alloc) {
-        Ok(call) => found_if(is_of(&call, call.source(), words), Found::DueAgain),
-        Err(call) => found_if(is_of(&call, call.source(), words), Found::WantAgain),
+        Ok(call) => found_if(is_of(&call, call.source(), words), Found::ExpectedAgain),
+        Err(call) => found_if(is_of(&call, call.source(), words), Found::OutOfMemoryAgain),
     }
 }
 
@@ -204,7 +209,7 @@ fn owned_call_again(alloc: Global, call: UntypedFuncCall<'_>, words: &[String]) 
 pub fn owned_call(alloc: Global, words: &[String]) -> Result<Found, Found> {
     let call = UntypedFuncCall::parse(alloc, word(words, 0))?;
     Ok(match call.into_owned(alloc) {
-        Ok(call) => due_if(is_of(&call, call.source(), words)),
+        Ok(call) => expected_if(is_of(&call, call.source(), words)),
         Err(call) => owned_call_again(alloc, call, words),
     })
 }

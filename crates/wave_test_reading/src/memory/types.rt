@@ -1,6 +1,6 @@
 //! Calls on types, and on types of functions.
-use crate::memory::due::{Due, exactly, of_fault, shown};
-use crate::memory::found::{Found, due_if};
+use crate::memory::expected::{Expected, exactly, of_fault, shown};
+use crate::memory::found::{Found, expected_if};
 use crate::memory::words::word;
 use crate::rows::types::type_of;
 use std::alloc::Global;
@@ -12,53 +12,53 @@ use wasm_wave::wasm::{
 use wasm_wave::writer::merge_map_entries;
 
 /// `Type::parse` or `FuncType::parse`, on a text; then the display or the refusal.
-pub fn parsed(alloc: Global, name: &str, text: &str, due: &str) -> Found {
+pub fn parsed(alloc: Global, name: &str, text: &str, expected: &str) -> Found {
     match name {
-        "Type::parse" => of_text(&Type::parse(alloc, text), due),
-        _ => of_text(&FuncType::parse(alloc, text), due),
+        "Type::parse" => of_text(&Type::parse(alloc, text), expected),
+        _ => of_text(&FuncType::parse(alloc, text), expected),
     }
 }
 
 /// Whether what was read is displayed as the text, or was refused with these words.
-fn of_text<D: Display>(answer: &Result<D, TypeError>, due: &str) -> Found {
+fn of_text<D: Display>(answer: &Result<D, TypeError>, expected: &str) -> Found {
     match answer {
-        Ok(read) => exactly(read, due),
-        Err(error) if error.kind() == TypeErrorKind::OutOfMemory => Found::Want,
-        Err(error) => exactly(error, due),
+        Ok(read) => exactly(read, expected),
+        Err(error) if error.kind() == TypeErrorKind::OutOfMemory => Found::OutOfMemory,
+        Err(error) => exactly(error, expected),
     }
 }
 
-/// What a call on the type that is the first argument is found to answer; the second is due.
+/// What a call on the type that is the first argument is found to answer; the second is expected.
 pub fn on_type(alloc: Global, name: &str, ty: &Type, words: &[String]) -> Result<Found, Found> {
-    let due = word(words, 1);
+    let expected = word(words, 1);
     match name {
         "Type::clone" => cloned(ty, word(words, 0)),
-        "from_wasm_type" => converted(alloc, ty, due),
-        "DisplayType" => Ok(shown(&DisplayType::new(alloc, ty), due)),
-        "ensure_type_kind" => Ok(is_list(alloc, ty, due)),
-        "Type::kind" => Ok(views(ty, due)),
+        "from_wasm_type" => converted(alloc, ty, expected),
+        "DisplayType" => Ok(shown(&DisplayType::new(alloc, ty), expected)),
+        "ensure_type_kind" => Ok(is_list(alloc, ty, expected)),
+        "Type::kind" => Ok(views(ty, expected)),
         _ => equality(alloc, ty, words),
     }
 }
 
 /// `clone` of the type; then its text.
-fn cloned(ty: &Type, due: &str) -> Result<Found, Found> {
-    Ok(exactly(&ty.clone()?, due))
+fn cloned(ty: &Type, expected: &str) -> Result<Found, Found> {
+    Ok(exactly(&ty.clone()?, expected))
 }
 
 /// `from_wasm_type`; then the text of the type that is made, or `none`.
-fn converted(alloc: Global, ty: &Type, due: &str) -> Result<Found, Found> {
+fn converted(alloc: Global, ty: &Type, expected: &str) -> Result<Found, Found> {
     match Type::from_wasm_type(alloc, ty)? {
-        Some(made) => Ok(exactly(&made, due)),
-        None => Ok(due_if(due == "none")),
+        Some(built) => Ok(exactly(&built, expected)),
+        None => Ok(expected_if(expected == "none")),
     }
 }
 
 /// `ensure_type_kind` that the type is a list; then `ok` or the refusal.
-fn is_list(alloc: Global, ty: &Type, due: &str) -> Found {
+fn is_list(alloc: Global, ty: &Type, expected: &str) -> Found {
     match ensure_type_kind(alloc, ty, WasmTypeKind::List) {
-        Ok(()) => due_if(due == "ok"),
-        Err(error) => of_fault(&error, due),
+        Ok(()) => expected_if(expected == "ok"),
+        Err(error) => of_fault(&error, expected),
     }
 }
 
@@ -70,13 +70,13 @@ fn equality(alloc: Global, ty: &Type, words: &[String]) -> Result<Found, Found> 
 
 /// What is answered of the type without memory: its kind, whether its names are labels, and whether its
 /// kind has a simple type.
-fn views(ty: &Type, due: &str) -> Found {
-    let mut due = Due::new(due);
+fn views(ty: &Type, expected: &str) -> Found {
+    let mut expected = Expected::new(expected);
     let kind = ty.kind();
     let are_labels = ty.names_are_labels();
     let is_simple = Type::simple(kind).is_some();
-    let _ = write!(due, "{kind} {are_labels} {is_simple}");
-    due.found()
+    let _ = write!(expected, "{kind} {are_labels} {is_simple}");
+    expected.found()
 }
 
 /// The name at this place with the type after it.
@@ -101,7 +101,7 @@ fn all_named(
 
 /// The type of a function, or its refusal, of the names and types that are the arguments from the third on;
 /// the second has as many letters as there are parameters.
-fn function_made(
+fn function_built(
     alloc: Global,
     words: &[String],
 ) -> Result<Result<FuncType, WasmValueError>, TypeErrorKind> {
@@ -111,52 +111,52 @@ fn function_made(
     Ok(FuncType::new(alloc, params, results))
 }
 
-/// What a call on the type of a function is found to answer; the first argument is due.
+/// What a call on the type of a function is found to answer; the first argument is expected.
 pub fn function(alloc: Global, name: &str, words: &[String]) -> Result<Found, Found> {
-    let due = word(words, 0);
-    match function_made(alloc, words)? {
-        Ok(func) => on_function(alloc, name, func, due),
-        Err(error) => Ok(unmade(name, &error, due)),
+    let expected = word(words, 0);
+    match function_built(alloc, words)? {
+        Ok(func) => on_function(alloc, name, func, expected),
+        Err(error) => Ok(unbuilt(name, &error, expected)),
     }
 }
 
 /// Whether `FuncType::new` is refused with these words; another call isn't made.
-fn unmade(name: &str, error: &WasmValueError, due: &str) -> Found {
+fn unbuilt(name: &str, error: &WasmValueError, expected: &str) -> Found {
     match error {
-        _ if name == "FuncType::new" => of_fault(error, due),
+        _ if name == "FuncType::new" => of_fault(error, expected),
         WasmValueError::Memory(_) => Found::NotCalled,
         _ => Found::Other,
     }
 }
 
 /// What a call on this type of a function is found to answer.
-fn on_function(alloc: Global, name: &str, func: FuncType, due: &str) -> Result<Found, Found> {
+fn on_function(alloc: Global, name: &str, func: FuncType, expected: &str) -> Result<Found, Found> {
     match name {
-        "FuncType::new" => Ok(exactly(&func, due)),
-        "FuncType::clone" => function_cloned(alloc, &func, due),
-        "DisplayFunc" => Ok(shown(&DisplayFunc::new(alloc, func), due)),
-        _ => function_views(alloc, &func, due),
+        "FuncType::new" => Ok(exactly(&func, expected)),
+        "FuncType::clone" => function_cloned(alloc, &func, expected),
+        "DisplayFunc" => Ok(shown(&DisplayFunc::new(alloc, func), expected)),
+        _ => function_views(alloc, &func, expected),
     }
 }
 
 /// `clone` of the type of a function, which is equal; then its text.
-fn function_cloned(alloc: Global, func: &FuncType, due: &str) -> Result<Found, Found> {
+fn function_cloned(alloc: Global, func: &FuncType, expected: &str) -> Result<Found, Found> {
     let copy = func.clone(alloc)?;
     match copy == *func {
-        true => Ok(exactly(&copy, due)),
+        true => Ok(exactly(&copy, expected)),
         false => Ok(Found::Other),
     }
 }
 
 /// How many parameters, names of parameters, results and names of results the views answer.
-fn function_views(alloc: Global, func: &FuncType, due: &str) -> Result<Found, Found> {
+fn function_views(alloc: Global, func: &FuncType, expected: &str) -> Result<Found, Found> {
     let params = func.params(alloc)?.len();
     let names = func.param_names(alloc)?.len();
     let results = func.results(alloc)?.len();
     let result_names = func.result_names(alloc)?.len();
-    let mut due = Due::new(due);
-    let _ = write!(due, "{params} {names} {results} {result_names}");
-    Ok(due.found())
+    let mut expected = Expected::new(expected);
+    let _ = write!(expected, "{params} {names} {results} {result_names}");
+    Ok(expected.found())
 }
 
 /// Entries of the arguments: each is its text, and has its place and its length.
@@ -172,9 +172,9 @@ fn entries(alloc: Global, words: &[String]) -> Result<Vec<(String, usize, usize)
 /// `merge_map_entries`: the keys and values that are left, and the texts of the entries.
 pub fn merged(alloc: Global, words: &[String]) -> Result<Found, Found> {
     let merged = merge_map_entries(alloc, entries(alloc, words)?)?;
-    let mut due = Due::new(word(words, 0));
+    let mut expected = Expected::new(word(words, 0));
     for (key, value) in merged.iter() {
-        let _ = write!(due, "{key} {value};");
+        let _ = write!(expected, "{key} {value};");
     }
-    Ok(due.found())
+    Ok(expected.found())
 }

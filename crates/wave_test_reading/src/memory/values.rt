@@ -1,43 +1,45 @@
 //! Calls on values, and their views that take no memory.
-use crate::memory::due::{Due, exactly, of_value};
-use crate::memory::found::{Found, due_if};
-use crate::memory::making::made;
+use crate::memory::expected::{Expected, exactly, of_value};
+use crate::memory::found::{Found, expected_if};
+use crate::memory::making::built;
 use crate::memory::words::{value_at, word};
-use crate::memory::writing::{behind, is_told, text};
+use crate::memory::writing::{behind, is_reported, text};
 use std::alloc::Global;
 use std::fmt::Write;
 use wasm_wave::value::Value;
 use wasm_wave::wasm::WasmTypeKind;
 
-/// What a call on the value of the first two arguments is found to answer; mostly the third is due.
+/// What a call on the value of the first two arguments is found to answer; mostly the third is expected.
 pub fn on_value(alloc: Global, name: &str, val: &Value, words: &[String]) -> Result<Found, Found> {
-    let due = word(words, 2);
+    let expected = word(words, 2);
     match name {
-        "to_string" => Ok(text(alloc, val, due)),
-        "write_value" => Ok(behind(alloc, val, due)),
-        "DisplayValue" => Ok(of_value(alloc, val, due)),
-        "make" => made(alloc, false, val, words),
-        "make_list" => made(alloc, true, val, words),
-        "Value::clone" => cloned(alloc, val, due),
+        "to_string" => Ok(text(alloc, val, expected)),
+        "write_value" => Ok(behind(alloc, val, expected)),
+        "DisplayValue" => Ok(of_value(alloc, val, expected)),
+        "make" => built(alloc, false, val, words),
+        "make_list" => built(alloc, true, val, words),
+        "Value::clone" => cloned(alloc, val, expected),
         "Value::ty" => own_type(val, word(words, 0)),
-        "view" => Ok(viewed(val, due)),
+        "view" => Ok(viewed(val, expected)),
         "equality" => equality(alloc, val, words),
-        _ => Ok(due_if(is_told(alloc, val, due, false) && is_told(alloc, val, due, true))),
+        _ => Ok(expected_if(
+            is_reported(alloc, val, expected, false) && is_reported(alloc, val, expected, true),
+        )),
     }
 }
 
 /// `clone` of the value, which is equal; then its text.
-fn cloned(alloc: Global, val: &Value, due: &str) -> Result<Found, Found> {
+fn cloned(alloc: Global, val: &Value, expected: &str) -> Result<Found, Found> {
     let copy = val.clone(alloc)?;
     match copy == *val {
-        true => Ok(of_value(alloc, &copy, due)),
+        true => Ok(of_value(alloc, &copy, expected)),
         false => Ok(Found::Other),
     }
 }
 
 /// `ty` of the value; then its text.
-fn own_type(val: &Value, due: &str) -> Result<Found, Found> {
-    Ok(exactly(&val.ty()?, due))
+fn own_type(val: &Value, expected: &str) -> Result<Found, Found> {
+    Ok(exactly(&val.ty()?, expected))
 }
 
 /// Whether the value equals that of the third and the fourth word, which the fifth says.
@@ -48,10 +50,10 @@ fn equality(alloc: Global, val: &Value, words: &[String]) -> Result<Found, Found
 
 /// Whether this is the case, and whether it has a payload.
 fn case(name: &str, payload: Option<&Value>, text: &str) -> Found {
-    let mut due = Due::new(text);
+    let mut expected = Expected::new(text);
     let has_payload = payload.is_some();
-    let _ = write!(due, "{name} {has_payload}");
-    due.found()
+    let _ = write!(expected, "{name} {has_payload}");
+    expected.found()
 }
 
 /// Whether the view of the value is the text.
@@ -59,8 +61,8 @@ pub fn viewed(val: &Value, text: &str) -> Found {
     match val.kind() {
         WasmTypeKind::Bool => exactly(&val.unwrap_bool(), text),
         WasmTypeKind::Char => exactly(&val.unwrap_char(), text),
-        WasmTypeKind::String => due_if(val.unwrap_string() == text),
-        WasmTypeKind::Enum => due_if(val.unwrap_enum() == text),
+        WasmTypeKind::String => expected_if(val.unwrap_string() == text),
+        WasmTypeKind::Enum => expected_if(val.unwrap_enum() == text),
         WasmTypeKind::Option => case("some", val.unwrap_option(), text),
         WasmTypeKind::Variant => {
             let (name, payload) = val.unwrap_variant();

@@ -1,5 +1,5 @@
 //! Calls that write.
-use crate::memory::found::{Found, due_if};
+use crate::memory::found::{Found, expected_if};
 use std::alloc::Global;
 use std::fmt;
 use wasm_wave::to_string;
@@ -7,10 +7,10 @@ use wasm_wave::value::Value;
 use wasm_wave::writer::{TextWrite, Writer, WriterError};
 
 /// `to_string`; then the canonical text.
-pub fn text(alloc: Global, val: &Value, due: &str) -> Found {
+pub fn text(alloc: Global, val: &Value, expected: &str) -> Found {
     match to_string(alloc, val) {
-        Ok(text) => due_if(text.as_str() == due),
-        Err(WriterError::Memory(_)) => Found::Want,
+        Ok(text) => expected_if(text.as_str() == expected),
+        Err(WriterError::Memory(_)) => Found::OutOfMemory,
         Err(_) => Found::Other,
     }
 }
@@ -19,21 +19,22 @@ pub fn text(alloc: Global, val: &Value, due: &str) -> Found {
 const EARLIER: &str = "earlier ";
 
 /// What a writer that holds the earlier text takes of the value.
-fn behind_earlier(alloc: Global, val: &Value, earlier: String, due: &str) -> Found {
+fn behind_earlier(alloc: Global, val: &Value, earlier: String, expected: &str) -> Found {
     let mut writer = Writer::new(earlier);
     let answer = writer.write_value(alloc, val);
     let out = writer.into_inner();
     match (out.as_str().strip_prefix(EARLIER), answer) {
-        (Some(taken), Ok(())) => due_if(taken == due),
-        (Some(taken), Err(WriterError::Memory(_))) if due.starts_with(taken) => Found::Want,
+        (Some(taken), Ok(())) => expected_if(taken == expected),
+        (Some(taken), Err(WriterError::Memory(_))) if expected.starts_with(taken) =>
+            Found::OutOfMemory,
         _ => Found::Other,
     }
 }
 
 /// `write_value` of a writer that holds an earlier text; then the canonical text.
-pub fn behind(alloc: Global, val: &Value, due: &str) -> Found {
+pub fn behind(alloc: Global, val: &Value, expected: &str) -> Found {
     match String::from_str(alloc, EARLIER) {
-        Ok(earlier) => behind_earlier(alloc, val, earlier, due),
+        Ok(earlier) => behind_earlier(alloc, val, earlier, expected),
         Err(_) => Found::NotCalled,
     }
 }
@@ -94,7 +95,7 @@ fn passes(alloc: Global, val: &Value, text: &str, left: usize, once: bool) -> Op
 
 /// Whether the value is written right to writers of each number of texts, and written from one number
 /// on.
-pub fn is_told(alloc: Global, val: &Value, text: &str, once: bool) -> bool {
+pub fn is_reported(alloc: Global, val: &Value, text: &str, once: bool) -> bool {
     let mut was_passed = false;
     for left in 0..text.len().saturating_add(2) {
         match passes(alloc, val, text, left, once) {

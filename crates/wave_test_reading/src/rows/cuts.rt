@@ -9,9 +9,9 @@ use wasm_wave::untyped::{UntypedFuncCall, UntypedValue};
 use wasm_wave::value::{Type, Value};
 
 /// Whether each prefix of the text is answered as it should be at the type, without a type, and as a call.
-pub fn is_told_at_each_cut(alloc: Global, ty: &Type, text: &str) -> bool {
+pub fn is_reported_at_each_cut(alloc: Global, ty: &Type, text: &str) -> bool {
     for end in 0..text.len() {
-        if text.is_char_boundary(end) && !is_told(alloc, ty, &text[..end]) {
+        if text.is_char_boundary(end) && !is_reported(alloc, ty, &text[..end]) {
             return false;
         }
     }
@@ -19,7 +19,7 @@ pub fn is_told_at_each_cut(alloc: Global, ty: &Type, text: &str) -> bool {
 }
 
 /// Whether each refusal of the text is one of the text, with its span within it.
-fn is_told(alloc: Global, ty: &Type, text: &str) -> bool {
+fn is_reported(alloc: Global, ty: &Type, text: &str) -> bool {
     let end = text.len();
     lies_within(from_str::<Value>(alloc, ty, text).err(), end)
         && lies_within(UntypedValue::parse(alloc, text).err(), end)

@@ -1,5 +1,5 @@
 //! What texts answer at types.
-use crate::rows::cuts::is_told_at_each_cut;
+use crate::rows::cuts::is_reported_at_each_cut;
 use crate::rows::types::type_of;
 use std::alloc::Global;
 use std::test::Fail;
@@ -38,7 +38,7 @@ fn text(alloc: Global, val: &Value) -> Result<String, Fail> {
 }
 
 /// What a value prints, or a refusal.
-pub fn told(alloc: Global, answer: Result<Value, ParserError>) -> Result<String, Fail> {
+pub fn reported(alloc: Global, answer: Result<Value, ParserError>) -> Result<String, Fail> {
     match answer {
         Ok(val) => text(alloc, &val),
         Err(error) => Ok(format!(in alloc; "{error}")?),
@@ -52,8 +52,8 @@ pub fn wrong(alloc: Global, rows: &[(&str, &str, &str)]) -> Result<String, Fail>
     for row in rows {
         let (ty, text, expected) = *row;
         let ty = type_of(alloc, ty)?;
-        let answer = told(alloc, from_str::<Value>(alloc, &ty, text))?;
-        let is_alike = is_read_alike(alloc, &ty, text) && is_told_at_each_cut(alloc, &ty, text);
+        let answer = reported(alloc, from_str::<Value>(alloc, &ty, text))?;
+        let is_alike = is_read_alike(alloc, &ty, text) && is_reported_at_each_cut(alloc, &ty, text);
         if answer.as_str() != expected || !is_alike {
             return Ok(format!(in alloc; "{text} gives {answer} at {ty}")?);
         }
@@ -61,15 +61,15 @@ pub fn wrong(alloc: Global, rows: &[(&str, &str, &str)]) -> Result<String, Fail>
     Ok(String::new(alloc))
 }
 
-/// The first text of which another fault is told than the row says, with both answers; nothing where there
+/// The first text of which another fault is reported than the row says, with both answers; nothing where there
 /// is none. Each row is a type, a text, what reading the text tells of it, and what reading its untyped
 /// value tells.
 pub fn wrong_fault(alloc: Global, rows: &[(&str, &str, &str, &str)]) -> Result<String, Fail> {
     for row in rows {
         let (ty, text, at_once, late) = *row;
         let ty = type_of(alloc, ty)?;
-        let one = told(alloc, from_str::<Value>(alloc, &ty, text))?;
-        let other = told(alloc, read_late(alloc, &ty, text))?;
+        let one = reported(alloc, from_str::<Value>(alloc, &ty, text))?;
+        let other = reported(alloc, read_late(alloc, &ty, text))?;
         if one.as_str() != at_once || other.as_str() != late {
             return Ok(format!(in alloc; "{text} gives {one} and {other} at {ty}")?);
         }

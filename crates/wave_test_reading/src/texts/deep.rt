@@ -1,5 +1,5 @@
 //! A text that is written deeper than it is read, at a type of more levels than a text of a type may have.
-use crate::rows::reading::{is_read_alike, told};
+use crate::rows::reading::{is_read_alike, reported};
 use std::alloc::AllocError;
 use std::test::Fail;
 use wasm_wave::parser::Parser;
@@ -17,12 +17,12 @@ fn repeated(rt: HostRuntime, part: &str, times: usize) -> Result<String, AllocEr
 /// The middle within `times` openings and ends.
 fn within(
     rt: HostRuntime,
-    front: &str,
+    prefix: &str,
     times: usize,
     middle: &str,
     end: &str,
 ) -> Result<String, AllocError> {
-    let mut text = repeated(rt, front, times)?;
+    let mut text = repeated(rt, prefix, times)?;
     text.push_str(middle)?;
     text.push_str(repeated(rt, end, times)?.as_str())?;
     Ok(text)
@@ -45,7 +45,7 @@ fn read_whole(rt: HostRuntime, ty: &Type, parser: Parser) -> Result<String, Fail
         Err(error) => return Ok(format!(in rt.alloc(); "{error}")?),
     };
     match parser.finish() {
-        Ok(()) => told(rt.alloc(), Ok(value)),
+        Ok(()) => reported(rt.alloc(), Ok(value)),
         Err(error) => Ok(format!(in rt.alloc(); "{error}")?),
     }
 }

@@ -103,9 +103,9 @@ fn wrong(alloc: Global, rows: &[Row]) -> Result<String, Fail> {
     for row in rows {
         let (text, at, levels, words, starts) = *row;
         let expected = expected_at(alloc, text, at, levels)?;
-        let told = expected.words(alloc)?;
-        if told.as_str() != words || !begin_at(&expected, starts) {
-            return Ok(format!(in alloc; "{text} gives {told} at {at}")?);
+        let reported = expected.words(alloc)?;
+        if reported.as_str() != words || !begin_at(&expected, starts) {
+            return Ok(format!(in alloc; "{text} gives {reported} at {at}")?);
         }
     }
     Ok(String::new(alloc))
@@ -118,9 +118,9 @@ fn wrong_call(alloc: Global, rows: &[CallRow]) -> Result<String, Fail> {
         let Some(expected) = expected_in_call_at(alloc, text, at)? else {
             return Ok(format!(in alloc; "{text} has no name by {at}")?);
         };
-        let told = expected.words(alloc)?;
-        if told.as_str() != words || !begin_at(&expected, starts) {
-            return Ok(format!(in alloc; "{text} gives {told} at {at}")?);
+        let reported = expected.words(alloc)?;
+        if reported.as_str() != words || !begin_at(&expected, starts) {
+            return Ok(format!(in alloc; "{text} gives {reported} at {at}")?);
         }
     }
     Ok(String::new(alloc))

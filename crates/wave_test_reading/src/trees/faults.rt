@@ -1,4 +1,4 @@
-//! Worked rows of texts with several faults of type: which of them is told, where the text is read at its
+//! Worked rows of texts with several faults of type: which of them is reported, where the text is read at its
 //! type at once and where its untyped value is.
 use crate::rows::reading::wrong_fault;
 use std::test::Fail;

@@ -1,5 +1,5 @@
 //! Rows of one parser that answers one value after the other.
-use crate::rows::reading::told;
+use crate::rows::reading::reported;
 use std::alloc::AllocError;
 use std::test::Fail;
 use wasm_wave::lex::{Lexer, Token};
@@ -10,7 +10,7 @@ use wasm_wave::value::{Type, Value};
 /// The value read next at the type, printed, or its refusal.
 fn at_type(rt: HostRuntime, parser: &mut Parser, ty: &str) -> Result<String, Fail> {
     let ty = Type::parse(rt.alloc(), ty)?;
-    told(rt.alloc(), parser.parse_value::<Value>(rt.alloc(), &ty))
+    reported(rt.alloc(), parser.parse_value::<Value>(rt.alloc(), &ty))
 }
 
 /// How the value is displayed, or why it is refused.

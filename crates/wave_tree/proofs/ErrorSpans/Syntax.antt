@@ -24,7 +24,7 @@ record Behind (l m : Lexed) : Type 0 where
   pub source : m.source ≡ l.source
 
 passed : (l m : Lexed) (g k : ℕ) → Passes l m g k → g ≤ length (remainder_of l) → k ≤ length (drop g (remainder_of l)) → LiesInSource l → Behind l m
-passed l m g k p gap fits h =
+passed l m g k p whitespace fits h =
     let a = length-drop l.end l.source in
     let b = length-drop g (remainder_of l) in
     let s : length m.source ≡ length l.source = ap length p.source in
@@ -63,15 +63,15 @@ stands_inside kind.DuplicateFlag x n d s p q (c, (h, e), says) i = item_lies p.l
 stands_inside kind.NestingTooDeep x n d s p q (deep, e, says) i = subst (LiesInText p.lexer.source) (sym says.stands) i
 stands_inside k x n d s p q h i = absurd h
 
--- a refusal of what was due lies in the source
+-- a refusal of what was expected lies in the source
 pub refused_lies : (e : Diagnostic) (n : ℕ) (d : Expectation) (s : List StackSymbol) (p q : Place) → IsSyntaxError e n d s p q → LiesInSource p.lexer → LiesInText p.lexer.source e.span
 refused_lies e n d s p q h i =
     let at = tokens_inside p h.at h.tokens h.taken i in
-    subst (λ (t : List ℕ). LiesInText t e.span) at.1 (stands_inside e.kind e n h.due_there h.open_there h.at q h.stands at.0)
+    subst (λ (t : List ℕ). LiesInText t e.span) at.1 (stands_inside e.kind e n h.expected_there h.open_there h.at q h.stands at.0)
 
 -- it is no `WasmValueError`
 pub refused_kind : (e : Diagnostic) (n : ℕ) (d : Expectation) (s : List StackSymbol) (p q : Place) → IsSyntaxError e n d s p q → e.kind ≢ kind.WasmValueError
-refused_kind e n d s p q h is = subst (λ (k : ParserErrorKind). StandsAt k e n h.due_there h.open_there h.at q) is h.stands
+refused_kind e n d s p q h is = subst (λ (k : ParserErrorKind). StandsAt k e n h.expected_there h.open_there h.at q) is h.stands
 
 -- a syntax refusal lies in the source, and so does what follows a value
 pub refusals_lie : RefusalsLieInText
@@ -123,7 +123,7 @@ name_inside s k named = (omega arith, named.0.fits)
 -- a refusal of a function name lies in the text
 pub name_lies : (s : List ℕ) (e : Diagnostic) → NameFault s e → LiesInText s e.span
 name_lies s e (inl (none, says)) = subst (LiesInText s) (sym says.stands) (omega arith, omega arith)
-name_lies s e (inr (k, none, front, says)) = subst (LiesInText s) (sym says.stands) (omega arith, front.fits)
+name_lies s e (inr (k, none, prefix, says)) = subst (LiesInText s) (sym says.stands) (omega arith, prefix.fits)
 
 -- what follows the parameters lies in the text
 pub behind_params_lies : (s : List ℕ) (k : ℕ) (q : Place) (o : Option NodeTree) (e : Diagnostic) → IsName s k → AreParamsTaken (behind_name s k) q o → IsTrailing e q → LiesInText s e.span

@@ -12,24 +12,24 @@ use Rattle.wave_lex.specs.Tokens.{shape}
 use Rattle.wave_lex.specs.Tokenization.{IsToken}
 use Rattle.wave_lex.specs.Labels.{IsLabel}
 use Rattle.wave_lex.specs.LabelWords.{IsLowerOrDigit}
-use Rattle.wave_lex.proofs.LongestPrefix.ByComputing.{front_here}
+use Rattle.wave_lex.proofs.LongestPrefix.ByComputing.{prefix_here}
 use Rattle.wave_lex.proofs.RegularShapes.LabelWords.{labels_are_words, label_tokens_are_labels}
 use Rattle.wave_grammar.specs.Token.{Token, label}
 use Rattle.wave_grammar.specs.LeafTokens.{name_of}
 use Rattle.wave_grammar.specs.Tree.{Takes}
 use Rattle.wave_grammar.specs.ParserPosition.{token_of}
 use Rattle.wave_grammar.specs.PrefixLaws.{EndsBefore}
-use Rattle.wave_grammar.specs.PrefixAutomaton as due
+use Rattle.wave_grammar.specs.PrefixAutomaton as expectation
 use Rattle.wave_grammar.specs.PrefixAutomaton.{Expectation, StackSymbol, Step, step, reads, unexpected, Shifts, level_step, behind_step}
 use Rattle.wave_grammar.proofs.Automaton.RefusedKinds.{repeated_there}
 use Rattle.wave_grammar.proofs.Automaton.Prefixes.{leads_split, level_there}
-use Rattle.wave_tree.specs.declared.expected.moves.Due.{Due}
-use Rattle.wave_tree.specs.declared.expected.moves.Due.TheVariants as known
+use Rattle.wave_tree.specs.declared.expected.moves.State.{State}
+use Rattle.wave_tree.specs.declared.expected.moves.State.TheVariants as known
 use Rattle.wave_tree.specs.declared.expected.moves.Form.{Form}
 use Rattle.wave_tree.specs.declared.expected.moves.Change.TheVariants as change
 use Rattle.wave_tree.specs.declared.expected.moves.Move.{Move}
 use Rattle.wave_tree.specs.Private.ParserState.{IsValueStart}
-use Rattle.wave_tree.specs.Private.Moves.{stay, sample_start, value_move, closes, closed, closed_empty, next_move, goes_on_after, may_stand, due_of, symbol_of, innermost, stack_of, IsRepeated, IsMove}
+use Rattle.wave_tree.specs.Private.Moves.{stay, sample_start, value_move, closes, closed, closed_empty, next_move, goes_on_after, may_stand, expected_of, symbol_of, innermost, stack_of, IsRepeated, IsMove}
 use Rattle.wave_tree.specs.Private.Prefixes.{Names, IsAfter, MayEnd}
 use Rattle.wave_tree.specs.Expected.{MayFollow, AreAValue}
 use Rattle.wave_tree.proofs.ExpectedTokens.Moves.{move_is_step}
@@ -56,7 +56,7 @@ longer_is_none (name ∷ more) x l = ap (λ b. b || is_one_of more x) (longer_di
 
 -- the flags that were read
 abbrev flags_of : Expectation → List (List ℕ)
-flags_of (due.flag names) = names
+flags_of (expectation.flag names) = names
 flags_of _ = []
 
 -- a label that was not read there: an `a`, and as many as all those labels have bytes
@@ -97,19 +97,19 @@ sample d String = codes "\"a\""
 sample d MultilineString = codes "\"\"\"\n\"\"\""
 
 sample_is_token : (d : Expectation) (c : lex.Token) → IsToken (sample d c) (length (sample d c)) c
-sample_is_token d BraceOpen = (front_here (shape BraceOpen) (codes "{") 1 refl refl refl, tt)
-sample_is_token d BraceClose = (front_here (shape BraceClose) (codes "}") 1 refl refl refl, tt)
-sample_is_token d ParenOpen = (front_here (shape ParenOpen) (codes "(") 1 refl refl refl, tt)
-sample_is_token d ParenClose = (front_here (shape ParenClose) (codes ")") 1 refl refl refl, tt)
-sample_is_token d BracketOpen = (front_here (shape BracketOpen) (codes "[") 1 refl refl refl, tt)
-sample_is_token d BracketClose = (front_here (shape BracketClose) (codes "]") 1 refl refl refl, tt)
-sample_is_token d Colon = (front_here (shape Colon) (codes ":") 1 refl refl refl, tt)
-sample_is_token d Comma = (front_here (shape Comma) (codes ",") 1 refl refl refl, tt)
-sample_is_token d Number = (front_here (shape Number) (codes "0") 1 refl refl refl, tt)
+sample_is_token d BraceOpen = (prefix_here (shape BraceOpen) (codes "{") 1 refl refl refl, tt)
+sample_is_token d BraceClose = (prefix_here (shape BraceClose) (codes "}") 1 refl refl refl, tt)
+sample_is_token d ParenOpen = (prefix_here (shape ParenOpen) (codes "(") 1 refl refl refl, tt)
+sample_is_token d ParenClose = (prefix_here (shape ParenClose) (codes ")") 1 refl refl refl, tt)
+sample_is_token d BracketOpen = (prefix_here (shape BracketOpen) (codes "[") 1 refl refl refl, tt)
+sample_is_token d BracketClose = (prefix_here (shape BracketClose) (codes "]") 1 refl refl refl, tt)
+sample_is_token d Colon = (prefix_here (shape Colon) (codes ":") 1 refl refl refl, tt)
+sample_is_token d Comma = (prefix_here (shape Comma) (codes ",") 1 refl refl refl, tt)
+sample_is_token d Number = (prefix_here (shape Number) (codes "0") 1 refl refl refl, tt)
 sample_is_token d LabelOrKeyword = fresh_is_token d
-sample_is_token d Char = (front_here (shape Char) (codes "'a'") 3 refl refl refl, tt)
-sample_is_token d String = (front_here (shape String) (codes "\"a\"") 3 refl refl refl, λ e. absurd (omega arith))
-sample_is_token d MultilineString = (front_here (shape MultilineString) (codes "\"\"\"\n\"\"\"") 7 refl refl refl, tt)
+sample_is_token d Char = (prefix_here (shape Char) (codes "'a'") 3 refl refl refl, tt)
+sample_is_token d String = (prefix_here (shape String) (codes "\"a\"") 3 refl refl refl, λ e. absurd (omega arith))
+sample_is_token d MultilineString = (prefix_here (shape MultilineString) (codes "\"\"\"\n\"\"\"") 7 refl refl refl, tt)
 
 -- a text begins a value as any of its class does, unless it is a label
 pub begins_so : (c : lex.Token) (text : List ℕ) → c ≢ LabelOrKeyword → IsValueStart c text (sample_start c)
@@ -145,7 +145,7 @@ sample_begins d MultilineString = refl
 -- ---- what may stand
 
 -- the sample is no flag that was read
-not_again : (d : Expectation) (x : Due) (c : lex.Token) → c ≡ LabelOrKeyword → IsRepeated x (sample d c) d → ⊥
+not_again : (d : Expectation) (x : State) (c : lex.Token) → c ≡ LabelOrKeyword → IsRepeated x (sample d c) d → ⊥
 not_again d known.BehindFlag c e (names, was, found) =
     let none : is_one_of names (name_of (fresh d)) ≡ false = subst (λ z. is_one_of z (name_of (fresh d)) ≡ false) (ap flags_of was) (fresh_is_none d) in
     let there : is_one_of names (name_of (fresh d)) ≡ true = subst (λ z. is_one_of names (name_of (sample d z)) ≡ true) e found in
@@ -153,8 +153,8 @@ not_again d known.BehindFlag c e (names, was, found) =
 not_again d x c e h = absurd h
 
 -- only a label repeats a flag
-repeats_label : (n : ℕ) (tokens : List Token) (d : Expectation) (s : List StackSymbol) (c : lex.Token) (text : List ℕ) → Shifts n due.value [] tokens d s → step n d s (token_of c text) ≡ due.repeated_flag → c ≡ LabelOrKeyword
-repeats_label n tokens d s c text led e = let (before, texts, word, front, same, one) = repeated_there n tokens d s (token_of c text) led e in class_is c text word same
+repeats_label : (n : ℕ) (tokens : List Token) (d : Expectation) (s : List StackSymbol) (c : lex.Token) (text : List ℕ) → Shifts n expectation.value [] tokens d s → step n d s (token_of c text) ≡ expectation.repeated_flag → c ≡ LabelOrKeyword
+repeats_label n tokens d s c text led e = let (before, texts, word, start, same, one) = repeated_there n tokens d s (token_of c text) led e in class_is c text word same
   where
     class_is : (k : lex.Token) (x y : List ℕ) → token_of k x ≡ label y → k ≡ LabelOrKeyword
     class_is LabelOrKeyword x y w = refl
@@ -172,118 +172,118 @@ repeats_label n tokens d s c text led e = let (before, texts, word, front, same,
     class_is MultilineString x y w = cc
 
 -- where the answer of a move is yes the token is read, and the value goes on
-yes_there : (n : ℕ) (m : Option Move) (text : List ℕ) (d : Expectation) (s : List StackSymbol) (x : Step) → IsMove m text d s x → goes_on_after m (n - length s) ≡ true → ((y : Due) → x ≡ due.repeated_flag → IsRepeated y text d → ⊥) →
+yes_there : (n : ℕ) (m : Option Move) (text : List ℕ) (d : Expectation) (s : List StackSymbol) (x : Step) → IsMove m text d s x → goes_on_after m (n - length s) ≡ true → ((y : State) → x ≡ expectation.repeated_flag → IsRepeated y text d → ⊥) →
     (e : Expectation) × (r : List StackSymbol) × (x ≡ reads e r) × GoesOn n e r
 yes_there n None text d s x move stands never = let w : false ≡ true = stands in cc
-yes_there n (Some m) text d s (due.reads e r) move stands never = (e, r, refl, goes_on_there n m.due m.change text d s e r move stands)
-yes_there n (Some m) text d s due.repeated_flag move stands never = absurd (never m.due refl move)
+yes_there n (Some m) text d s (expectation.reads e r) move stands never = (e, r, refl, goes_on_there n m.state m.change text d s e r move stands)
+yes_there n (Some m) text d s expectation.repeated_flag move stands never = absurd (never m.state refl move)
 yes_there n (Some m) text d s x move stands never = absurd move
 
 -- and only there
 there_yes : (n : ℕ) (m : Option Move) (text : List ℕ) (d : Expectation) (s : List StackSymbol) (e : Expectation) (r : List StackSymbol) → IsMove m text d s (reads e r) → GoesOn n e r → goes_on_after m (n - length s) ≡ true
 there_yes n None text d s e r move goes = absurd move
-there_yes n (Some m) text d s e r move goes = goes_on_only n m.due m.change text d s e r move goes
+there_yes n (Some m) text d s e r move goes = goes_on_only n m.state m.change text d s e r move goes
 
 -- a class that may stand, after tokens that lead somewhere, has a token that goes on with them
-stands_follows : (n : ℕ) (tokens : List Token) (d : Expectation) (s : List StackSymbol) (c : lex.Token) → Shifts n due.value [] tokens d s → may_stand (due_of d) (innermost s) (n - length s) c ≡ true → MayFollow n tokens c
+stands_follows : (n : ℕ) (tokens : List Token) (d : Expectation) (s : List StackSymbol) (c : lex.Token) → Shifts n expectation.value [] tokens d s → may_stand (expected_of d) (innermost s) (n - length s) c ≡ true → MayFollow n tokens c
 stands_follows n tokens d s c led stands =
     let t = token_of c (sample d c) in
     let move = move_is_step n d s c (sample d c) (sample_start c) (sample_begins d c) in
-    let (e, r, h, goes) = yes_there n (next_move (due_of d) (innermost s) (n - length s) c (sample_start c)) (sample d c) d s (step n d s t) move stands
+    let (e, r, h, goes) = yes_there n (next_move (expected_of d) (innermost s) (n - length s) c (sample_start c)) (sample d c) d s (step n d s t) move stands
     (λ y again. not_again d y c (repeats_label n tokens d s c (sample d c) led again)) in
     (sample d c, sample_is_token d c, then_viable n tokens d e s r t led h goes)
 
 -- ---- a label that stands there
 
 -- no label closes a form
-pub no_label_closes : (s : List StackSymbol) (text : List ℕ) → due.closes s (label text) ≡ false
+pub no_label_closes : (s : List StackSymbol) (text : List ℕ) → expectation.closes s (label text) ≡ false
 no_label_closes [] text = refl
-no_label_closes (due.tuple ∷ s) text = refl
-no_label_closes (due.list ∷ s) text = refl
-no_label_closes (due.payload ∷ s) text = refl
-no_label_closes (due.entries ∷ s) text = refl
+no_label_closes (expectation.tuple ∷ s) text = refl
+no_label_closes (expectation.list ∷ s) text = refl
+no_label_closes (expectation.payload ∷ s) text = refl
+no_label_closes (expectation.entries ∷ s) text = refl
 
 label_closes_none : (s : List StackSymbol) → closes (innermost s) LabelOrKeyword ≡ false
 label_closes_none [] = refl
-label_closes_none (due.tuple ∷ s) = refl
-label_closes_none (due.list ∷ s) = refl
-label_closes_none (due.payload ∷ s) = refl
-label_closes_none (due.entries ∷ s) = refl
+label_closes_none (expectation.tuple ∷ s) = refl
+label_closes_none (expectation.list ∷ s) = refl
+label_closes_none (expectation.payload ∷ s) = refl
+label_closes_none (expectation.entries ∷ s) = refl
 
 -- no label stands after a value
 pub no_label_behind : (s : List StackSymbol) (text : List ℕ) (e : Expectation) (r : List StackSymbol) → behind_step s (label text) ≡ reads e r → ⊥
 no_label_behind [] text e r h = let w : unexpected ≡ reads e r = h in cc
-no_label_behind (due.tuple ∷ s) text e r h = let w : unexpected ≡ reads e r = h in cc
-no_label_behind (due.list ∷ s) text e r h = let w : unexpected ≡ reads e r = h in cc
-no_label_behind (due.payload ∷ s) text e r h = let w : unexpected ≡ reads e r = h in cc
-no_label_behind (due.entries ∷ s) text e r h = let w : unexpected ≡ reads e r = h in cc
+no_label_behind (expectation.tuple ∷ s) text e r h = let w : unexpected ≡ reads e r = h in cc
+no_label_behind (expectation.list ∷ s) text e r h = let w : unexpected ≡ reads e r = h in cc
+no_label_behind (expectation.payload ∷ s) text e r h = let w : unexpected ≡ reads e r = h in cc
+no_label_behind (expectation.entries ∷ s) text e r h = let w : unexpected ≡ reads e r = h in cc
 
 -- a level is left
 some_left : (n k : ℕ) → k < n → nat_lt 0 (n - k) ≡ true
 some_left n k h = grind arith
 
--- a label where a value is due
+-- a label where a value is expected
 value_label : (n : ℕ) (s : List StackSymbol) (text : List ℕ) (e : Expectation) (r : List StackSymbol) → level_step n s (label text) ≡ reads e r → goes_on_after (value_move (n - length s) (sample_start LabelOrKeyword)) (n - length s) ≡ true
 value_label n s text e r h =
     ap (λ b. goes_on_after (if b then stay known.BehindLabel else None) (n - length s)) (some_left n (length s) (level_there n s (label text) e r h).0)
 
 -- the same at an item
-item_label : (n : ℕ) (s : List StackSymbol) (text : List ℕ) (close : Step) (code : Option Move) (e : Expectation) (r : List StackSymbol) → if due.closes s (label text) then close else level_step n s (label text) ≡ reads e r →
+item_label : (n : ℕ) (s : List StackSymbol) (text : List ℕ) (close : Step) (code : Option Move) (e : Expectation) (r : List StackSymbol) → if expectation.closes s (label text) then close else level_step n s (label text) ≡ reads e r →
     goes_on_after (if closes (innermost s) LabelOrKeyword then code else value_move (n - length s) (sample_start LabelOrKeyword)) (n - length s) ≡ true
 item_label n s text close code e r h =
     let there : level_step n s (label text) ≡ reads e r = subst (λ b. if b then close else level_step n s (label text) ≡ reads e r) (no_label_closes s text) h in
     ap (λ b. goes_on_after (if b then code else value_move (n - length s) (sample_start LabelOrKeyword)) (n - length s)) (label_closes_none s) ∙ value_label n s text e r there
 
 -- where any label is read, the class may stand
-label_stands : (n : ℕ) (d : Expectation) (s : List StackSymbol) (text : List ℕ) (e : Expectation) (r : List StackSymbol) → step n d s (label text) ≡ reads e r → GoesOn n e r → may_stand (due_of d) (innermost s) (n - length s) LabelOrKeyword ≡ true
-label_stands n due.value s text e r h goes = value_label n s text e r h
-label_stands n due.first_item s text e r h goes = item_label n s text (due.closed_empty s) (closed_empty (innermost s)) e r h
-label_stands n due.next_item s text e r h goes = item_label n s text (due.closed s) (closed (innermost s)) e r h
-label_stands n due.behind_value s text e r h goes = absurd (no_label_behind s text e r h)
-label_stands n due.behind_label s text e r h goes = absurd (no_label_behind s text e r h)
-label_stands n due.paren s text e r h goes = let w : unexpected ≡ reads e r = h in cc
-label_stands n due.in_braces s text e r h goes = refl
-label_stands n due.no_fields s text e r h goes = let w : unexpected ≡ reads e r = h in cc
-label_stands n (due.behind_word word) s text e r h goes = let w : unexpected ≡ reads e r = h in cc
-label_stands n due.key s text e r h goes =
-    let w : reads due.behind_key s ≡ reads e r = h in
-    let dues : e ≡ due.behind_key = cc in
+label_stands : (n : ℕ) (d : Expectation) (s : List StackSymbol) (text : List ℕ) (e : Expectation) (r : List StackSymbol) → step n d s (label text) ≡ reads e r → GoesOn n e r → may_stand (expected_of d) (innermost s) (n - length s) LabelOrKeyword ≡ true
+label_stands n expectation.value s text e r h goes = value_label n s text e r h
+label_stands n expectation.first_item s text e r h goes = item_label n s text (expectation.closed_empty s) (closed_empty (innermost s)) e r h
+label_stands n expectation.next_item s text e r h goes = item_label n s text (expectation.closed s) (closed (innermost s)) e r h
+label_stands n expectation.behind_value s text e r h goes = absurd (no_label_behind s text e r h)
+label_stands n expectation.behind_label s text e r h goes = absurd (no_label_behind s text e r h)
+label_stands n expectation.paren s text e r h goes = let w : unexpected ≡ reads e r = h in cc
+label_stands n expectation.in_braces s text e r h goes = refl
+label_stands n expectation.no_fields s text e r h goes = let w : unexpected ≡ reads e r = h in cc
+label_stands n (expectation.behind_word word) s text e r h goes = let w : unexpected ≡ reads e r = h in cc
+label_stands n expectation.key s text e r h goes =
+    let w : reads expectation.behind_key s ≡ reads e r = h in
+    let states : e ≡ expectation.behind_key = cc in
     let forms : r ≡ s = cc in
-    goes_on_only n known.BehindKey change.Stay text due.key s e r (dues, forms) goes
-label_stands n due.behind_key s text e r h goes = let w : unexpected ≡ reads e r = h in cc
-label_stands n (due.flag names) s text e r h goes = refl
-label_stands n (due.behind_flag names) s text e r h goes = let w : unexpected ≡ reads e r = h in cc
+    goes_on_only n known.BehindKey change.Stay text expectation.key s e r (states, forms) goes
+label_stands n expectation.behind_key s text e r h goes = let w : unexpected ≡ reads e r = h in cc
+label_stands n (expectation.flag names) s text e r h goes = refl
+label_stands n (expectation.behind_flag names) s text e r h goes = let w : unexpected ≡ reads e r = h in cc
 
 -- a class other than that of labels, of which a token is read, may stand
-other_stands : (n : ℕ) (d : Expectation) (s : List StackSymbol) (c : lex.Token) (text : List ℕ) (e : Expectation) (r : List StackSymbol) → c ≢ LabelOrKeyword → step n d s (token_of c text) ≡ reads e r → GoesOn n e r → may_stand (due_of d) (innermost s) (n - length s) c ≡ true
+other_stands : (n : ℕ) (d : Expectation) (s : List StackSymbol) (c : lex.Token) (text : List ℕ) (e : Expectation) (r : List StackSymbol) → c ≢ LabelOrKeyword → step n d s (token_of c text) ≡ reads e r → GoesOn n e r → may_stand (expected_of d) (innermost s) (n - length s) c ≡ true
 other_stands n d s c text e r apart h goes =
-    there_yes n (next_move (due_of d) (innermost s) (n - length s) c (sample_start c)) text d s e r
-    (subst (IsMove (next_move (due_of d) (innermost s) (n - length s) c (sample_start c)) text d s) h (move_is_step n d s c text (sample_start c) (begins_so c text apart))) goes
+    there_yes n (next_move (expected_of d) (innermost s) (n - length s) c (sample_start c)) text d s e r
+    (subst (IsMove (next_move (expected_of d) (innermost s) (n - length s) c (sample_start c)) text d s) h (move_is_step n d s c text (sample_start c) (begins_so c text apart))) goes
 
 -- a class of which a token goes on with tokens that lead somewhere may stand
-follows_stands : (n : ℕ) (tokens : List Token) (d : Expectation) (s : List StackSymbol) (c : lex.Token) → Shifts n due.value [] tokens d s → MayFollow n tokens c → may_stand (due_of d) (innermost s) (n - length s) c ≡ true
+follows_stands : (n : ℕ) (tokens : List Token) (d : Expectation) (s : List StackSymbol) (c : lex.Token) → Shifts n expectation.value [] tokens d s → MayFollow n tokens c → may_stand (expected_of d) (innermost s) (n - length s) c ≡ true
 follows_stands n tokens d s c led (text, is, viable) = let (e, r, h, goes) = viable_then n tokens d s (token_of c text) led viable in which c h goes
   where
-    which : {e : Expectation} {r : List StackSymbol} → (k : lex.Token) → step n d s (token_of k text) ≡ reads e r → GoesOn n e r → may_stand (due_of d) (innermost s) (n - length s) k ≡ true
+    which : {e : Expectation} {r : List StackSymbol} → (k : lex.Token) → step n d s (token_of k text) ≡ reads e r → GoesOn n e r → may_stand (expected_of d) (innermost s) (n - length s) k ≡ true
     which {e} {r} LabelOrKeyword h goes = label_stands n d s text e r h goes
     which {e} {r} k h goes = other_stands n d s k text e r (λ w. cc) h goes
 
 -- ---- where the code stands
 
 -- nothing stands after tokens that lead nowhere
-none_follows : (n : ℕ) (tokens : List Token) (c : lex.Token) → ((e : Expectation) (r : List StackSymbol) → Shifts n due.value [] tokens e r → ⊥) → MayFollow n tokens c → ⊥
+none_follows : (n : ℕ) (tokens : List Token) (c : lex.Token) → ((e : Expectation) (r : List StackSymbol) → Shifts n expectation.value [] tokens e r → ⊥) → MayFollow n tokens c → ⊥
 none_follows n tokens c never (text, is, viable) =
     let (d, s, led, goes) = viable_leads n (tokens ++ token_of c text ∷ []) viable in
-    let (f, q, one, more) = leads_split n due.value d [] s tokens (token_of c text ∷ []) led in
+    let (f, q, one, more) = leads_split n expectation.value d [] s tokens (token_of c text ∷ []) led in
     never f q one
 
 -- a class may stand by the code exactly where one of its tokens goes on with the tokens
-pub may_follow : (n : ℕ) (tokens : List Token) (d : Due) (fs : List Form) (ns : Names) (c : lex.Token) → IsAfter n tokens d fs ns → (may_stand d (innermost (stack_of fs)) (n - length (stack_of fs)) c ≡ true) ↔ MayFollow n tokens c
+pub may_follow : (n : ℕ) (tokens : List Token) (d : State) (fs : List Form) (ns : Names) (c : lex.Token) → IsAfter n tokens d fs ns → (may_stand d (innermost (stack_of fs)) (n - length (stack_of fs)) c ≡ true) ↔ MayFollow n tokens c
 may_follow n tokens d fs ns c (inl led) = (
-  λ stands. stands_follows n tokens led.due_there led.open_there c led.leads
-      (subst (λ z. may_stand (due_of led.due_there) (innermost z) (n - length z) c ≡ true) led.forms (subst (λ z. may_stand z (innermost (stack_of fs)) (n - length (stack_of fs)) c ≡ true) led.due stands)),
-  λ follows. subst (λ z. may_stand z (innermost (stack_of fs)) (n - length (stack_of fs)) c ≡ true) (sym led.due)
-      (subst (λ z. may_stand (due_of led.due_there) (innermost z) (n - length z) c ≡ true) (sym led.forms) (follows_stands n tokens led.due_there led.open_there c led.leads follows)),
+  λ stands. stands_follows n tokens led.expected_there led.open_there c led.leads
+      (subst (λ z. may_stand (expected_of led.expected_there) (innermost z) (n - length z) c ≡ true) led.forms (subst (λ z. may_stand z (innermost (stack_of fs)) (n - length (stack_of fs)) c ≡ true) led.state stands)),
+  λ follows. subst (λ z. may_stand z (innermost (stack_of fs)) (n - length (stack_of fs)) c ≡ true) (sym led.state)
+      (subst (λ z. may_stand (expected_of led.expected_there) (innermost z) (n - length z) c ≡ true) (sym led.forms) (follows_stands n tokens led.expected_there led.open_there c led.leads follows)),
 )
 may_follow n tokens d fs ns c (inr (nothing, never)) = (
   λ stands. let w : false ≡ true = subst (λ z. may_stand z (innermost (stack_of fs)) (n - length (stack_of fs)) c ≡ true) nothing stands in cc,
@@ -293,14 +293,14 @@ may_follow n tokens d fs ns c (inr (nothing, never)) = (
 -- ---- the end
 
 -- where the code says so a value may end
-ends_so : (d : Expectation) (fs : List Form) → MayEnd (due_of d) fs → EndsBefore d [] × (fs ≡ [])
-ends_so due.behind_value fs h = (tt, h)
-ends_so due.behind_label fs h = ((λ more w. cc), h)
+ends_so : (d : Expectation) (fs : List Form) → MayEnd (expected_of d) fs → EndsBefore d [] × (fs ≡ [])
+ends_so expectation.behind_value fs h = (tt, h)
+ends_so expectation.behind_label fs h = ((λ more w. cc), h)
 ends_so d fs h = absurd h
 
-so_ends : (d : Expectation) (fs : List Form) → EndsBefore d [] → fs ≡ [] → MayEnd (due_of d) fs
-so_ends due.behind_value fs h k = k
-so_ends due.behind_label fs h k = k
+so_ends : (d : Expectation) (fs : List Form) → EndsBefore d [] → fs ≡ [] → MayEnd (expected_of d) fs
+so_ends expectation.behind_value fs h k = k
+so_ends expectation.behind_label fs h k = k
 so_ends d fs h k = absurd h
 
 -- forms are open where some are
@@ -309,10 +309,10 @@ none_open [] e = refl
 none_open (f ∷ fs) e = let same = ap length e in absurd (omega (arith, length-append (stack_of fs) (symbol_of f ∷ [])))
 
 -- the tokens are a value exactly where the code may end
-pub may_end : (n : ℕ) (tokens : List Token) (d : Due) (fs : List Form) (ns : Names) → IsAfter n tokens d fs ns → MayEnd d fs ↔ AreAValue n tokens
+pub may_end : (n : ℕ) (tokens : List Token) (d : State) (fs : List Form) (ns : Names) → IsAfter n tokens d fs ns → MayEnd d fs ↔ AreAValue n tokens
 may_end n tokens d fs ns (inl led) = (
-  λ stands. let (ends, none) = ends_so led.due_there fs (subst (λ z. MayEnd z fs) led.due stands) in ends_value n tokens led.due_there led.open_there led.leads ends (sym led.forms ∙ ap stack_of none),
-  λ value. let (ends, none) = value_ends n tokens led.due_there led.open_there led.leads value in subst (λ z. MayEnd z fs) (sym led.due) (so_ends led.due_there fs ends (none_open fs (led.forms ∙ none))),
+  λ stands. let (ends, none) = ends_so led.expected_there fs (subst (λ z. MayEnd z fs) led.state stands) in ends_value n tokens led.expected_there led.open_there led.leads ends (sym led.forms ∙ ap stack_of none),
+  λ value. let (ends, none) = value_ends n tokens led.expected_there led.open_there led.leads value in subst (λ z. MayEnd z fs) (sym led.state) (so_ends led.expected_there fs ends (none_open fs (led.forms ∙ none))),
 )
 may_end n tokens d fs ns (inr (nothing, never)) = (
   λ stands. absurd (subst (λ z. MayEnd z fs) nothing stands),

@@ -9,17 +9,17 @@ use Rattle.wave_lex.specs.Tokens.{shape, function_name}
 use Rattle.wave_lex.specs.Tokenization.{Lexed, NextIs, IsToken}
 use Rattle.wave_lex.specs.FunctionName.{IsName}
 use Rattle.wave_lex.specs.Errors.{Diagnostic}
-use Rattle.wave_lex.proofs.LongestPrefix.ByComputing.{front_here, front_positive}
+use Rattle.wave_lex.proofs.LongestPrefix.ByComputing.{prefix_here, prefix_positive}
 use Rattle.wave_lex.proofs.Tokenization.NextToken.{next_one}
 use Rattle.wave_grammar.specs.Token.{Token, paren_open, paren_close}
 use Rattle.wave_grammar.specs.Tree.{no_tree, a_tree}
 use Rattle.wave_grammar.specs.ParserPosition.{token_of}
 use Rattle.wave_tree.specs.declared.expected.Expected.{Expected}
-use Rattle.wave_tree.specs.declared.expected.call.CallFront.{CallFront}
-use Rattle.wave_tree.specs.declared.expected.call.CallFront.TheVariants.{Other, Params}
+use Rattle.wave_tree.specs.declared.expected.call.CallPrefix.{CallPrefix}
+use Rattle.wave_tree.specs.declared.expected.call.CallPrefix.TheVariants.{Other, Params}
 use Rattle.wave_tree.specs.UntypedCall.{NameFault}
 use Rattle.wave_tree.specs.Expected.{Placed, token_at, TakesPlaced, StandBefore, IsViable, MayFollow, AreAValue, IsViableCall, MayFollowInCall, AreParams, IsExpectedFrom, IsWithoutName}
-use Rattle.wave_tree.specs.Private.CallFronts.{classes_of, front_behind, front_of, classes_in_call, end_in_call}
+use Rattle.wave_tree.specs.Private.CallPrefixes.{classes_of, prefix_behind, prefix_of, classes_in_call, end_in_call}
 use Rattle.wave_tree.proofs.TextReading.Calls.{params_tokens, opens, no_alone, one_name, paren_class, close_class}
 use Rattle.wave_tree.proofs.ExpectedTokens.RefusalPlaces.{NoneBy, placed_end}
 
@@ -78,7 +78,7 @@ follows_nothing n c = (
   where
     there : Contains [] c ⊎ (ParenOpen ≡ c) → MayFollowInCall n [] c
     there (inl (k, l, e)) = absurd (omega arith)
-    there (inr e) = subst (MayFollowInCall n []) e (codes "(", (front_here (shape ParenOpen) (codes "(") 1 refl refl refl, tt), (paren_close ∷ [], no_tree, inl (refl, refl)))
+    there (inr e) = subst (MayFollowInCall n []) e (codes "(", (prefix_here (shape ParenOpen) (codes "(") 1 refl refl refl, tt), (paren_close ∷ [], no_tree, inl (refl, refl)))
 
 -- nothing stands after another
 follows_other : (n : ℕ) (k : lex.Token) (text : List ℕ) (tokens : List Token) (c : lex.Token) → k ≢ ParenOpen → Contains [] c ↔ MayFollowInCall n (token_of k text ∷ tokens) c
@@ -96,7 +96,7 @@ follows_open n classes c h = (
   where
     there : Contains classes c ⊎ (ParenClose ≡ c) → MayFollowInCall n (paren_open ∷ []) c
     there (inl k) = let (text, is, viable) = h.0 k in (text, is, tuple_viable n (token_of c text ∷ []) viable)
-    there (inr e) = subst (MayFollowInCall n (paren_open ∷ [])) e (codes ")", (front_here (shape ParenClose) (codes ")") 1 refl refl refl, tt), ([], no_tree, inl (refl, refl)))
+    there (inr e) = subst (MayFollowInCall n (paren_open ∷ [])) e (codes ")", (prefix_here (shape ParenClose) (codes ")") 1 refl refl refl, tt), ([], no_tree, inl (refl, refl)))
 
     back : (text : List ℕ) → IsToken text (length text) c → ((more : List Token) × (paren_open ∷ token_of c text ∷ more ≡ paren_open ∷ paren_close ∷ [])) ⊎ IsViable (suc n) (paren_open ∷ token_of c text ∷ []) → Contains (classes ++ ParenClose ∷ []) c
     back text is (inl (more, e)) = subst (Contains (classes ++ ParenClose ∷ [])) (sym (close_class c text (let same : paren_close ≡ token_of c text = cc in same))) (Contains-push classes ParenClose)
@@ -121,12 +121,12 @@ follows_more n classes u tokens c h = (
 -- ---- by how the tokens begin
 
 -- further tokens change nothing
-same_classes : (c : lex.Token) (cs classes : List lex.Token) → classes_in_call (front_behind (c ∷ cs)) classes ≡ classes
+same_classes : (c : lex.Token) (cs classes : List lex.Token) → classes_in_call (prefix_behind (c ∷ cs)) classes ≡ classes
 same_classes ParenClose [] classes = refl
 same_classes c cs classes = refl
 
 follows_in_call : (n : ℕ) (source : List ℕ) (tokens : List Placed) (classes : List lex.Token) → ((c : lex.Token) → Contains classes c ↔ MayFollow (suc n) (map (token_at source) tokens) c) → (c : lex.Token) →
-    Contains (classes_in_call (front_of (classes_of tokens)) classes) c ↔ MayFollowInCall n (map (token_at source) tokens) c
+    Contains (classes_in_call (prefix_of (classes_of tokens)) classes) c ↔ MayFollowInCall n (map (token_at source) tokens) c
 follows_in_call n source [] classes h c = follows_nothing n c
 follows_in_call n source ((ParenOpen, at) ∷ []) classes h c = follows_open n classes c (h c)
 follows_in_call n source ((ParenOpen, at) ∷ p ∷ ps) classes h c =
@@ -137,7 +137,7 @@ follows_in_call n source ((k, at) ∷ ps) classes h c = follows_other n k (slice
 ends_more : (n : ℕ) (b : Bool) (tokens : List Token) → (paren_open ∷ tokens ≡ paren_open ∷ paren_close ∷ [] → ⊥) → IsTrue b ↔ AreAValue (suc n) (paren_open ∷ tokens) → IsTrue b ↔ AreParams n (paren_open ∷ tokens)
 ends_more n b tokens other h = ((λ yes. tuple_params n tokens (h.0 yes)), (λ params. h.1 (params_tuple n (paren_open ∷ tokens) other params)))
 
-ends_in_call : (n : ℕ) (source : List ℕ) (tokens : List Placed) (b : Bool) → IsTrue b ↔ AreAValue (suc n) (map (token_at source) tokens) → IsTrue (end_in_call (front_of (classes_of tokens)) b) ↔ AreParams n (map (token_at source) tokens)
+ends_in_call : (n : ℕ) (source : List ℕ) (tokens : List Placed) (b : Bool) → IsTrue b ↔ AreAValue (suc n) (map (token_at source) tokens) → IsTrue (end_in_call (prefix_of (classes_of tokens)) b) ↔ AreParams n (map (token_at source) tokens)
 ends_in_call n source [] b h = ((λ yes. let w : false ≡ true = yes in cc), (λ params. absurd (never_none n params)))
 ends_in_call n source ((ParenOpen, at) ∷ []) b h = ((λ yes. let w : false ≡ true = yes in cc), (λ params. absurd (never_alone n params)))
 ends_in_call n source ((ParenOpen, at) ∷ (ParenClose, there) ∷ []) b h = ((λ yes. (no_tree, inl (refl, refl))), (λ params. refl))
@@ -145,10 +145,10 @@ ends_in_call n source ((ParenOpen, at) ∷ (k, there) ∷ ps) b h = ends_more n 
 ends_in_call n source ((k, at) ∷ ps) b h = ((λ yes. let w : false ≡ true = yes in cc), (λ params. let is = first_is_open n k (slice_range source at.start at.end) (map (token_at source) ps) params in cc))
 
 -- what may stand in a call, by what may stand in a tuple
-pub in_call : (first : Lexed) (at : ℕ) (f : CallFront) (old new : Expected) → ((tokens : List Placed) → StandBefore first at tokens → f ≡ front_of (classes_of tokens)) → IsExpectedFrom first at (MayFollow 101) (AreAValue 101) old →
+pub in_call : (first : Lexed) (at : ℕ) (f : CallPrefix) (old new : Expected) → ((tokens : List Placed) → StandBefore first at tokens → f ≡ prefix_of (classes_of tokens)) → IsExpectedFrom first at (MayFollow 101) (AreAValue 101) old →
     new.classes.items ≡ classes_in_call f old.classes.items → new.may_end ≡ end_in_call f old.may_end → new.open_brackets.items ≡ old.open_brackets.items → IsExpectedFrom first at (MayFollowInCall 100) (AreParams 100) new
-in_call first at f old new front h classes ends brackets =
-    let begin = front h.before h.stand in
+in_call first at f old new prefix h classes ends brackets =
+    let begin = prefix h.before h.stand in
     let tokens = map (token_at first.source) h.before in
     record {
       before = h.before;
@@ -184,17 +184,17 @@ stand_next l m at c (p ∷ ps) next by h =
     class_of_item c d e = cc
 
 -- how tokens begin of which the first is no `(`
-pub begins_other : (c : lex.Token) (cs : List lex.Token) → c ≢ ParenOpen → front_of (c ∷ cs) ≡ Other
+pub begins_other : (c : lex.Token) (cs : List lex.Token) → c ≢ ParenOpen → prefix_of (c ∷ cs) ≡ Other
 begins_other ParenOpen cs apart = absurd (apart refl)
 begins_other c cs apart = refl
 
 -- how they go on where the next is no `)`
-pub goes_on_other : (c : lex.Token) (cs : List lex.Token) → c ≢ ParenClose → front_behind (c ∷ cs) ≡ Params
+pub goes_on_other : (c : lex.Token) (cs : List lex.Token) → c ≢ ParenClose → prefix_behind (c ∷ cs) ≡ Params
 goes_on_other ParenClose cs apart = absurd (apart refl)
 goes_on_other c cs apart = refl
 
 -- or where there is one more
-pub goes_on_two : (c d : lex.Token) (cs : List lex.Token) → front_behind (c ∷ d ∷ cs) ≡ Params
+pub goes_on_two : (c d : lex.Token) (cs : List lex.Token) → prefix_behind (c ∷ d ∷ cs) ≡ Params
 goes_on_two ParenClose d cs = refl
 goes_on_two c d cs = refl
 
@@ -203,10 +203,10 @@ goes_on_two c d cs = refl
 -- where the name is refused there is none
 pub refused_name : (s : List ℕ) (at : ℕ) (e : Diagnostic) → NameFault s e → IsWithoutName s at
 refused_name s at e (inl h) k named =
-    let some : 0 < k = front_positive function_name s k refl named.0 in
+    let some : 0 < k = prefix_positive function_name s k refl named.0 in
     let fits = named.0.fits in
     absurd (omega (arith, ap length h.0))
-refused_name s at e (inr (j, none, front, says)) k named = absurd (none k named.0)
+refused_name s at e (inr (j, none, prefix, says)) k named = absurd (none k named.0)
 
 -- where it ends behind the place no other does
 pub name_behind : (s : List ℕ) (at k : ℕ) → IsName s k → at < k → IsWithoutName s at

@@ -19,11 +19,11 @@ use Rattle.wave_tree.proofs.ExpectedTokens.MayStand.{may_follow, may_end}
 -- what is left after the last was taken
 but_last-take : (xs : List (Range ℕ)) → take (length xs - 1) xs ≡ but_last xs
 but_last-take [] = refl
-but_last-take (x ∷ xs) = let same : length (x ∷ xs) - 1 ≡ length xs = omega arith in ap (λ (k : ℕ). take k (x ∷ xs)) same ∙ front x xs
+but_last-take (x ∷ xs) = let same : length (x ∷ xs) - 1 ≡ length xs = omega arith in ap (λ (k : ℕ). take k (x ∷ xs)) same ∙ prefix x xs
   where
-    front : (y : Range ℕ) (ys : List (Range ℕ)) → take (length ys) (y ∷ ys) ≡ but_last (y ∷ ys)
-    front y [] = refl
-    front y (z ∷ zs) = ap (λ l. y ∷ l) (front z zs)
+    prefix : (y : Range ℕ) (ys : List (Range ℕ)) → take (length ys) (y ∷ ys) ≡ but_last (y ∷ ys)
+    prefix y [] = refl
+    prefix y (z ∷ zs) = ap (λ l. y ∷ l) (prefix z zs)
 
 -- after a bracket that closes
 pub closed_after : (c : lex.Token) (at : Range ℕ) (old new : List (Range ℕ)) → (c ≡ BraceClose) ⊎ (c ≡ ParenClose) ⊎ (c ≡ BracketClose) → new ≡ take (length old - 1) old → new ≡ open_after old (c, at)
@@ -60,7 +60,7 @@ pub record IsReadTo (first : Lexed) (at n : ℕ) (lexer : Lexed) (a : Automaton)
   pub tokens : List Placed
   pub taken : TakesPlaced first tokens lexer
   pub before : lexer.end ≤ at
-  pub after : IsAfter n (map (token_at first.source) tokens) a.due a.forms.items a.names
+  pub after : IsAfter n (map (token_at first.source) tokens) a.state a.forms.items a.names
   pub levels : a.levels ≡ n
   pub spans_are : spans ≡ open_brackets tokens
 
@@ -72,26 +72,26 @@ taken_source l m (p ∷ ps) (k, (g, j, passes, is), at, more) = taken_source k m
 -- one more token was read
 pub read_more : (first : Lexed) (at n : ℕ) (l m : Lexed) (a b : Automaton) (old new : List (Range ℕ)) (c : lex.Token) (place : Range ℕ) (text : List ℕ) → IsReadTo first at n l a old → NextIs l m (Some (Ok c)) → m.end ≤ at →
     place ≡ span m.start m.end → new ≡ open_after old (c, place) → text ≡ slice_range m.source m.start m.end →
-    ((tokens : List Token) → IsAfter a.levels tokens a.due a.forms.items a.names → IsAfter a.levels (tokens ++ token_of c text ∷ []) b.due b.forms.items b.names) → b.levels ≡ a.levels → IsReadTo first at n m b new
+    ((tokens : List Token) → IsAfter a.levels tokens a.state a.forms.items a.names → IsAfter a.levels (tokens ++ token_of c text ∷ []) b.state b.forms.items b.names) → b.levels ≡ a.levels → IsReadTo first at n m b new
 read_more first at n l m a b old new c place text h next before is_place is_new is_text reads same_levels =
     let p : Placed = (c, span m.start m.end) in
     let taken = taken_more first l m h.tokens c h.taken next in
     let same_source : m.source ≡ first.source = taken_source first m (h.tokens ++ p ∷ []) taken in
     let same_token : token_of c text ≡ token_at first.source p = ap (token_of c) (is_text ∙ ap (λ (s : List ℕ). slice_range s m.start m.end) same_source) in
-    let now = subst (λ k. IsAfter k (map (token_at first.source) h.tokens ++ token_of c text ∷ []) b.due b.forms.items b.names) h.levels
-    (reads (map (token_at first.source) h.tokens) (subst (λ k. IsAfter k (map (token_at first.source) h.tokens) a.due a.forms.items a.names) (sym h.levels) h.after)) in
+    let now = subst (λ k. IsAfter k (map (token_at first.source) h.tokens ++ token_of c text ∷ []) b.state b.forms.items b.names) h.levels
+    (reads (map (token_at first.source) h.tokens) (subst (λ k. IsAfter k (map (token_at first.source) h.tokens) a.state a.forms.items a.names) (sym h.levels) h.after)) in
     record {
       tokens = h.tokens ++ p ∷ [];
       taken = taken;
       before = before;
-      after = subst (λ ts. IsAfter n ts b.due b.forms.items b.names) (ap (λ t. map (token_at first.source) h.tokens ++ t ∷ []) same_token ∙ sym (map-append (token_at first.source) h.tokens (p ∷ []))) now;
+      after = subst (λ ts. IsAfter n ts b.state b.forms.items b.names) (ap (λ t. map (token_at first.source) h.tokens ++ t ∷ []) same_token ∙ sym (map-append (token_at first.source) h.tokens (p ∷ []))) now;
       levels = same_levels ∙ h.levels;
       spans_are = is_new ∙ (ap (λ r. open_after old (c, r)) is_place ∙ (ap (λ z. open_after z p) h.spans_are ∙ sym (open_more h.tokens p)));
     }
 
 -- all were read
 pub is_expected : (first : Lexed) (at n : ℕ) (l : Lexed) (a : Automaton) (spans : List (Range ℕ)) (e : Expected) → IsReadTo first at n l a spans → ((c : lex.Token) (next : Lexed) → NextIs l next (Some (Ok c)) → at < next.end) →
-    ((c : lex.Token) → Contains e.classes.items c ↔ (may_stand a.due (innermost (stack_of a.forms.items)) (a.levels - length (stack_of a.forms.items)) c ≡ true)) → (IsTrue e.may_end ↔ MayEnd a.due a.forms.items) → e.open_brackets.items ≡ spans →
+    ((c : lex.Token) → Contains e.classes.items c ↔ (may_stand a.state (innermost (stack_of a.forms.items)) (a.levels - length (stack_of a.forms.items)) c ≡ true)) → (IsTrue e.may_end ↔ MayEnd a.state a.forms.items) → e.open_brackets.items ≡ spans →
     IsExpectedFrom first at (MayFollow n) (AreAValue n) e
 is_expected first at n l a spans e h all classes ends brackets =
     let tokens = map (token_at first.source) h.tokens in
@@ -99,9 +99,9 @@ is_expected first at n l a spans e h all classes ends brackets =
       before = h.tokens;
       stand = record { last = l; taken = h.taken; before = h.before; all = all };
       classes = λ c.
-          let stands = subst (λ k. Contains e.classes.items c ↔ (may_stand a.due (innermost (stack_of a.forms.items)) (k - length (stack_of a.forms.items)) c ≡ true)) h.levels (classes c) in
-          let follows = may_follow n tokens a.due a.forms.items a.names c h.after in
+          let stands = subst (λ k. Contains e.classes.items c ↔ (may_stand a.state (innermost (stack_of a.forms.items)) (k - length (stack_of a.forms.items)) c ≡ true)) h.levels (classes c) in
+          let follows = may_follow n tokens a.state a.forms.items a.names c h.after in
           ((λ x. follows.0 (stands.0 x)), (λ x. stands.1 (follows.1 x)));
-      end = let is = may_end n tokens a.due a.forms.items a.names h.after in ((λ x. is.0 (ends.0 x)), (λ x. ends.1 (is.1 x)));
+      end = let is = may_end n tokens a.state a.forms.items a.names h.after in ((λ x. is.0 (ends.0 x)), (λ x. ends.1 (is.1 x)));
       open_there = brackets ∙ h.spans_are;
     }

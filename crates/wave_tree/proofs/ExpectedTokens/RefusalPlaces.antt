@@ -8,19 +8,19 @@ use Rattle.wave_lex.specs.Errors.{Diagnostic, Refusal}
 use Rattle.wave_lex.specs.Tokens.{shape}
 use Rattle.wave_lex.specs.Tokenization.{Lexed, NextIs, span, remainder_of}
 use Rattle.wave_lex.proofs.Tokenization.Classes.{shape_not_empty}
-use Rattle.wave_lex.proofs.LongestPrefix.ByComputing.{front_positive}
+use Rattle.wave_lex.proofs.LongestPrefix.ByComputing.{prefix_positive}
 use Rattle.wave_lex.proofs.Tokenization.NextToken.{next_one}
 use Rattle.wave_grammar.specs.Token.{Token, label}
 use Rattle.wave_wasm.specs.Names.{is_one_of}
 use Rattle.wave_grammar.specs.LeafTokens.{name_of}
 use Rattle.wave_grammar.specs.Tree.{word_of}
 use Rattle.wave_grammar.specs.ParserPosition.{Place, TakesTokens, token_of, text_at}
-use Rattle.wave_grammar.specs.PrefixAutomaton as due
+use Rattle.wave_grammar.specs.PrefixAutomaton as expectation
 use Rattle.wave_grammar.specs.PrefixAutomaton.{Expectation, StackSymbol, Step, step, reads, unexpected, too_deep, level_step, value_step, behind_step, Shifts}
 use Rattle.wave_grammar.specs.SyntaxErrors.{StandsAt}
 use Rattle.wave_tree.specs.ParserState.{start_of}
 use Rattle.wave_tree.specs.declared.expected.moves.Move.{Move}
-use Rattle.wave_tree.specs.Private.Moves.{sample_start, next_move, due_of, innermost, IsMove}
+use Rattle.wave_tree.specs.Private.Moves.{sample_start, next_move, expected_of, innermost, IsMove}
 use Rattle.wave_tree.specs.Expected.{Placed, token_at, TakesPlaced, IsViable}
 use Rattle.wave_tree.specs.ExpectedLaws.{IsOfItem, ReadTokensStandBefore, UnexpectedMayNotFollow}
 use Rattle.wave_tree.proofs.ExpectedTokens.Moves.{move_is_step}
@@ -33,7 +33,7 @@ use Rattle.wave_tree.proofs.ExpectedTokens.PlacedTokens.{no_token, no_token_at_e
 -- a token ends past where the one before it ends, and its end is past its start
 token_moves : (l m : Lexed) (c : lex.Token) → NextIs l m (Some (Ok c)) → (l.end ≤ m.start) × (m.start < m.end)
 token_moves l m c (g, k, p, t) =
-    let some : 0 < k = front_positive (shape c) _ k (shape_not_empty c) t.is.0 in
+    let some : 0 < k = prefix_positive (shape c) _ k (shape_not_empty c) t.is.0 in
     let begins : m.start ≡ l.end + g = p.start in
     let ends : m.end ≡ l.end + g + k = p.end in
     (omega arith, omega arith)
@@ -129,7 +129,7 @@ stands_there e n d s at new (inr (inr k)) stands =
 -- the tokens before are those that were read
 pub read_stand_before : ReadTokensStandBefore
 read_stand_before source n e new before error item stand =
-    let (by, none) = stands_there e n error.due_there error.open_there error.at new item error.stands in
+    let (by, none) = stands_there e n error.expected_there error.open_there error.at new item error.stands in
     let (ps, taken, are) = taken_placed source (start_of source) error.at error.tokens refl error.taken in
     let same : before ≡ ps = one_before (start_of source).lexer stand.last error.at.lexer e.span.start before ps stand.taken taken stand.before by stand.all none in
     ap (map (token_at source)) same ∙ are
@@ -141,33 +141,33 @@ label_begins : (n : ℕ) (s : List StackSymbol) (text : List ℕ) → level_step
 label_begins n s text h = which (nat_lt (length s) n) h
   where
     which : (b : Bool) → if b then value_step s (label text) else too_deep ≡ unexpected → ⊥
-    which true k = let w : reads (due.due_behind (word_of text)) s ≡ unexpected = k in cc
+    which true k = let w : reads (expectation.expected_behind (word_of text)) s ≡ unexpected = k in cc
     which false k = let w : too_deep ≡ unexpected = k in cc
 
 -- nor at an item
-label_item : (n : ℕ) (s : List StackSymbol) (text : List ℕ) (close : Step) → if due.closes s (label text) then close else level_step n s (label text) ≡ unexpected → ⊥
+label_item : (n : ℕ) (s : List StackSymbol) (text : List ℕ) (close : Step) → if expectation.closes s (label text) then close else level_step n s (label text) ≡ unexpected → ⊥
 label_item n s text close h = label_begins n s text (subst (λ b. if b then close else level_step n s (label text) ≡ unexpected) (no_label_closes s text) h)
 
 -- a flag is read or repeated
-label_flag : (b : Bool) (e : Expectation) (s : List StackSymbol) → if b then due.repeated_flag else reads e s ≡ unexpected → ⊥
-label_flag true e s h = let w : due.repeated_flag ≡ unexpected = h in cc
+label_flag : (b : Bool) (e : Expectation) (s : List StackSymbol) → if b then expectation.repeated_flag else reads e s ≡ unexpected → ⊥
+label_flag true e s h = let w : expectation.repeated_flag ≡ unexpected = h in cc
 label_flag false e s h = let w : reads e s ≡ unexpected = h in cc
 
 -- where one label is unexpected no other is read
 label_unexpected : (n : ℕ) (d : Expectation) (s : List StackSymbol) (text other : List ℕ) (e : Expectation) (r : List StackSymbol) → step n d s (label text) ≡ unexpected → step n d s (label other) ≡ reads e r → ⊥
-label_unexpected n due.value s text other e r h k = label_begins n s text h
-label_unexpected n due.first_item s text other e r h k = label_item n s text (due.closed_empty s) h
-label_unexpected n due.next_item s text other e r h k = label_item n s text (due.closed s) h
-label_unexpected n due.behind_value s text other e r h k = no_label_behind s other e r k
-label_unexpected n due.behind_label s text other e r h k = no_label_behind s other e r k
-label_unexpected n due.paren s text other e r h k = let w : unexpected ≡ reads e r = k in cc
-label_unexpected n due.in_braces s text other e r h k = let w : reads (due.behind_word text) s ≡ unexpected = h in cc
-label_unexpected n due.no_fields s text other e r h k = let w : unexpected ≡ reads e r = k in cc
-label_unexpected n (due.behind_word word) s text other e r h k = let w : unexpected ≡ reads e r = k in cc
-label_unexpected n due.key s text other e r h k = let w : reads due.behind_key s ≡ unexpected = h in cc
-label_unexpected n due.behind_key s text other e r h k = let w : unexpected ≡ reads e r = k in cc
-label_unexpected n (due.flag names) s text other e r h k = label_flag (is_one_of names (name_of text)) (due.behind_flag (names ++ name_of text ∷ [])) s h
-label_unexpected n (due.behind_flag names) s text other e r h k = let w : unexpected ≡ reads e r = k in cc
+label_unexpected n expectation.value s text other e r h k = label_begins n s text h
+label_unexpected n expectation.first_item s text other e r h k = label_item n s text (expectation.closed_empty s) h
+label_unexpected n expectation.next_item s text other e r h k = label_item n s text (expectation.closed s) h
+label_unexpected n expectation.behind_value s text other e r h k = no_label_behind s other e r k
+label_unexpected n expectation.behind_label s text other e r h k = no_label_behind s other e r k
+label_unexpected n expectation.paren s text other e r h k = let w : unexpected ≡ reads e r = k in cc
+label_unexpected n expectation.in_braces s text other e r h k = let w : reads (expectation.behind_word text) s ≡ unexpected = h in cc
+label_unexpected n expectation.no_fields s text other e r h k = let w : unexpected ≡ reads e r = k in cc
+label_unexpected n (expectation.behind_word word) s text other e r h k = let w : unexpected ≡ reads e r = k in cc
+label_unexpected n expectation.key s text other e r h k = let w : reads expectation.behind_key s ≡ unexpected = h in cc
+label_unexpected n expectation.behind_key s text other e r h k = let w : unexpected ≡ reads e r = k in cc
+label_unexpected n (expectation.flag names) s text other e r h k = label_flag (is_one_of names (name_of text)) (expectation.behind_flag (names ++ name_of text ∷ [])) s h
+label_unexpected n (expectation.behind_flag names) s text other e r h k = let w : unexpected ≡ reads e r = k in cc
 
 -- by a move that is none nothing is read
 by_move : (m : Option Move) (text other : List ℕ) (d : Expectation) (s : List StackSymbol) (e : Expectation) (r : List StackSymbol) → IsMove m text d s unexpected → IsMove m other d s (reads e r) → ⊥
@@ -177,7 +177,7 @@ by_move (Some m) text other d s e r h k = h
 -- where a token is unexpected that is no label, no other of its class is read
 other_class : (n : ℕ) (d : Expectation) (s : List StackSymbol) (c : lex.Token) (text other : List ℕ) (e : Expectation) (r : List StackSymbol) → c ≢ LabelOrKeyword → step n d s (token_of c text) ≡ unexpected → step n d s (token_of c other) ≡ reads e r → ⊥
 other_class n d s c text other e r apart h k =
-    let m = next_move (due_of d) (innermost s) (n - length s) c (sample_start c) in
+    let m = next_move (expected_of d) (innermost s) (n - length s) c (sample_start c) in
     by_move m text other d s e r (subst (IsMove m text d s) h (move_is_step n d s c text (sample_start c) (begins_so c text apart)))
     (subst (IsMove m other d s) k (move_is_step n d s c other (sample_start c) (begins_so c other apart)))
 
@@ -189,12 +189,12 @@ class_unexpected n d s c text other e r h k = other_class n d s c text other e r
 -- no token of the class may stand after the tokens before
 pub unexpected_may_not_follow : UnexpectedMayNotFollow
 unexpected_may_not_follow source n e new before error is stand =
-    let (c, steps, says) = subst (λ z. StandsAt z e n error.due_there error.open_there error.at new) is error.stands in
+    let (c, steps, says) = subst (λ z. StandsAt z e n error.expected_there error.open_there error.at new) is error.stands in
     let same = read_stand_before source n e new before error (inl is) stand in (
       c,
       ap (λ (z : Refusal). z.detail) says.is,
       λ follows.
           let (text, token, viable) = follows in
-          let (f, r, h, goes) = viable_then n error.tokens error.due_there error.open_there (token_of c text) error.leads (subst (λ ts. IsViable n (ts ++ token_of c text ∷ [])) same viable) in
-          class_unexpected n error.due_there error.open_there c (text_at new) text f r steps.1 h,
+          let (f, r, h, goes) = viable_then n error.tokens error.expected_there error.open_there (token_of c text) error.leads (subst (λ ts. IsViable n (ts ++ token_of c text ∷ [])) same viable) in
+          class_unexpected n error.expected_there error.open_there c (text_at new) text f r steps.1 h,
     )

@@ -15,7 +15,7 @@ use Rattle.wave_lex.specs.declared.lex.Token.TheVariants.{BraceOpen, BraceClose,
 use Rattle.wave_lex.specs.declared.lex.Token.TheVariants.{Colon, Comma, Number, LabelOrKeyword, Char, String, MultilineString}
 use Rattle.wave_lex.specs.Errors.{class_name}
 use Rattle.wave_grammar.proofs.Elaboration.ParamsInTurn.{mapped_count}
-use Rattle.wave_tree.specs.Expected.{same_class, class_word, words_among, marks_told, starts_told, told_words, or_joined}
+use Rattle.wave_tree.specs.Expected.{same_class, class_word, words_among, marks_reported, starts_reported, reported_words, or_joined}
 use Rattle.wave_tree.specs.Private.Separators.{separator}
 
 -- ---- classes
@@ -78,10 +78,10 @@ is_among classes c false h = none (list_any (same_class c) classes) refl
 -- ---- words
 
 -- the words of some classes and of others
-pub among_both : (classes told more : List lex.Token) → words_among classes (told ++ more) ≡ words_among classes told ++ words_among classes more
-among_both classes told more =
-    ap (map class_word) (filter-append (λ c. list_any (same_class c) classes) told more)
-    ∙ map-append class_word (filter (λ c. list_any (same_class c) classes) told) (filter (λ c. list_any (same_class c) classes) more)
+pub among_both : (classes reported more : List lex.Token) → words_among classes (reported ++ more) ≡ words_among classes reported ++ words_among classes more
+among_both classes reported more =
+    ap (map class_word) (filter-append (λ c. list_any (same_class c) classes) reported more)
+    ∙ map-append class_word (filter (λ c. list_any (same_class c) classes) reported) (filter (λ c. list_any (same_class c) classes) more)
 
 -- the word of a class that is among them
 pub word_added : (classes : List lex.Token) (c : lex.Token) (b : Bool) (old new : List (Bor (List ℕ))) (w : Bor (List ℕ)) → IsTrue b ↔ Contains classes c → b ≡ true → new ≡ old ++ w ∷ [] → w.now ≡ class_word c → texts new ≡ texts old ++ words_among classes (c ∷ [])
@@ -142,31 +142,31 @@ first_joined (x ∷ ws) d before text l none e = ap (λ z. z ++ behind (texts ws
 
 -- ---- the words of one more class
 
-pub words_more : (classes told : List lex.Token) (i : ℕ) (d : lex.Token) (start old new : List (List ℕ)) → i < length told → old ≡ start ++ words_among classes (take i told) → new ≡ old ++ words_among classes (get_or told i d ∷ []) →
-    new ≡ start ++ words_among classes (take (i + 1) told)
-words_more classes told i d start old new l h more =
-    let one = get_or told i d ∷ [] in
+pub words_more : (classes reported : List lex.Token) (i : ℕ) (d : lex.Token) (start old new : List (List ℕ)) → i < length reported → old ≡ start ++ words_among classes (take i reported) → new ≡ old ++ words_among classes (get_or reported i d ∷ []) →
+    new ≡ start ++ words_among classes (take (i + 1) reported)
+words_more classes reported i d start old new l h more =
+    let one = get_or reported i d ∷ [] in
     more
     ∙ (ap (λ z. z ++ words_among classes one) h
-    ∙ (append_assoc start (words_among classes (take i told)) (words_among classes one) ∙ ap (λ z. start ++ z) (sym (among_both classes (take i told) one) ∙ ap (words_among classes) (sym (take_more told i d l)))))
+    ∙ (append_assoc start (words_among classes (take i reported)) (words_among classes one) ∙ ap (λ z. start ++ z) (sym (among_both classes (take i reported) one) ∙ ap (words_among classes) (sym (take_more reported i d l)))))
 
 -- ---- the answer
 
 -- what is told of the first tokens, by the test of `[`
-pub starts_so : (classes : List lex.Token) (b : Bool) → IsTrue b ↔ Contains classes BracketOpen → starts_told classes ≡ if b then BracketOpen ∷ [] else LabelOrKeyword ∷ Number ∷ ParenOpen ∷ []
+pub starts_so : (classes : List lex.Token) (b : Bool) → IsTrue b ↔ Contains classes BracketOpen → starts_reported classes ≡ if b then BracketOpen ∷ [] else LabelOrKeyword ∷ Number ∷ ParenOpen ∷ []
 starts_so classes b h = ap (λ z. if z then BracketOpen ∷ [] else LabelOrKeyword ∷ Number ∷ ParenOpen ∷ []) (is_among classes BracketOpen b h)
 
-pub starts_then : (classes : List lex.Token) (b : Bool) → IsTrue b ↔ Contains classes BracketOpen → b ≡ true → BracketOpen ∷ [] ≡ starts_told classes
+pub starts_then : (classes : List lex.Token) (b : Bool) → IsTrue b ↔ Contains classes BracketOpen → b ≡ true → BracketOpen ∷ [] ≡ starts_reported classes
 starts_then classes b h e = sym (starts_so classes b h ∙ ap (λ z. if z then BracketOpen ∷ [] else LabelOrKeyword ∷ Number ∷ ParenOpen ∷ []) e)
 
-pub starts_else : (classes : List lex.Token) (b : Bool) → IsTrue b ↔ Contains classes BracketOpen → b ≡ false → LabelOrKeyword ∷ Number ∷ ParenOpen ∷ [] ≡ starts_told classes
+pub starts_else : (classes : List lex.Token) (b : Bool) → IsTrue b ↔ Contains classes BracketOpen → b ≡ false → LabelOrKeyword ∷ Number ∷ ParenOpen ∷ [] ≡ starts_reported classes
 starts_else classes b h e = sym (starts_so classes b h ∙ ap (λ z. if z then BracketOpen ∷ [] else LabelOrKeyword ∷ Number ∷ ParenOpen ∷ []) e)
 
--- all that is told
-pub all_told : (classes starts : List lex.Token) (may_end : Bool) (none first second third : List (Bor (List ℕ))) → starts ≡ starts_told classes → none ≡ [] → texts first ≡ texts none ++ words_among classes starts → texts second ≡ texts first ++ words_among classes marks_told →
-    texts third ≡ texts second ++ (if may_end then codes "the end" ∷ [] else []) → texts third ≡ told_words classes may_end
-all_told classes starts may_end none first second third start empty a b c =
+-- all that is reported
+pub all_reported : (classes starts : List lex.Token) (may_end : Bool) (none first second third : List (Bor (List ℕ))) → starts ≡ starts_reported classes → none ≡ [] → texts first ≡ texts none ++ words_among classes starts → texts second ≡ texts first ++ words_among classes marks_reported →
+    texts third ≡ texts second ++ (if may_end then codes "the end" ∷ [] else []) → texts third ≡ reported_words classes may_end
+all_reported classes starts may_end none first second third start empty a b c =
     let end : List (List ℕ) = if may_end then codes "the end" ∷ [] else [] in
-    let begun : texts first ≡ words_among classes (starts_told classes) = a ∙ (ap (λ z. texts z ++ words_among classes starts) empty ∙ ap (words_among classes) start) in
-    let marked : texts second ≡ words_among classes (starts_told classes ++ marks_told) = b ∙ (ap (λ z. z ++ words_among classes marks_told) begun ∙ sym (among_both classes (starts_told classes) marks_told)) in
+    let begun : texts first ≡ words_among classes (starts_reported classes) = a ∙ (ap (λ z. texts z ++ words_among classes starts) empty ∙ ap (words_among classes) start) in
+    let marked : texts second ≡ words_among classes (starts_reported classes ++ marks_reported) = b ∙ (ap (λ z. z ++ words_among classes marks_reported) begun ∙ sym (among_both classes (starts_reported classes) marks_reported)) in
     c ∙ ap (λ z. z ++ end) marked

@@ -22,7 +22,7 @@ use Rattle.wave_tree.specs.Private.ParsedNodes.{key_node_type, ArePairs, AreFurt
 use Rattle.wave_tree.specs.Private.TokenRoles.{IsKeyClass}
 use Rattle.wave_grammar.specs.CommaSeparated.{FurtherItems}
 use Rattle.wave_tree.proofs.NodeCorrectness.Lists.{brace_mark, closed_tokens, no_paren_further}
-use Rattle.wave_tree.proofs.NodeCorrectness.Tokens.{number_alone, in_order, sound_next, sound_tokens, start_of, at_start, holds, made, takes_plus, text_there}
+use Rattle.wave_tree.proofs.NodeCorrectness.Tokens.{number_alone, in_order, sound_next, sound_tokens, start_of, at_start, holds, built, takes_plus, text_there}
 use Rattle.wave_tree.proofs.ParserCorrectness.Steps.{tokens_join}
 use Rattle.wave_tree.proofs.NodeCorrectness.TokenAlignment.{part_at}
 use Rattle.wave_grammar.proofs.NodeTexts.Slices.{taken_is, tokens_forward, tokens_source}
@@ -106,24 +106,24 @@ mutual
       let comma_is = taken_is p m Comma comma_there in
       let key_taken = taken_is m k c key_there in
       let colon_is = taken_is k b Colon colon_there in
-      let front : TakesTokens p (comma ∷ kt ∷ colon ∷ []) b = (m, (Comma, comma_there, refl), (k, (c, key_there, refl), (b, (Colon, colon_there, refl), refl))) in
-      let source_b = tokens_source p b (comma ∷ kt ∷ colon ∷ []) front in
+      let prefix : TakesTokens p (comma ∷ kt ∷ colon ∷ []) b = (m, (Comma, comma_there, refl), (k, (c, key_there, refl), (b, (Colon, colon_there, refl), refl))) in
+      let source_b = tokens_source p b (comma ∷ kt ∷ colon ∷ []) prefix in
       let a1 = comma_is.end in let a2 = key_taken.start in let a3 = colon_is.end in
       let after = tokens_forward k q (colon ∷ pairs_of_it.tokens) (b, (Colon, colon_there, refl), pairs_of_it.taken) in
       record {
         tokens = (comma ∷ kt ∷ colon ∷ []) ++ pairs_of_it.tokens;
-        taken = tokens_join p b q (comma ∷ kt ∷ colon ∷ []) pairs_of_it.tokens front pairs_of_it.taken;
+        taken = tokens_join p b q (comma ∷ kt ∷ colon ∷ []) pairs_of_it.tokens prefix pairs_of_it.taken;
         means = it.means ∷ pairs_of_it.value ∷ pairs_of_it.means;
         all = entry (span_at k) kt pairs_of_it.value pairs_of_it.all;
         means_them = λ sound.
             let one_key = subst (λ z. placed_of p.lexer.source z ≡ Some it.means) (sym key_node) (subst (λ z. placed_of z (node (key_node_type c) (span_at k) no_nodes) ≡ Some it.means) comma_is.source it.is) in
-            let outer = subst (λ z. all_placed z (node_trees more) ≡ Some (pairs_of_it.value ∷ pairs_of_it.means)) source_b (pairs_of_it.means_them (sound_tokens p b (comma ∷ kt ∷ colon ∷ []) front sound)) in
+            let outer = subst (λ z. all_placed z (node_trees more) ≡ Some (pairs_of_it.value ∷ pairs_of_it.means)) source_b (pairs_of_it.means_them (sound_tokens p b (comma ∷ kt ∷ colon ∷ []) prefix sound)) in
             ap (λ o. with_both (λ t ts. t ∷ ts) o (all_placed p.lexer.source (node_trees more))) one_key ∙ ap (λ o. with_both (λ t ts. t ∷ ts) (Some it.means) o) outer;
         pairs = ap (λ o. with_both (λ key rest. entry key.0 key.1 pairs_of_it.value rest) o (pairs_of pairs_of_it.means)) it.key
             ∙ ap (λ o. with_both (λ (key : Range ℕ × Token) rest. entry key.0 key.1 pairs_of_it.value rest) (Some (span_at k, kt)) o) pairs_of_it.pairs;
         spell = λ sound from l.
             let m_sound = sound_next p m Comma comma_there sound in
-            let inner = pairs_of_it.spell (sound_tokens p b (comma ∷ kt ∷ colon ∷ []) front sound) k.lexer.end (omega (arith, a3)) in (
+            let inner = pairs_of_it.spell (sound_tokens p b (comma ∷ kt ∷ colon ∷ []) prefix sound) k.lexer.end (omega (arith, a3)) in (
               (omega (arith, l, a1, a2), after),
               subst (λ z. HoldsTokens z (span_at k) (kt ∷ [])) comma_is.source (holds m k k kt [] m_sound (c, key_there, refl) refl),
               inner.0,
@@ -131,7 +131,7 @@ mutual
               subst (λ z. SpellsEntries z (span_of pairs_of_it.value).end q.lexer.end pairs_of_it.all) source_b inner.2,
             );
         places = λ o before there.
-            let inner = pairs_of_it.places o (before ++ comma ∷ kt ∷ colon ∷ []) (tokens_join o p b before (comma ∷ kt ∷ colon ∷ []) there front) in (
+            let inner = pairs_of_it.places o (before ++ comma ∷ kt ∷ colon ∷ []) (tokens_join o p b before (comma ∷ kt ∷ colon ∷ []) there prefix) in (
               part_at o m k k q kt (before ++ comma ∷ []) [] (colon ∷ pairs_of_it.tokens) (tokens_join o p m before (comma ∷ []) there (m, (Comma, comma_there, refl), refl)) (c, key_there, refl) refl (b, (Colon, colon_there, refl), pairs_of_it.taken),
               (inner.0, inner.1),
             );
@@ -146,16 +146,16 @@ mutual
       let rest_of = further_spell n w q more others in
       let first_is = taken_is p h.first h.begins.0 h.begins.1 in
       let d = first_is.start in
-      let front : TakesTokens p (h.token ∷ h.others) w = (h.first, h.begins, h.taken) in
-      let source_w = tokens_source p w (h.token ∷ h.others) front in
+      let prefix : TakesTokens p (h.token ∷ h.others) w = (h.first, h.begins, h.taken) in
+      let source_w = tokens_source p w (h.token ∷ h.others) prefix in
       record {
         tokens = (h.token ∷ h.others) ++ rest_of.tokens;
-        taken = tokens_join p w q (h.token ∷ h.others) rest_of.tokens front rest_of.taken;
+        taken = tokens_join p w q (h.token ∷ h.others) rest_of.tokens prefix rest_of.taken;
         value = h.placed;
         means = rest_of.means;
         all = rest_of.all;
         means_them = λ sound.
-            let outer = subst (λ z. all_placed z (node_trees more) ≡ Some rest_of.means) source_w (rest_of.means_them (sound_tokens p w (h.token ∷ h.others) front sound)) in
+            let outer = subst (λ z. all_placed z (node_trees more) ≡ Some rest_of.means) source_w (rest_of.means_them (sound_tokens p w (h.token ∷ h.others) prefix sound)) in
             ap (λ o. with_both (λ t ts. t ∷ ts) o (all_placed p.lexer.source (node_trees more))) (h.is_node sound).0 ∙ ap (λ o. with_both (λ t ts. t ∷ ts) (Some h.placed) o) outer;
         pairs = rest_of.pairs;
         spell = λ sound from l.
@@ -165,11 +165,11 @@ mutual
               (omega (arith, l, d, start_is), omega (arith, end_is, after)),
               (h.is_node sound).1,
               subst (λ z. SpellsEntries z (span_of h.placed).end q.lexer.end rest_of.all) source_w
-                  (rest_of.spell (sound_tokens p w (h.token ∷ h.others) front sound) (span_of h.placed).end (omega (arith, end_is))),
+                  (rest_of.spell (sound_tokens p w (h.token ∷ h.others) prefix sound) (span_of h.placed).end (omega (arith, end_is))),
             );
         places = λ o before there. (
           subst (λ (z : Range ℕ). StandsAtTokens o.lexer.source (span o.lexer.end q.lexer.end) z) (sym h.spans) (part_at o p h.first w q h.token before h.others rest_of.tokens there h.begins h.taken rest_of.taken),
-          rest_of.places o (before ++ h.token ∷ h.others) (tokens_join o p w before (h.token ∷ h.others) there front),
+          rest_of.places o (before ++ h.token ∷ h.others) (tokens_join o p w before (h.token ∷ h.others) there prefix),
         );
         items = λ rest.
             let more_items = rest_of.items rest in (
@@ -191,16 +191,16 @@ entries_parsed n p m k q c ty parsed h key_there is_key same e =
     let key_taken = taken_is m k c key_there in
     let colon_is = taken_is k b Colon colon_there in
     let kt = token_of c (text_at k) in
-    let front : TakesTokens m (kt ∷ colon ∷ []) b = (k, (c, key_there, refl), (b, (Colon, colon_there, refl), refl)) in
-    let source_b = tokens_source m b (kt ∷ colon ∷ []) front ∙ brace_is.source in
+    let prefix : TakesTokens m (kt ∷ colon ∷ []) b = (k, (c, key_there, refl), (b, (Colon, colon_there, refl), refl)) in
+    let source_b = tokens_source m b (kt ∷ colon ∷ []) prefix ∙ brace_is.source in
     let whole = span m.lexer.start q.lexer.end in
     let all = entry (span_at k) kt inner.value inner.all in
     let a1 = key_taken.start in let a2 = colon_is.end in
     let after = tokens_forward k q (colon ∷ inner.tokens) (b, (Colon, colon_there, refl), inner.taken) in
-    made (n + 1) p m q brace_open (kt ∷ colon ∷ inner.tokens) parsed (entries all) (BraceOpen, h, refl) (k, (c, key_there, refl), (b, (Colon, colon_there, refl), inner.taken))
+    built (n + 1) p m q brace_open (kt ∷ colon ∷ inner.tokens) parsed (entries all) (BraceOpen, h, refl) (k, (c, key_there, refl), (b, (Colon, colon_there, refl), inner.taken))
     (λ sound. subst (λ z. placed_of p.lexer.source z ≡ Some (at whole (entries all))) (sym (e.is ∙ ap (λ z. node kind.TupleSet whole (node_trees z)) children_are))
     (let one_key = subst (λ z. placed_of p.lexer.source z ≡ Some it.means) (sym key_node) (subst (λ z. placed_of z (node (key_node_type c) (span_at k) no_nodes) ≡ Some it.means) brace_is.source it.is) in
-    let b_sound = sound_tokens m b (kt ∷ colon ∷ []) front (sound_next p m BraceOpen h sound) in
+    let b_sound = sound_tokens m b (kt ∷ colon ∷ []) prefix (sound_next p m BraceOpen h sound) in
     let outer = subst (λ z. all_placed z (node_trees pairs) ≡ Some (inner.value ∷ inner.means)) source_b (inner.means_them b_sound) in
     ap (λ o. option_map (at whole) (and_then (with_both (λ t ts. t ∷ ts) o (all_placed p.lexer.source (node_trees pairs))) (shape_from kind.TupleSet whole (slice p.lexer.source whole)))) one_key
     ∙ (ap (λ o. option_map (at whole) (and_then (with_both (λ t ts. t ∷ ts) (Some it.means) o) (shape_from kind.TupleSet whole (slice p.lexer.source whole)))) outer
@@ -209,7 +209,7 @@ entries_parsed n p m k q c ty parsed h key_there is_key same e =
     (λ sound.
     let m_sound = sound_next p m BraceOpen h sound in
     let ordered = in_order p m BraceOpen h in
-    let spelled = inner.spell (sound_tokens m b (kt ∷ colon ∷ []) front m_sound) k.lexer.end (omega (arith, a2)) in (
+    let spelled = inner.spell (sound_tokens m b (kt ∷ colon ∷ []) prefix m_sound) k.lexer.end (omega (arith, a2)) in (
       (omega (arith, a1, ordered), after),
       subst (λ z. HoldsTokens z (span_at k) (kt ∷ [])) brace_is.source (holds m k k kt [] m_sound (c, key_there, refl) refl),
       spelled.0,
@@ -218,7 +218,7 @@ entries_parsed n p m k q c ty parsed h key_there is_key same e =
     ))
     (let o = start_of p m in
     let brace_there = at_start p m brace_open (BraceOpen, h, refl) in
-    let values = inner.places o (brace_open ∷ kt ∷ colon ∷ []) (m, brace_there, front) in
+    let values = inner.places o (brace_open ∷ kt ∷ colon ∷ []) (m, brace_there, prefix) in
     (part_at o m k k q kt (brace_open ∷ []) [] (colon ∷ inner.tokens) (m, brace_there, refl) (c, key_there, refl) refl (b, (Colon, colon_there, refl), inner.taken), (values.0, values.1)))
     (λ rest none_there.
     let (behind, value_there, further) = inner.items rest in
@@ -227,10 +227,10 @@ entries_parsed n p m k q c ty parsed h key_there is_key same e =
 
 -- `{}`
 pub empty_parsed : (n : ℕ) (p m q : Place) → TakesItem p (Some (Ok BraceOpen)) m → TakesItem m (Some (Ok BraceClose)) q → IsParsed (n + 1) p q (node kind.EmptySet (span m.lexer.start q.lexer.end) no_nodes)
-empty_parsed n p m q h k = made (n + 1) p m q brace_open (brace_close ∷ []) _ empty_braces (BraceOpen, h, refl) (q, (BraceClose, k, refl), refl) (λ sound. refl) (λ sound. tt) tt
+empty_parsed n p m q h k = built (n + 1) p m q brace_open (brace_close ∷ []) _ empty_braces (BraceOpen, h, refl) (q, (BraceClose, k, refl), refl) (λ sound. refl) (λ sound. tt) tt
     (λ rest none_there. takes_plus n (brace_open ∷ brace_close ∷ rest) tree.empty_braces rest (inl (refl, refl)))
 
 -- `{:}`
 pub no_fields_parsed : (n : ℕ) (p m w q : Place) → TakesItem p (Some (Ok BraceOpen)) m → TakesItem m (Some (Ok Colon)) w → TakesItem w (Some (Ok BraceClose)) q → IsParsed (n + 1) p q (node kind.TupleSet (span m.lexer.start q.lexer.end) no_nodes)
-no_fields_parsed n p m w q h c k = made (n + 1) p m q brace_open (colon ∷ brace_close ∷ []) _ no_fields (BraceOpen, h, refl) (w, (Colon, c, refl), (q, (BraceClose, k, refl), refl)) (λ sound. refl) (λ sound. tt) tt
+no_fields_parsed n p m w q h c k = built (n + 1) p m q brace_open (colon ∷ brace_close ∷ []) _ no_fields (BraceOpen, h, refl) (w, (Colon, c, refl), (q, (BraceClose, k, refl), refl)) (λ sound. refl) (λ sound. tt) tt
     (λ rest none_there. takes_plus n (brace_open ∷ colon ∷ brace_close ∷ rest) tree.no_fields rest (inr (inl (refl, refl))))

@@ -21,7 +21,7 @@ use Rattle.wave_tree.specs.Private.ParsedNodes.{flag_node, AreFurtherFlags, IsOf
 use Rattle.wave_grammar.specs.FlagOrder.{Flag, flag_name, put_flag, flags_in_order}
 use Rattle.wave_grammar.specs.CommaSeparated.{FurtherItems}
 use Rattle.wave_tree.proofs.NodeCorrectness.Lists.{brace_mark, closed_tokens}
-use Rattle.wave_tree.proofs.NodeCorrectness.Tokens.{in_order, sound_next, start_of, at_start, holds, made, takes_plus, text_there}
+use Rattle.wave_tree.proofs.NodeCorrectness.Tokens.{in_order, sound_next, start_of, at_start, holds, built, takes_plus, text_there}
 use Rattle.wave_tree.proofs.ParserCorrectness.Steps.{tokens_join}
 use Rattle.wave_tree.proofs.NodeCorrectness.TokenAlignment.{part_at}
 use Rattle.wave_grammar.proofs.NodeTexts.Slices.{taken_is, tokens_forward, tokens_source}
@@ -126,8 +126,8 @@ further_flags p q (f ∷ more) (m, k, comma_there, label_there, same, others) =
     let rest_of = further_flags k q more others in
     let comma_is = taken_is p m Comma comma_there in
     let label_is = taken_is m k LabelOrKeyword label_there in
-    let front : TakesTokens p (comma ∷ token.label (text_at k) ∷ []) k = (m, (Comma, comma_there, refl), (k, (LabelOrKeyword, label_there, refl), refl)) in
-    let source_k = tokens_source p k (comma ∷ token.label (text_at k) ∷ []) front in
+    let prefix : TakesTokens p (comma ∷ token.label (text_at k) ∷ []) k = (m, (Comma, comma_there, refl), (k, (LabelOrKeyword, label_there, refl), refl)) in
+    let source_k = tokens_source p k (comma ∷ token.label (text_at k) ∷ []) prefix in
     let after = tokens_forward k q rest_of.tokens rest_of.taken in
     let a1 = comma_is.end in let a2 = label_is.end in
     record {
@@ -145,7 +145,7 @@ further_flags p q (f ∷ more) (m, k, comma_there, label_there, same, others) =
           let whole = span o.lexer.end q.lexer.end in (
             subst (λ (z : Flag). StandsAtTokens o.lexer.source whole z.0) (sym same)
                 (part_at o m k k q (token.label (text_at k)) (before ++ comma ∷ []) [] rest_of.tokens (tokens_join o p m before (comma ∷ []) there (m, (Comma, comma_there, refl), refl)) (LabelOrKeyword, label_there, refl) refl rest_of.taken),
-            rest_of.places o (before ++ comma ∷ token.label (text_at k) ∷ []) (tokens_join o p k before (comma ∷ token.label (text_at k) ∷ []) there front),
+            rest_of.places o (before ++ comma ∷ token.label (text_at k) ∷ []) (tokens_join o p k before (comma ∷ token.label (text_at k) ∷ []) there prefix),
           );
       items = λ rest. (
         token.label (text_at k) ∷ (rest_of.tokens ++ rest),
@@ -168,7 +168,7 @@ flags_parsed n p m k q parsed h label_there e =
     let whole = span m.lexer.start q.lexer.end in
     let after = tokens_forward k q inner.tokens inner.taken in
     let a1 = label_is.end in
-    let good : IsSound p → AreFlagsOf p.lexer.source m.lexer.start q.lexer.end fs = λ sound.
+    let labelled : IsSound p → AreFlagsOf p.lexer.source m.lexer.start q.lexer.end fs = λ sound.
     (let m_sound = sound_next p m BraceOpen h sound in
     let ordered = in_order p m BraceOpen h in
     let one_flag = subst (λ z. IsFlagOf z m.lexer.end q.lexer.end first) brace_is.source (flag_there m k q.lexer.end label_there after m_sound) in
@@ -177,11 +177,11 @@ flags_parsed n p m k q parsed h label_there e =
       wider p.lexer.source k.lexer.end m.lexer.start q.lexer.end e.more (omega (arith, a1, ordered))
           (subst (λ z. AreFlagsOf z k.lexer.end q.lexer.end e.more) (label_is.source ∙ brace_is.source) (inner.are (sound_next m k LabelOrKeyword label_there m_sound))),
     )) in
-    made (n + 1) p m q brace_open (token.label (text_at k) ∷ inner.tokens) parsed (flags sorted) (BraceOpen, h, refl) (k, (LabelOrKeyword, label_there, refl), inner.taken)
+    built (n + 1) p m q brace_open (token.label (text_at k) ∷ inner.tokens) parsed (flags sorted) (BraceOpen, h, refl) (k, (LabelOrKeyword, label_there, refl), inner.taken)
     (λ sound. subst (λ z. placed_of p.lexer.source z ≡ Some (at whole (flags sorted))) (sym e.is)
-    (ap (λ o. option_map (at whole) (and_then o (shape_from kind.Flags whole (slice p.lexer.source whole)))) (nodes_mean p.lexer.source m.lexer.start q.lexer.end sorted (in_order_among p.lexer.source m.lexer.start q.lexer.end fs (good sound)))
+    (ap (λ o. option_map (at whole) (and_then o (shape_from kind.Flags whole (slice p.lexer.source whole)))) (nodes_mean p.lexer.source m.lexer.start q.lexer.end sorted (in_order_among p.lexer.source m.lexer.start q.lexer.end fs (labelled sound)))
     ∙ ap (λ o. option_map (at whole) (option_map flags o)) (flags_again sorted)))
-    (λ sound. flags_spell p.lexer.source whole sorted (in_order_among p.lexer.source m.lexer.start q.lexer.end fs (good sound)))
+    (λ sound. flags_spell p.lexer.source whole sorted (in_order_among p.lexer.source m.lexer.start q.lexer.end fs (labelled sound)))
     (let o = start_of p m in
     let brace_there = at_start p m brace_open (BraceOpen, h, refl) in
     places_in_order (StandsAtTokens p.lexer.source whole) fs (

@@ -88,9 +88,9 @@ type_of_items c (inl e) h = absurd (h e)
 type_of_items c (inr e) h = ap items_type e
 
 -- a node of items
-pub items_made : (n : ℕ) (close : lex.Token) (p q : Place) (ty : NodeType) (start : ℕ) (ns : List NodeTree) (parsed : NodeTree) → parsed ≡ node ty (span start q.lexer.end) (node_trees ns) → ty ≡ items_type close → start ≡ p.lexer.start →
+pub items_built : (n : ℕ) (close : lex.Token) (p q : Place) (ty : NodeType) (start : ℕ) (ns : List NodeTree) (parsed : NodeTree) → parsed ≡ node ty (span start q.lexer.end) (node_trees ns) → ty ≡ items_type close → start ≡ p.lexer.start →
     AreClosedItems n close p ns q → (close ≡ ParenClose → ns ≢ []) → IsOfItems n close p q parsed
-items_made n close p q ty start ns parsed is a b are some = record {
+items_built n close p q ty start ns parsed is a b are some = record {
   items = ns;
   are = are;
   some = some;
@@ -101,7 +101,7 @@ items_made n close p q ty start ns parsed is a b are some = record {
 pub items_none : (n : ℕ) (close : lex.Token) (p w q : Place) (start : ℕ) (ns : List NodeTree) (parsed : NodeTree) → parsed ≡ node kind.List (span start q.lexer.end) (node_trees ns) → ns ≡ [] → IsClose close → (close ≡ ParenClose → ⊥) → start ≡ p.lexer.start →
     w ≡ p → TakesClass close w q → IsOfItems n close p q parsed
 items_none n close p w q start ns parsed is none_there i apart b same h =
-    items_made n close p q kind.List start [] parsed (is ∙ ap (λ z. node kind.List (span start q.lexer.end) (node_trees z)) none_there) (sym (type_of_items close i apart)) b (subst (λ z. TakesClass close z q) same h) (λ e. absurd (apart e))
+    items_built n close p q kind.List start [] parsed (is ∙ ap (λ z. node kind.List (span start q.lexer.end) (node_trees z)) none_there) (sym (type_of_items close i apart)) b (subst (λ z. TakesClass close z q) same h) (λ e. absurd (apart e))
 
 -- before the first item
 pub items_first : (n : ℕ) (close : lex.Token) (p w : Place) (xs : List NodeTree) → xs ≡ [] → w ≡ p → (item : NodeTree) (m r : Place) (more : List NodeTree) → IsParsed n w m item → AreFurther n close m more r → AreClosedItems n close p (xs ++ item ∷ more) r

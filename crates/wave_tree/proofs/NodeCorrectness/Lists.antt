@@ -18,7 +18,7 @@ use Rattle.wave_tree.specs.ParsedNodes.{IsSound, IsParsed}
 use Rattle.wave_tree.specs.Private.ParsedNodes.{IsClosed, AreFurther, AreClosedItems, IsOfItems}
 use Rattle.wave_tree.specs.Private.TokenRoles.{IsClose}
 use Rattle.wave_grammar.specs.CommaSeparated.{Spelling, Closes, FurtherItems, Items}
-use Rattle.wave_tree.proofs.NodeCorrectness.Tokens.{in_order, sound_next, sound_tokens, start_of, at_start, made, takes_less}
+use Rattle.wave_tree.proofs.NodeCorrectness.Tokens.{in_order, sound_next, sound_tokens, start_of, at_start, built, takes_less}
 use Rattle.wave_tree.proofs.ParserCorrectness.Steps.{tokens_join}
 use Rattle.wave_tree.proofs.NodeCorrectness.TokenAlignment.{part_at}
 use Rattle.wave_grammar.proofs.NodeTexts.Slices.{taken_is, tokens_forward, tokens_source}
@@ -64,7 +64,7 @@ first_same e = cc
 pub no_paren_further : {A : Type 0} (c : lex.Token) (P : Spelling A) (tokens : List Token) (items : List A) (rest : List Token) → IsMark c → FurtherItems (token_of c []) P tokens items rest → NoParen tokens
 no_paren_further c P tokens [] rest mark (inl e) = λ more k. mark.apart (first_same (sym e ∙ k))
 no_paren_further c P tokens [] rest mark (inr e) = λ more k. let wrong : comma ≡ paren_open = first_same (sym e ∙ k) in cc
-no_paren_further c P tokens (t ∷ ts) rest mark (front, behind, e, h, k) = λ more f. let wrong : comma ≡ paren_open = first_same (sym e ∙ f) in cc
+no_paren_further c P tokens (t ∷ ts) rest mark (prefix, behind, e, h, k) = λ more f. let wrong : comma ≡ paren_open = first_same (sym e ∙ f) in cc
 
 -- items after an item
 further_spell : (c : lex.Token) (n : ℕ) (p q : Place) (ns : List NodeTree) → IsMark c → AreFurther n c p ns q → ItemsSpell n p q ns (FurtherItems (token_of c []) (tree.Takes n))
@@ -76,17 +76,17 @@ further_spell c n p q (item ∷ more) mark (m, w, a, h, others) =
     let comma_is = taken_is p m Comma a in
     let first_is = taken_is m h.first h.begins.0 h.begins.1 in
     let b = comma_is.end in let d = first_is.start in
-    let front = behind_comma p m w n item a h in
+    let prefix = behind_comma p m w n item a h in
     let item_taken : TakesTokens m (h.token ∷ h.others) w = (h.first, h.begins, h.taken) in
     let source_m = comma_is.source in
-    let source_w = tokens_source p w (comma ∷ h.token ∷ h.others) front in
+    let source_w = tokens_source p w (comma ∷ h.token ∷ h.others) prefix in
     record {
       tokens = (comma ∷ h.token ∷ h.others) ++ rest_of.tokens;
-      taken = tokens_join p w q (comma ∷ h.token ∷ h.others) rest_of.tokens front rest_of.taken;
+      taken = tokens_join p w q (comma ∷ h.token ∷ h.others) rest_of.tokens prefix rest_of.taken;
       means = h.placed ∷ rest_of.means;
       means_them = λ sound.
           let inner = subst (λ z. placed_of z item ≡ Some h.placed) source_m (h.is_node (sound_next p m Comma a sound)).0 in
-          let outer = subst (λ z. all_placed z (node_trees more) ≡ Some rest_of.means) source_w (rest_of.means_them (sound_tokens p w (comma ∷ h.token ∷ h.others) front sound)) in
+          let outer = subst (λ z. all_placed z (node_trees more) ≡ Some rest_of.means) source_w (rest_of.means_them (sound_tokens p w (comma ∷ h.token ∷ h.others) prefix sound)) in
           ap (λ o. with_both (λ t ts. t ∷ ts) o (all_placed p.lexer.source (node_trees more))) inner ∙ ap (λ o. with_both (λ t ts. t ∷ ts) (Some h.placed) o) outer;
       spell = λ sound from l.
           let end_is : (span_of h.placed).end ≡ w.lexer.end = ap (λ (z : Range ℕ). z.end) h.spans in
@@ -95,12 +95,12 @@ further_spell c n p q (item ∷ more) mark (m, w, a, h, others) =
             (omega (arith, l, b, d, start_is), omega (arith, end_is, after)),
             subst (λ z. SpellsEach z h.placed) source_m (h.is_node (sound_next p m Comma a sound)).1,
             subst (λ z. SpellsAll z (span_of h.placed).end q.lexer.end (placed_trees rest_of.means)) source_w
-                (rest_of.spell (sound_tokens p w (comma ∷ h.token ∷ h.others) front sound) (span_of h.placed).end (omega (arith, end_is))),
+                (rest_of.spell (sound_tokens p w (comma ∷ h.token ∷ h.others) prefix sound) (span_of h.placed).end (omega (arith, end_is))),
           );
       places = λ o before there. (
         subst (λ (z : Range ℕ). StandsAtTokens o.lexer.source (span o.lexer.end q.lexer.end) z) (sym h.spans)
             (part_at o m h.first w q h.token (before ++ comma ∷ []) h.others rest_of.tokens (tokens_join o p m before (comma ∷ []) there (m, (Comma, a, refl), refl)) h.begins h.taken rest_of.taken),
-        rest_of.places o (before ++ comma ∷ h.token ∷ h.others) (tokens_join o p w before (comma ∷ h.token ∷ h.others) there front),
+        rest_of.places o (before ++ comma ∷ h.token ∷ h.others) (tokens_join o p w before (comma ∷ h.token ∷ h.others) there prefix),
       );
       items = λ rest.
           let more_items = rest_of.items rest in (
@@ -129,14 +129,14 @@ items_spell c n p q (item ∷ more) mark (w, h, others) =
     let rest_of = further_spell c n w q more mark others in
     let first_is = taken_is p h.first h.begins.0 h.begins.1 in
     let d = first_is.start in
-    let front : TakesTokens p (h.token ∷ h.others) w = (h.first, h.begins, h.taken) in
-    let source_w = tokens_source p w (h.token ∷ h.others) front in
+    let prefix : TakesTokens p (h.token ∷ h.others) w = (h.first, h.begins, h.taken) in
+    let source_w = tokens_source p w (h.token ∷ h.others) prefix in
     record {
       tokens = (h.token ∷ h.others) ++ rest_of.tokens;
-      taken = tokens_join p w q (h.token ∷ h.others) rest_of.tokens front rest_of.taken;
+      taken = tokens_join p w q (h.token ∷ h.others) rest_of.tokens prefix rest_of.taken;
       means = h.placed ∷ rest_of.means;
       means_them = λ sound.
-          let outer = subst (λ z. all_placed z (node_trees more) ≡ Some rest_of.means) source_w (rest_of.means_them (sound_tokens p w (h.token ∷ h.others) front sound)) in
+          let outer = subst (λ z. all_placed z (node_trees more) ≡ Some rest_of.means) source_w (rest_of.means_them (sound_tokens p w (h.token ∷ h.others) prefix sound)) in
           ap (λ o. with_both (λ t ts. t ∷ ts) o (all_placed p.lexer.source (node_trees more))) (h.is_node sound).0 ∙ ap (λ o. with_both (λ t ts. t ∷ ts) (Some h.placed) o) outer;
       spell = λ sound from l.
           let end_is : (span_of h.placed).end ≡ w.lexer.end = ap (λ (z : Range ℕ). z.end) h.spans in
@@ -145,11 +145,11 @@ items_spell c n p q (item ∷ more) mark (w, h, others) =
             (omega (arith, l, d, start_is), omega (arith, end_is, after)),
             (h.is_node sound).1,
             subst (λ z. SpellsAll z (span_of h.placed).end q.lexer.end (placed_trees rest_of.means)) source_w
-                (rest_of.spell (sound_tokens p w (h.token ∷ h.others) front sound) (span_of h.placed).end (omega (arith, end_is))),
+                (rest_of.spell (sound_tokens p w (h.token ∷ h.others) prefix sound) (span_of h.placed).end (omega (arith, end_is))),
           );
       places = λ o before there. (
         subst (λ (z : Range ℕ). StandsAtTokens o.lexer.source (span o.lexer.end q.lexer.end) z) (sym h.spans) (part_at o p h.first w q h.token before h.others rest_of.tokens there h.begins h.taken rest_of.taken),
-        rest_of.places o (before ++ h.token ∷ h.others) (tokens_join o p w before (h.token ∷ h.others) there front),
+        rest_of.places o (before ++ h.token ∷ h.others) (tokens_join o p w before (h.token ∷ h.others) there prefix),
       );
       items = λ rest.
           let more_items = rest_of.items rest in (
@@ -176,7 +176,7 @@ tuple_parsed n p m q parsed l h k =
     let inner = items_spell ParenClose (n - 1) m q k.items (close_mark ParenClose (inl refl)) k.are in
     let it = taken_is p m ParenOpen h in
     let whole = span m.lexer.start q.lexer.end in
-    made n p m q paren_open inner.tokens parsed (placed.tuple (placed_trees inner.means)) (ParenOpen, h, refl) inner.taken
+    built n p m q paren_open inner.tokens parsed (placed.tuple (placed_trees inner.means)) (ParenOpen, h, refl) inner.taken
     (λ sound. subst (λ z. placed_of p.lexer.source z ≡ Some (at whole (placed.tuple (placed_trees inner.means)))) (sym k.is)
     (ap (λ o. option_map (at whole) (and_then o (shape_from kind.Tuple whole (slice p.lexer.source whole))))
     (subst (λ z. all_placed z (node_trees k.items) ≡ Some inner.means) it.source (inner.means_them (sound_next p m ParenOpen h sound)))))
@@ -192,7 +192,7 @@ list_parsed n p m q parsed l h k =
     let inner = items_spell BracketClose (n - 1) m q k.items (close_mark BracketClose (inr refl)) k.are in
     let it = taken_is p m BracketOpen h in
     let whole = span m.lexer.start q.lexer.end in
-    made n p m q bracket_open inner.tokens parsed (placed.list (placed_trees inner.means)) (BracketOpen, h, refl) inner.taken
+    built n p m q bracket_open inner.tokens parsed (placed.list (placed_trees inner.means)) (BracketOpen, h, refl) inner.taken
     (λ sound. subst (λ z. placed_of p.lexer.source z ≡ Some (at whole (placed.list (placed_trees inner.means)))) (sym k.is)
     (ap (λ o. option_map (at whole) (and_then o (shape_from kind.List whole (slice p.lexer.source whole))))
     (subst (λ z. all_placed z (node_trees k.items) ≡ Some inner.means) it.source (inner.means_them (sound_next p m BracketOpen h sound)))))

@@ -1,12 +1,12 @@
 -- The parts of a node stand at tokens of its slice.
 use Rattle.std.proofs.Common.{◌≡◌, ℕ, ◌≤◌, ◌+◌, ◌-◌, List, ◌∷◌, ◌++◌, sym, ap, subst, ◌∙◌, take, drop, arith, map}
 use Rattle.std.proofs.lemmas.List.{drop-drop}
-use Rattle.wave_lex.specs.Tokenization.{IsGap, Front, remainder_of, span}
+use Rattle.wave_lex.specs.Tokenization.{IsWhitespace, Prefix, remainder_of, span}
 use Rattle.wave_grammar.specs.Token.{Token, lexeme_of}
 use Rattle.wave_grammar.specs.ParserPosition.{Place, TakesToken, TakesTokens}
 use Rattle.wave_grammar.specs.SpannedTree.{slice, EndsToken, BeginsToken, StandsAtTokens}
 use Rattle.wave_tree.proofs.ParserCorrectness.Steps.{tokens_join}
-use Rattle.wave_grammar.proofs.NodeTexts.Slices.{taken_is, tokens_forward, tokens_source, tokens_front, gap_cut, drop_cut}
+use Rattle.wave_grammar.proofs.NodeTexts.Slices.{taken_is, tokens_forward, tokens_source, tokens_prefix, whitespace_cut, drop_cut}
 
 -- what is left of a slice after its first tokens
 left_of : (p a : Place) (n : ℕ) → a.lexer.source ≡ p.lexer.source → p.lexer.end ≤ a.lexer.end → a.lexer.end - p.lexer.end ≤ n →
@@ -25,7 +25,7 @@ ends_token p a q before rest h k =
     let b = tokens_forward p a before h in
     let c = tokens_forward a q rest k in
     let left = left_of p a n (tokens_source p a before h) b (omega (arith, b, c)) in
-    (before, subst (λ z. Front (take n (remainder_of p.lexer)) (map lexeme_of before) z) (sym left) (tokens_front p a before n h (omega (arith, b, c))))
+    (before, subst (λ z. Prefix (take n (remainder_of p.lexer)) (map lexeme_of before) z) (sym left) (tokens_prefix p a before n h (omega (arith, b, c))))
 
 -- the next token begins after whitespace
 begins_token : (p a f q : Place) (u : Token) (before rest : List Token) → TakesTokens p before a → TakesToken a u f → TakesTokens f rest q →
@@ -42,7 +42,7 @@ begins_token p a f q u before rest h (c, one, e) k =
       d,
       it.g,
       ends_token p a q before (u ∷ rest) h (f, (c, one, e), k),
-      subst (λ z. IsGap z it.g) (sym left) (gap_cut (remainder_of a.lexer) it.g (n - d) (omega (arith, b, end, behind)) it.gap_is),
+      subst (λ z. IsWhitespace z it.g) (sym left) (whitespace_cut (remainder_of a.lexer) it.g (n - d) (omega (arith, b, end, behind)) it.whitespace_is),
       omega (arith, b, start),
     )
 

@@ -11,12 +11,12 @@ use Rattle.wave_wasm.specs.Lists.{AllOf}
 use Rattle.wave_wasm.specs.Names.{is_one_of}
 use Rattle.wave_lex.specs.declared.lex.Token as lex
 use Rattle.wave_lex.specs.declared.lex.Token.TheVariants.{ParenOpen, ParenClose, Number, LabelOrKeyword, Char, String, MultilineString}
-use Rattle.wave_lex.specs.Tokens.{shape, gap}
-use Rattle.wave_lex.specs.Tokenization.{IsGap, IsLongestToken, Front, remainder_of, span, Stands}
+use Rattle.wave_lex.specs.Tokens.{shape, whitespace}
+use Rattle.wave_lex.specs.Tokenization.{IsWhitespace, IsLongestToken, Prefix, remainder_of, span, Stands}
 use Rattle.wave_lex.specs.Classes.{class_of}
 use Rattle.wave_lex.proofs.Tokenization.Classes.{token_shows, shape_not_empty}
-use Rattle.wave_lex.proofs.LongestPrefix.ByComputing.{front_positive}
-use Rattle.wave_lex.proofs.LongestPrefix.MachineWalks.{front_boundary}
+use Rattle.wave_lex.proofs.LongestPrefix.ByComputing.{prefix_positive}
+use Rattle.wave_lex.proofs.LongestPrefix.MachineWalks.{prefix_boundary}
 use Rattle.wave_grammar.specs.Token as token
 use Rattle.wave_grammar.specs.Token.{Token, lexeme_of, paren_open, paren_close, brace_open, brace_close, bracket_open, bracket_close, colon, comma}
 use Rattle.wave_grammar.specs.ParserPosition.{Place, TakesItem, TakesToken, TakesTokens, token_of, text_at, span_at}
@@ -32,22 +32,22 @@ use Rattle.wave_tree.specs.ParsedNodes.{IsSound, IsParsed}
 use Rattle.wave_tree.specs.Private.ParsedNodes.{IsPayload, IsMaybe}
 use Rattle.wave_tree.proofs.ParserCorrectness.Steps.{tokens_join, token_there}
 use Rattle.wave_tree.proofs.NodeCorrectness.TokenAlignment.{part_at}
-use Rattle.wave_grammar.proofs.NodeTexts.Slices.{Taken, taken_is, gap_zero, tokens_front, tokens_forward, gap_none}
+use Rattle.wave_grammar.proofs.NodeTexts.Slices.{Taken, taken_is, whitespace_zero, tokens_prefix, tokens_forward, whitespace_none}
 
 -- ---- sound places
 
 -- how a token splits what is left at a sound place
-record Cuts (p q : Place) (c : lex.Token) (it : Taken p q c) : Type 0 where
-  pub gap_cut : IsCharBoundary (remainder_of p.lexer) it.g
-  pub behind_gap : IsUtf8 (drop it.g (remainder_of p.lexer))
+record Tokenizes (p q : Place) (c : lex.Token) (it : Taken p q c) : Type 0 where
+  pub whitespace_cut : IsCharBoundary (remainder_of p.lexer) it.g
+  pub behind_whitespace : IsUtf8 (drop it.g (remainder_of p.lexer))
   pub token_cut : IsCharBoundary (drop it.g (remainder_of p.lexer)) it.k
 
-cuts_of : (p q : Place) (c : lex.Token) (it : Taken p q c) → IsSound p → Cuts p q c it
+cuts_of : (p q : Place) (c : lex.Token) (it : Taken p q c) → IsSound p → Tokenizes p q c it
 cuts_of p q c it sound =
     let r = remainder_of p.lexer in
-    let g_cut : IsCharBoundary r it.g = front_boundary gap r it.g sound it.gap_is.0 in
+    let g_cut : IsCharBoundary r it.g = prefix_boundary whitespace r it.g sound it.whitespace_is.0 in
     let t_utf8 : IsUtf8 (drop it.g r) = IsUtf8-drop r it.g sound g_cut in
-    record { gap_cut = g_cut; behind_gap = t_utf8; token_cut = front_boundary (shape c) (drop it.g r) it.k t_utf8 it.token_is.is.0 }
+    record { whitespace_cut = g_cut; behind_whitespace = t_utf8; token_cut = prefix_boundary (shape c) (drop it.g r) it.k t_utf8 it.token_is.is.0 }
 
 -- after a token of a sound place a place is sound
 pub sound_next : (p q : Place) (c : lex.Token) → TakesItem p (Some (Ok c)) q → IsSound p → IsSound q
@@ -55,7 +55,7 @@ sound_next p q c h sound =
     let it = taken_is p q c h in
     let cuts = cuts_of p q c it sound in
     let r = remainder_of p.lexer in
-    subst IsUtf8 (drop-drop it.k it.g r ∙ sym it.left) (IsUtf8-drop (drop it.g r) it.k cuts.behind_gap cuts.token_cut)
+    subst IsUtf8 (drop-drop it.k it.g r ∙ sym it.left) (IsUtf8-drop (drop it.g r) it.k cuts.behind_whitespace cuts.token_cut)
 
 -- the span of a token
 pub in_order : (p q : Place) (c : lex.Token) → TakesItem p (Some (Ok c)) q → q.lexer.start ≤ q.lexer.end
@@ -67,7 +67,7 @@ not_empty p q c h =
     let it = taken_is p q c h in
     let a = it.start in
     let b = it.end in
-    let some : 0 < it.k = front_positive (shape c) (drop it.g (remainder_of p.lexer)) it.k (shape_not_empty c) it.token_is.is.0 in
+    let some : 0 < it.k = prefix_positive (shape c) (drop it.g (remainder_of p.lexer)) it.k (shape_not_empty c) it.token_is.is.0 in
     omega (arith, a, b, some)
 
 -- the source is split where the token stands
@@ -76,11 +76,11 @@ stands_after p q c h sound =
     let it = taken_is p q c h in
     let cuts = cuts_of p q c it sound in
     let s = p.lexer.source in
-    let some : 0 < it.k = front_positive (shape c) (drop it.g (remainder_of p.lexer)) it.k (shape_not_empty c) it.token_is.is.0 in
+    let some : 0 < it.k = prefix_positive (shape c) (drop it.g (remainder_of p.lexer)) it.k (shape_not_empty c) it.token_is.is.0 in
     let fits = it.token_is.is.0.fits in
     let within : p.lexer.end ≤ length s = omega (arith, some, fits, length-drop it.g (remainder_of p.lexer), length-drop p.lexer.end s) in
     let there : p.lexer.end + it.g ≤ length s = omega (arith, some, fits, within, length-drop it.g (remainder_of p.lexer), length-drop p.lexer.end s) in
-    let first : IsCharBoundary s (p.lexer.end + it.g) = IsCharBoundary-from_rest s p.lexer.end it.g within cuts.gap_cut in
+    let first : IsCharBoundary s (p.lexer.end + it.g) = IsCharBoundary-from_rest s p.lexer.end it.g within cuts.whitespace_cut in
     let last : IsCharBoundary s (p.lexer.end + it.g + it.k) = IsCharBoundary-from_rest s (p.lexer.end + it.g) it.k there (subst (λ z. IsCharBoundary z it.k) (drop-drop it.g p.lexer.end s) cuts.token_cut) in
     record {
       ordered = in_order p q c h;
@@ -118,7 +118,7 @@ at_start p m t (c, h, e) =
           it.k,
           record {
             source = it.source;
-            skipped = subst (λ z. IsGap z 0) (sym left) (gap_none (drop it.g (remainder_of p.lexer)) it.k c it.token_is.is);
+            skipped = subst (λ z. IsWhitespace z 0) (sym left) (whitespace_none (drop it.g (remainder_of p.lexer)) it.k c it.token_is.is);
             start = omega arith;
             end = (let a = it.start in let b = it.end in omega (arith, a, b));
           },
@@ -141,33 +141,33 @@ holds p m q t ts sound (c, h, e) more =
     let n = q.lexer.end - m.lexer.start in
     let left : remainder_of (start_of p m).lexer ≡ drop it.g (remainder_of p.lexer) = ap (λ z. drop z p.lexer.source) it.start ∙ sym (drop-drop it.g p.lexer.end p.lexer.source) in
     let all : TakesTokens (start_of p m) (t ∷ ts) q = (m, at_start p m t (c, h, e), more) in
-    let front = tokens_front (start_of p m) q (t ∷ ts) n all (omega (arith, ordered)) in
+    let prefix = tokens_prefix (start_of p m) q (t ∷ ts) n all (omega (arith, ordered)) in
     let nothing : n - (q.lexer.end - m.lexer.start) ≡ 0 = omega arith in (
       record {
         ordered = ordered;
         first = mid.first;
         last = subst (λ z. IsCharBoundary z q.lexer.end) it.source (cut_behind m q ts more (sound_next p m c h sound) (subst (λ z. IsCharBoundary z m.lexer.end) (sym it.source) mid.last));
       },
-      gap_first it left a b,
-      subst (λ z. Front (take n (drop m.lexer.start s)) (map lexeme_of (t ∷ ts)) (take z (remainder_of q.lexer))) nothing front,
+      whitespace_first it left a b,
+      subst (λ z. Prefix (take n (drop m.lexer.start s)) (map lexeme_of (t ∷ ts)) (take z (remainder_of q.lexer))) nothing prefix,
     )
   where
-    gap_first : (it : Taken p m c) → remainder_of (start_of p m).lexer ≡ drop it.g (remainder_of p.lexer) → m.lexer.start ≤ m.lexer.end → m.lexer.end ≤ q.lexer.end → IsGap (slice p.lexer.source (span m.lexer.start q.lexer.end)) 0
-    gap_first it left a b =
+    whitespace_first : (it : Taken p m c) → remainder_of (start_of p m).lexer ≡ drop it.g (remainder_of p.lexer) → m.lexer.start ≤ m.lexer.end → m.lexer.end ≤ q.lexer.end → IsWhitespace (slice p.lexer.source (span m.lexer.start q.lexer.end)) 0
+    whitespace_first it left a b =
         let n = q.lexer.end - m.lexer.start in
         let c1 = it.start in
         let c2 = it.end in
-        gap_zero (drop m.lexer.start p.lexer.source) n (subst (λ z. IsGap z 0) (sym left) (gap_none (drop it.g (remainder_of p.lexer)) it.k c it.token_is.is))
+        whitespace_zero (drop m.lexer.start p.lexer.source) n (subst (λ z. IsWhitespace z 0) (sym left) (whitespace_none (drop it.g (remainder_of p.lexer)) it.k c it.token_is.is))
 
 -- ---- how a node is made
 
 -- what a node means whose first token and last are these
-pub made : (n : ℕ) (p m q : Place) (t : Token) (ts : List Token) (parsed : NodeTree) (s : SpannedShape) → TakesToken p t m → TakesTokens m ts q →
+pub built : (n : ℕ) (p m q : Place) (t : Token) (ts : List Token) (parsed : NodeTree) (s : SpannedShape) → TakesToken p t m → TakesTokens m ts q →
     (IsSound p → placed_of p.lexer.source parsed ≡ Some (at (span m.lexer.start q.lexer.end) s)) →
     (IsSound p → SpellsParts p.lexer.source (span m.lexer.start q.lexer.end) s) →
     AllOf (StandsAtTokens p.lexer.source (span m.lexer.start q.lexer.end)) (part_places s) →
     ((rest : List Token) → NoParen rest → tree.Takes n (t ∷ (ts ++ rest)) (tree_of_shape s) rest) → IsParsed n p q parsed
-made n p m q t ts parsed s first others means parts places takes = record {
+built n p m q t ts parsed s first others means parts places takes = record {
   first = m;
   token = t;
   others = ts;
@@ -196,7 +196,7 @@ pub one_token : (n : ℕ) (p m : Place) (c : lex.Token) (ty : NodeType) (s : Spa
     AllOf (StandsAtTokens p.lexer.source (span_at m)) (part_places s) →
     ((rest : List Token) → NoParen rest → tree.Takes n (token_of c (text_at m) ∷ rest) (tree_of_shape s) rest) → IsParsed n p m (node ty (span_at m) no_nodes)
 one_token n p m c ty s h shape_is parts places takes =
-    made n p m m (token_of c (text_at m)) [] (node ty (span_at m) no_nodes) s (token_there p m c h) refl
+    built n p m m (token_of c (text_at m)) [] (node ty (span_at m) no_nodes) s (token_there p m c h) refl
     (λ sound. ap (option_map (at (span_at m))) (ap (λ z. shape_from ty (span_at m) (slice_range z m.lexer.start m.lexer.end) []) (sym (taken_is p m c h).source) ∙ shape_is))
     parts places takes
 
@@ -264,8 +264,8 @@ record InParentheses (n : ℕ) (m q : Place) (payload : NodeTree) : Type 0 where
   pub there : (p : Place) (t : Token) → TakesToken p t m → StandsAtTokens p.lexer.source (span p.lexer.end q.lexer.end) (span_of means)
   pub inside : (rest : List Token) → InParens (tree.Takes n) (others ++ rest) (tree_of means) rest
 
-in_parentheses : (n : ℕ) (m w q : Place) (ty : NodeType) (start : ℕ) (front : List NodeTree) (parsed : NodeTree) → TakesItem m (Some (Ok ParenOpen)) w → (h : IsPayload n ty start front w q parsed) → InParentheses n m q h.payload
-in_parentheses n m w q ty start front parsed open_there h =
+in_parentheses : (n : ℕ) (m w q : Place) (ty : NodeType) (start : ℕ) (prefix : List NodeTree) (parsed : NodeTree) → TakesItem m (Some (Ok ParenOpen)) w → (h : IsPayload n ty start prefix w q parsed) → InParentheses n m q h.payload
+in_parentheses n m w q ty start prefix parsed open_there h =
     let inner = h.inner in
     let open_is = taken_is m w ParenOpen open_there in
     let inner_taken : TakesTokens w (inner.token ∷ inner.others) h.behind = (inner.first, inner.begins, inner.taken) in
@@ -301,7 +301,7 @@ payload_parsed n p m w q ty word whole parsed shape spells places behind h word_
     let lies = inner.lies in
     let place = span m.lexer.start q.lexer.end in
     let text = slice p.lexer.source place in
-    made (n + 1) p m q (token.label (text_at m)) inner.others parsed (whole inner.means) (token_there p m LabelOrKeyword h) inner.taken
+    built (n + 1) p m q (token.label (text_at m)) inner.others parsed (whole inner.means) (token_there p m LabelOrKeyword h) inner.taken
     (λ sound. subst (λ z. placed_of p.lexer.source z ≡ Some (at place (whole inner.means))) (sym k.is)
     (ap (λ o. option_map (at place) (and_then (with_both (λ t ts. t ∷ ts) o (Some [])) (shape_from ty place text)))
     (subst (λ z. placed_of z k.payload ≡ Some inner.means) it.source (inner.means_it (sound_next p m LabelOrKeyword h sound)))
@@ -357,7 +357,7 @@ case_parsed n p m q parsed h word_is (inr (w, open_there, k)) =
     let it = taken_is p m LabelOrKeyword h in
     let lies = inner.lies in
     let whole = span m.lexer.start q.lexer.end in
-    made (n + 1) p m q (token.label (text_at m)) inner.others parsed (label (span_at m) (text_at m) (a_placed inner.means)) (token_there p m LabelOrKeyword h) inner.taken
+    built (n + 1) p m q (token.label (text_at m)) inner.others parsed (label (span_at m) (text_at m) (a_placed inner.means)) (token_there p m LabelOrKeyword h) inner.taken
     (λ sound. subst (λ z. placed_of p.lexer.source z ≡ Some (at whole (label (span_at m) (text_at m) (a_placed inner.means)))) (sym k.is)
     (ap (λ o. option_map (at whole) (and_then (with_both (λ t ts. t ∷ ts) (Some (at (span_at m) (label (span_at m) (slice p.lexer.source (span_at m)) no_placed))) (with_both (λ t ts. t ∷ ts) o (Some [])))
     (shape_from kind.VariantWithPayload whole (slice p.lexer.source whole))))

@@ -16,19 +16,19 @@ use Rattle.wave_grammar.specs.ErrorSpans.{RefusesIn, RefusesAt, RefusesInPart}
 use Rattle.wave_grammar.specs.NodeTree.{NodeTree, type_of, place_of}
 use Rattle.wave_grammar.specs.declared.form.NodeType.{NodeType}
 use Rattle.wave_grammar.specs.declared.form.NodeType.TheVariants as kind
-use Rattle.wave_read.specs.Flat.{IsAround, IsAroundWhereDue}
+use Rattle.wave_read.specs.Flat.{IsAround, IsAroundWhereExpected}
 use Rattle.wave_grammar.specs.NodeAccessors.{RefusedAs}
 use Rattle.wave_grammar.specs.PartReading.{IsCaused}
-use Rattle.wave_read.specs.Reading.{IsReadAs, IsReadWhereDue}
+use Rattle.wave_read.specs.Reading.{IsReadAs, IsReadWhereExpected}
 use Rattle.wave_tree.specs.KeywordNodes.{RefusesKeyword}
 
 module _ {V S : Type 0} (tree : V → Value) (of : V → TypeTree → Type 0) (Full : TypeTree → Type 0) (o w : Order) (type_tree : S → TypeTree) where
-  -- where this type is due, it is what is read at the type
-  pub due_read : (source : List ℕ) (n : NodeTree) (due : Option (Bor S)) (ty : Bor S) (r : Result V Diagnostic) → due ≡ Some ty → IsReadWhereDue tree of Full o w (shown type_tree due) source n r → IsReadAs tree of Full o w (type_tree ty.now) source n r
-  due_read source n due ty r e h = subst (λ (d : Option (Bor S)). IsReadWhereDue tree of Full o w (shown type_tree d) source n r) e h
+  -- where this type is expected, it is what is read at the type
+  pub expected_read : (source : List ℕ) (n : NodeTree) (expected : Option (Bor S)) (ty : Bor S) (r : Result V Diagnostic) → expected ≡ Some ty → IsReadWhereExpected tree of Full o w (shown type_tree expected) source n r → IsReadAs tree of Full o w (type_tree ty.now) source n r
+  expected_read source n expected ty r e h = subst (λ (d : Option (Bor S)). IsReadWhereExpected tree of Full o w (shown type_tree d) source n r) e h
 
-  -- that of a record, where one is due at entries
-  pub record_read : (source : List ℕ) (n : NodeTree) (due : Option TypeTree) (around : Option (Bor S)) (x : Bor S) (r : Result V Diagnostic) → type_of n ≡ kind.TupleSet → IsAroundWhereDue type_tree due kind.TupleSet around x → ((T : TypeTree) → IsAround type_tree T (type_of n) around x → IsReadAs tree of Full o w T source n r) → IsReadWhereDue tree of Full o w due source n r
+  -- that of a record, where one is expected at entries
+  pub record_read : (source : List ℕ) (n : NodeTree) (expected : Option TypeTree) (around : Option (Bor S)) (x : Bor S) (r : Result V Diagnostic) → type_of n ≡ kind.TupleSet → IsAroundWhereExpected type_tree expected kind.TupleSet around x → ((T : TypeTree) → IsAround type_tree T (type_of n) around x → IsReadAs tree of Full o w T source n r) → IsReadWhereExpected tree of Full o w expected source n r
   record_read source n None around x r set is read = tt
   record_read source n (Some T) around x r set is read = read T (subst (λ (ty : NodeType). IsAround type_tree T ty around x) (sym set) is)
 
@@ -42,14 +42,14 @@ where_none None step h = step h
 where_none (Some x) step h = tt
 
 -- a refusal of a field's node stands in it
-pub field_told : {V : Type 0} (n : NodeTree) (o : Option NodeTree) (m : NodeTree) (r : Result V Diagnostic) → o ≡ Some m → IfErr r (RefusesIn m) → IfErr r (RefusesInPart n o)
-field_told n o m (Ok v) is h = tt
-field_told n o m (Err e) is h = inr (m, is, h)
+pub field_reported : {V : Type 0} (n : NodeTree) (o : Option NodeTree) (m : NodeTree) (r : Result V Diagnostic) → o ≡ Some m → IfErr r (RefusesIn m) → IfErr r (RefusesInPart n o)
+field_reported n o m (Ok v) is h = tt
+field_reported n o m (Err e) is h = inr (m, is, h)
 
 -- that of a field without a node stands at the record
-pub left_told : {V : Type 0} (n : NodeTree) (o : Option NodeTree) (r : Result V Diagnostic) → (p : Range ℕ) → place_of n ≡ p → IfErr r (λ e. (m : NodeTree) → place_of m ≡ p → RefusesAt m e) → IfErr r (RefusesInPart n o)
-left_told n o (Ok v) p here h = tt
-left_told n o (Err e) p here h = inl (h n here)
+pub left_reported : {V : Type 0} (n : NodeTree) (o : Option NodeTree) (r : Result V Diagnostic) → (p : Range ℕ) → place_of n ≡ p → IfErr r (λ e. (m : NodeTree) → place_of m ≡ p → RefusesAt m e) → IfErr r (RefusesInPart n o)
+left_reported n o (Ok v) p here h = tt
+left_reported n o (Err e) p here h = inl (h n here)
 
 -- entries are no tuple and no list
 pub set_no_row : (ty : NodeType) → ty ≡ kind.TupleSet → (ty ≡ kind.Tuple) ⊎ (ty ≡ kind.List) → ⊥

@@ -165,7 +165,7 @@ key_from source n (at q (one (token.multiline w))) p key i is = i.from.0
 key_from source n _ p key i is = absurd (cc)
 
 pub key_alone : (source : List ℕ) (n : NodeTree) → IsKeyOf source n → IsAlone n
-key_alone source n (p, key, ((t, is, holds), front)) =
+key_alone source n (p, key, ((t, is, holds), prefix)) =
     let i = inside source n t is in
     childless source n t i (key_from source n t p key i holds)
 
@@ -247,20 +247,20 @@ taken_none ns i lt e = omega (arith, length-take-le i ns (omega arith), ap lengt
 taken_one : (ns : List NodeTree) (i : ℕ) → i < length ns → length (take i ns) ≡ 1 → i ≡ 1
 taken_one ns i lt e = omega (arith, length-take-le i ns (omega arith))
 
--- the child that is due as a key is one
+-- the child that is expected as a key is one
 key_at : (source : List ℕ) (n : NodeTree) (ty : NodeType) (i : ℕ) (m : NodeTree) → type_of n ≡ ty → IsValueOf source n → TakesKey ty (take i (children_of n)) → i < length (children_of n) → m ≡ get_or (children_of n) i m → IsKeyOf source m
 key_at source n kind.TupleSet i m e v (k, long) lt is = key_turn source (children_of n) i k m (set_turns source n v e) (sym (length-take-le i (children_of n) (omega arith)) ∙ long) lt is
-key_at source n kind.VariantWithPayload i m e v front lt is =
+key_at source n kind.VariantWithPayload i m e v prefix lt is =
     let c = case_turns source n v e in
-    let first : m ≡ get_or (children_of n) 0 m = is ∙ ap (λ (j : ℕ). get_or (children_of n) j m) (taken_none (children_of n) i lt front) in
+    let first : m ≡ get_or (children_of n) 0 m = is ∙ ap (λ (j : ℕ). get_or (children_of n) j m) (taken_none (children_of n) i lt prefix) in
     subst (IsKeyOf source) (sym (first ∙ ap (λ (l : List NodeTree). get_or l 0 m) c.children)) c.named
-key_at source n _ i m e v front lt is = absurd front
+key_at source n _ i m e v prefix lt is = absurd prefix
 
 -- in a case
 pub case_next : (source : List ℕ) (n : NodeTree) (i : ℕ) (b : Bool) → IsValueOf source n → type_of n ≡ kind.VariantWithPayload → i < length (children_of n) → eqb i 0 ≡ b → IsNext kind.VariantWithPayload (children_of n) i b
 case_next source n i true v e lt is =
-    let front : i ≡ 0 = grind (arith, nat_tests, is) in
-    ap (λ (j : ℕ). take j (children_of n)) front
+    let prefix : i ≡ 0 = grind (arith, nat_tests, is) in
+    ap (λ (j : ℕ). take j (children_of n)) prefix
 case_next source n i false v e lt is =
     let c = case_turns source n v e in
     let apart : i ≢ 0 = λ z. grind (arith, nat_tests, is, z) in
@@ -277,36 +277,36 @@ if_false A true h e = absurd (cc)
 if_false A false h e = h
 
 pub key_child : (source : List ℕ) (n : NodeTree) (ns : List NodeTree) (i : ℕ) (m : NodeTree) → IsValueOf source n → ns ≡ children_of n → TakesKey (type_of n) (take i (children_of n)) → i < length ns → m ≡ get_or ns i m → IsKeyOf source m
-key_child source n ns i m v same front lt is = key_at source n (type_of n) i m refl v front (subst (λ (l : List NodeTree). i < length l) same lt) (subst (λ (l : List NodeTree). m ≡ get_or l i m) same is)
+key_child source n ns i m v same prefix lt is = key_at source n (type_of n) i m refl v prefix (subst (λ (l : List NodeTree). i < length l) same lt) (subst (λ (l : List NodeTree). m ≡ get_or l i m) same is)
 
 first_value : (source : List ℕ) (ns : List NodeTree) (m : NodeTree) (payload : MaybePlaced) → IsPayloadNodeOf source (first_of ns) payload → 0 < length ns → m ≡ get_or ns 0 m → IsValueOf source m
 first_value source [] m payload h lt is = absurd (omega (arith, lt))
 first_value source (n ∷ ns) m no_placed h lt is = absurd h
 first_value source (n ∷ ns) m (a_placed t) h lt is = (t, subst (λ (k : NodeTree). IsNodeOf source k t) (sym is) h)
 
--- the child that is due as a value is one
+-- the child that is expected as a value is one
 value_at : (source : List ℕ) (n : NodeTree) (ty : NodeType) (i : ℕ) (m : NodeTree) → type_of n ≡ ty → IsValueOf source n → TakesPart ty (take i (children_of n)) → i < length (children_of n) → m ≡ get_or (children_of n) i m → IsValueOf source m
-value_at source n kind.Tuple i m e v front lt is = tuple_item source n (children_of n) i m v e refl lt is
-value_at source n kind.List i m e v front lt is = list_item source n (children_of n) i m v e refl lt is
+value_at source n kind.Tuple i m e v prefix lt is = tuple_item source n (children_of n) i m v e refl lt is
+value_at source n kind.List i m e v prefix lt is = list_item source n (children_of n) i m v e refl lt is
 value_at source n kind.TupleSet i m e v (k, long) lt is = value_turn source (children_of n) i k m (set_turns source n v e) (sym (length-take-le i (children_of n) (omega arith)) ∙ long) lt is
-value_at source n kind.VariantWithPayload i m e v front lt is =
+value_at source n kind.VariantWithPayload i m e v prefix lt is =
     let c = case_turns source n v e in
-    let second : m ≡ get_or (children_of n) 1 m = is ∙ ap (λ (j : ℕ). get_or (children_of n) j m) (taken_one (children_of n) i lt front) in
+    let second : m ≡ get_or (children_of n) 1 m = is ∙ ap (λ (j : ℕ). get_or (children_of n) j m) (taken_one (children_of n) i lt prefix) in
     subst (IsValueOf source) (sym (second ∙ ap (λ (l : List NodeTree). get_or l 1 m) c.children)) c.valued
-value_at source n kind.OptionSome i m e v front lt is =
+value_at source n kind.OptionSome i m e v prefix lt is =
     let k = some_node source n v.0 v.1 e in
-    let first : m ≡ get_or (children_of n) 0 m = is ∙ ap (λ (j : ℕ). get_or (children_of n) j m) (taken_none (children_of n) i lt front) in
+    let first : m ≡ get_or (children_of n) 0 m = is ∙ ap (λ (j : ℕ). get_or (children_of n) j m) (taken_none (children_of n) i lt prefix) in
     (k.payload, subst (λ (x : NodeTree). IsNodeOf source x k.payload) (sym (first ∙ ap (λ (l : List NodeTree). get_or l 0 m) k.children)) k.node)
-value_at source n kind.ResultOk i m e v front lt is =
+value_at source n kind.ResultOk i m e v prefix lt is =
     let k = ok_node source n v.0 v.1 e in
-    first_value source (children_of n) m k.0 k.2 (omega (arith, lt)) (is ∙ ap (λ (j : ℕ). get_or (children_of n) j m) (taken_none (children_of n) i lt front))
-value_at source n kind.ResultErr i m e v front lt is =
+    first_value source (children_of n) m k.0 k.2 (omega (arith, lt)) (is ∙ ap (λ (j : ℕ). get_or (children_of n) j m) (taken_none (children_of n) i lt prefix))
+value_at source n kind.ResultErr i m e v prefix lt is =
     let k = err_node source n v.0 v.1 e in
-    first_value source (children_of n) m k.0 k.2 (omega (arith, lt)) (is ∙ ap (λ (j : ℕ). get_or (children_of n) j m) (taken_none (children_of n) i lt front))
-value_at source n _ i m e v front lt is = absurd front
+    first_value source (children_of n) m k.0 k.2 (omega (arith, lt)) (is ∙ ap (λ (j : ℕ). get_or (children_of n) j m) (taken_none (children_of n) i lt prefix))
+value_at source n _ i m e v prefix lt is = absurd prefix
 
 pub value_child : (source : List ℕ) (n : NodeTree) (ns : List NodeTree) (i : ℕ) (m : NodeTree) → IsValueOf source n → ns ≡ children_of n → TakesPart (type_of n) (take i (children_of n)) → i < length ns → m ≡ get_or ns i m → IsValueOf source m
-value_child source n ns i m v same front lt is = value_at source n (type_of n) i m refl v front (subst (λ (l : List NodeTree). i < length l) same lt) (subst (λ (l : List NodeTree). m ≡ get_or l i m) same is)
+value_child source n ns i m v same prefix lt is = value_at source n (type_of n) i m refl v prefix (subst (λ (l : List NodeTree). i < length l) same lt) (subst (λ (l : List NodeTree). m ≡ get_or l i m) same is)
 
 one_more : (ns : List NodeTree) (i : ℕ) (m : NodeTree) → i < length ns → m ≡ get_or ns i m → take i ns ++ m ∷ [] ≡ take (i + 1) ns
 one_more ns i m lt is = ap (λ (x : NodeTree). take i ns ++ x ∷ []) is ∙ sym (take_more ns i m lt)

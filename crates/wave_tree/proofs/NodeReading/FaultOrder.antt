@@ -109,7 +109,7 @@ module _ {V : Type 0} (tree : V → Value) (of : V → TypeTree → Type 0) (Ful
   type_blamed T source n t (Err e) is no_record counted (inr (inr full)) = inr (inr full)
 
   -- what is read as the tokens are read is so as the type is gone through: of a node with no record's entries, and of no tuple of another number of items
-  pub read_by_type : (due : Option TypeTree) (source : List ℕ) (n : NodeTree) (r : Result V Diagnostic) → ((T : TypeTree) → due ≡ Some T → ReadsNoRecord T (type_of n)) → ((T : TypeTree) → due ≡ Some T → IsCounted T (type_of n) (length (children_of n))) → IsReadSparing tree of Full in_text w due source n r → IsReadSparing tree of Full by_type w due source n r
+  pub read_by_type : (expected : Option TypeTree) (source : List ℕ) (n : NodeTree) (r : Result V Diagnostic) → ((T : TypeTree) → expected ≡ Some T → ReadsNoRecord T (type_of n)) → ((T : TypeTree) → expected ≡ Some T → IsCounted T (type_of n) (length (children_of n))) → IsReadSparing tree of Full in_text w expected source n r → IsReadSparing tree of Full by_type w expected source n r
   read_by_type None source n r no_record counted h = h
   read_by_type (Some T) source n r no_record counted h =
       (record { answer = λ t is distinct. type_blamed T source n t r is (no_record T refl) (counted T refl) (h.0.answer t is distinct); within = h.0.within; typed = h.0.typed }, h.1)

@@ -26,10 +26,10 @@ use Rattle.wave_grammar.specs.FaultOrder.{Order, by_type}
 use Rattle.wave_grammar.specs.NodeTree.{NodeTree, NodeTrees, node, no_nodes, node_and, node_list, place_of, children_of, depth, nodes_depth}
 use Rattle.wave_grammar.specs.Nodes.{IsNodeOf}
 use Rattle.wave_grammar.specs.NodeAccessors.{node_pairs, node_text, shown_node}
-use Rattle.wave_grammar.specs.TypedReading.{IsTypedValue, IsBlamed, IsMade, IsValueOf}
+use Rattle.wave_grammar.specs.TypedReading.{IsTypedValue, IsBlamed, IsBuilt, IsValueOf}
 use Rattle.wave_grammar.specs.NodeFields.{IsFieldsOf, field_of, held_at, HoldsFields, IsFieldNode, fields_at}
 use Rattle.wave_grammar.proofs.ChildNodes.Inside.{inside, some_is}
-use Rattle.wave_grammar.proofs.ByKind.MakerAnswers.{made}
+use Rattle.wave_grammar.proofs.ByKind.MakerAnswers.{built}
 use Rattle.wave_wasm.proofs.Names.NameTests.{is_one, none_of}
 use Rattle.wave_grammar.proofs.ByKind.Lists.{HasAt}
 use Rattle.wave_grammar.proofs.ByKind.Tuples.{place_has, map_has}
@@ -40,8 +40,8 @@ use Rattle.wave_grammar.proofs.Fields.FieldOrder.{unknown_blamed}
 use Rattle.wave_grammar.proofs.Fields.Reading as reading
 use Rattle.wave_grammar.proofs.Fields.Reading.{RecordType, PartsDistinct, names_are, fields_distinct, given_fields, look_all, FieldIsRead, FieldsRead, record_reads, record_full, has_one}
 use Rattle.wave_grammar.proofs.ErrorSpans.Nodes.{BelongsTo, PairBelongs, entries_belong}
-use Rattle.wave_read.specs.Errors.{IsMadeOrMemory}
-use Rattle.wave_read.proofs.ReadErrors.HandedOn.{made_anew}
+use Rattle.wave_read.specs.Errors.{IsBuiltOrMemory}
+use Rattle.wave_read.proofs.ReadErrors.HandedOn.{built_anew}
 
 -- the name and the type at a place, where they are borrowed
 pub part_at : {S : Type 0} (type_tree : S → TypeTree) (xs : List (Bor (List ℕ) × Bor S)) (i : ℕ) (x : Bor (List ℕ) × Bor S) → i < length xs → x ≡ get_or xs i x → HasAt (shown_fields type_tree xs) i (x.0.now, type_tree x.1.now)
@@ -208,22 +208,22 @@ module _ {V : Type 0} (tree : V → Value) (of : V → TypeTree → Type 0) (Ful
       reading.record_typed tree of Full T is.fields es hs is.is (subst (λ (ps : List (List ℕ × TypeTree)). AreDistinct (names_of ps)) is.parts_are apart.names) (subst (λ (ps : List (List ℕ × TypeTree)). FieldsRead tree of Full ps es hs) (take_whole parts i le ∙ is.parts_are) read)
 
   -- the record was made, or its constructor refused
-  record_made : (T : TypeTree) (parts : List (List ℕ × TypeTree)) (source : List ℕ) (n : NodeTree) (t : SpannedTree) (given : List (List ℕ × NodeTree)) (names : List (List ℕ)) (old left : BTreeMap (Bor (List ℕ)) (Bor NodeTree)) (hs : List (Bor (List ℕ) × V)) (m : Result V WasmValueError) (r : Result V Diagnostic) → (is : RecordType T parts) → HasDistinctNames T → (stands : IsNodeOf source n t) → (fields : IsFieldsOf source n given) → HoldsFields old given → names ≡ names_of parts → Removed names old left → btree_map_len left ≡ 0 → FieldsRead tree of Full parts (entry_list (record_nodes source n t stands fields.is_set).given) hs → IfOk m (MakesRecord tree of T hs) → IfErr m (FullRecord of Full T hs) → IsMade n m r → MatchResult r (IsTypedValue tree of T t) (IsBlamed Full by_type w T t)
-  record_made T parts source n t given names old left hs m r is distinct stands fields held same removed empty h ok full done =
+  record_built : (T : TypeTree) (parts : List (List ℕ × TypeTree)) (source : List ℕ) (n : NodeTree) (t : SpannedTree) (given : List (List ℕ × NodeTree)) (names : List (List ℕ)) (old left : BTreeMap (Bor (List ℕ)) (Bor NodeTree)) (hs : List (Bor (List ℕ) × V)) (m : Result V WasmValueError) (r : Result V Diagnostic) → (is : RecordType T parts) → HasDistinctNames T → (stands : IsNodeOf source n t) → (fields : IsFieldsOf source n given) → HoldsFields old given → names ≡ names_of parts → Removed names old left → btree_map_len left ≡ 0 → FieldsRead tree of Full parts (entry_list (record_nodes source n t stands fields.is_set).given) hs → IfOk m (MakesRecord tree of T hs) → IfErr m (FullRecord of Full T hs) → IsBuilt n m r → MatchResult r (IsTypedValue tree of T t) (IsBlamed Full by_type w T t)
+  record_built T parts source n t given names old left hs m r is distinct stands fields held same removed empty h ok full done =
       let inner = record_nodes source n t stands fields.is_set in
       let all : AreFieldsOf source given (entry_list inner.given) = subst (λ (l : List (List ℕ × NodeTree)). AreFieldsOf source l (entry_list inner.given)) (sym fields.given) (fields_of_entries source (node_pairs (children_of n)) (entry_list inner.given) fields.labels inner.nodes) in
       let apart : AreDistinct (names_of (type.field_list is.fields)) = subst (λ (ps : List (List ℕ × TypeTree)). AreDistinct (names_of ps)) is.parts_are (fields_distinct T parts is distinct).names in
       let read : FieldsRead tree of Full (type.field_list is.fields) (entry_list inner.given) hs = subst (λ (ps : List (List ℕ × TypeTree)). FieldsRead tree of Full ps (entry_list inner.given) hs) is.parts_are h in
-      made tree of Full by_type w T t n m r done
+      built tree of Full by_type w T t n m r done
       (record_reads tree of Full T is.fields source n t given hs inner m is.is distinct all fields.distinct (λ name one. subst (λ (ns : List (List ℕ)). IsOneOf ns name) (same ∙ ap names_of is.parts_are) (all_known source names old left given name held removed empty one)) apart read ok)
       (record_full tree of Full T is.fields (entry_list inner.given) hs m is.is apart read full)
 
   -- so behind the last of the parts
-  pub record_done : (T : TypeTree) (parts : List (List ℕ × TypeTree)) (source : List ℕ) (n : NodeTree) (t : SpannedTree) (given : List (List ℕ × NodeTree)) (i : ℕ) (old left : BTreeMap (Bor (List ℕ)) (Bor NodeTree)) (hs : List (Bor (List ℕ) × V)) (m : Result V WasmValueError) (r : Result V Diagnostic) → (is : RecordType T parts) → HasDistinctNames T → (stands : IsNodeOf source n t) → (fields : IsFieldsOf source n given) → HoldsFields old given → length parts ≤ i → Removed (names_of (take i parts)) old left → btree_map_len left ≡ 0 → FieldsRead tree of Full (take i parts) (entry_list (record_nodes source n t stands fields.is_set).given) hs → IfOk m (MakesRecord tree of T hs) → IfErr m (FullRecord of Full T hs) → IsMadeOrMemory n m r → MatchResult r (IsTypedValue tree of T t) (IsBlamed Full by_type w T t)
+  pub record_done : (T : TypeTree) (parts : List (List ℕ × TypeTree)) (source : List ℕ) (n : NodeTree) (t : SpannedTree) (given : List (List ℕ × NodeTree)) (i : ℕ) (old left : BTreeMap (Bor (List ℕ)) (Bor NodeTree)) (hs : List (Bor (List ℕ) × V)) (m : Result V WasmValueError) (r : Result V Diagnostic) → (is : RecordType T parts) → HasDistinctNames T → (stands : IsNodeOf source n t) → (fields : IsFieldsOf source n given) → HoldsFields old given → length parts ≤ i → Removed (names_of (take i parts)) old left → btree_map_len left ≡ 0 → FieldsRead tree of Full (take i parts) (entry_list (record_nodes source n t stands fields.is_set).given) hs → IfOk m (MakesRecord tree of T hs) → IfErr m (FullRecord of Full T hs) → IsBuiltOrMemory n m r → MatchResult r (IsTypedValue tree of T t) (IsBlamed Full by_type w T t)
   record_done T parts source n t given i old left hs m r is distinct stands fields held le removed empty h ok full done =
       let whole : take i parts ≡ parts = take_whole parts i le in
-      made_anew (MakesRecord tree of T hs) (FullRecord of Full T hs) n m r (λ a f fs is apart ordered same of. tt) ok full done (λ m ok full done.
-      record_made T parts source n t given (names_of (take i parts)) old left hs m r is distinct stands fields held (ap names_of whole) removed empty (subst (λ (ps : List (List ℕ × TypeTree)). FieldsRead tree of Full ps (entry_list (record_nodes source n t stands fields.is_set).given) hs) whole h) ok full done)
+      built_anew (MakesRecord tree of T hs) (FullRecord of Full T hs) n m r (λ a f fs is apart ordered same of. tt) ok full done (λ m ok full done.
+      record_built T parts source n t given (names_of (take i parts)) old left hs m r is distinct stands fields held (ap names_of whole) removed empty (subst (λ (ps : List (List ℕ × TypeTree)). FieldsRead tree of Full ps (entry_list (record_nodes source n t stands fields.is_set).given) hs) whole h) ok full done)
 
   -- an entry whose name is no field, where all fields were read
   pub unknown_blame : (T : TypeTree) (parts : List (List ℕ × TypeTree)) (source : List ℕ) (n : NodeTree) (t : SpannedTree) (given : List (List ℕ × NodeTree)) (i : ℕ) (old left : BTreeMap (Bor (List ℕ)) (Bor NodeTree)) (hs : List (Bor (List ℕ) × V)) (e : Diagnostic) → RecordType T parts → HasDistinctNames T → (stands : IsNodeOf source n t) → (fields : IsFieldsOf source n given) → HoldsFields old given → length parts ≤ i → Removed (names_of (take i parts)) old left → (btree_map_len left ≡ 0 → ⊥) → FieldsRead tree of Full (take i parts) (entry_list (record_nodes source n t stands fields.is_set).given) hs → IsRefusalOf error.InvalidValue (place_of n) (refusal_of e) e.span → IsBlamed Full by_type w T t e

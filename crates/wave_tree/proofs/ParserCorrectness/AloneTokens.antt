@@ -4,7 +4,7 @@ use Rattle.wave_lex.specs.declared.lex.Token as lex
 use Rattle.wave_lex.specs.declared.lex.Token.TheVariants.{BraceClose, ParenClose, BracketClose, Colon, Comma, Number, LabelOrKeyword, Char, String, MultilineString}
 use Rattle.wave_grammar.specs.ParserPosition.{Place, TakesItem, span_at, text_at, token_of}
 use Rattle.wave_grammar.specs.Tree.{word_of}
-use Rattle.wave_grammar.specs.PrefixAutomaton.{StackSymbol, due_behind, value, behind_value, behind_label, value_step, unexpected}
+use Rattle.wave_grammar.specs.PrefixAutomaton.{StackSymbol, expected_behind, value, behind_value, behind_label, value_step, unexpected}
 use Rattle.wave_grammar.specs.SyntaxErrors.{LeadsBehindValue}
 use Rattle.wave_grammar.specs.NodeTree.{node, no_nodes}
 use Rattle.wave_grammar.specs.declared.form.NodeType.{NodeType}
@@ -33,11 +33,11 @@ alone_parsed n p q LabelOrKeyword ty l h w = word_alone n p q ty l h w
 alone_parsed n p q _ ty l h w = absurd w
 
 -- the word of such a text
-word_behind : (ty : NodeType) (text : List ℕ) → IsAloneWord ty text → due_behind (word_of text) ≡ behind_value
-word_behind kind.BoolTrue text (w, e) = ap due_behind w
-word_behind kind.BoolFalse text (w, e) = ap due_behind w
-word_behind kind.Number text (w, e) = ap due_behind w
-word_behind kind.OptionNone text w = ap due_behind w
+word_behind : (ty : NodeType) (text : List ℕ) → IsAloneWord ty text → expected_behind (word_of text) ≡ behind_value
+word_behind kind.BoolTrue text (w, e) = ap expected_behind w
+word_behind kind.BoolFalse text (w, e) = ap expected_behind w
+word_behind kind.Number text (w, e) = ap expected_behind w
+word_behind kind.OptionNone text w = ap expected_behind w
 word_behind _ text h = absurd h
 
 -- such a token leads behind a value
@@ -46,7 +46,7 @@ alone_led n s p q Number ty l h e = read_there (value_read n behind_value s s p 
 alone_led n s p q Char ty l h e = read_there (value_read n behind_value s s p q Char Char l h refl refl) (inl refl)
 alone_led n s p q String ty l h e = read_there (value_read n behind_value s s p q String String l h refl refl) (inl refl)
 alone_led n s p q MultilineString ty l h e = read_there (value_read n behind_value s s p q MultilineString MultilineString l h refl refl) (inl refl)
-alone_led n s p q LabelOrKeyword ty l h w = read_there (value_read n (due_behind (word_of (text_at q))) s s p q LabelOrKeyword LabelOrKeyword l h refl refl) (inl (word_behind ty (text_at q) w))
+alone_led n s p q LabelOrKeyword ty l h w = read_there (value_read n (expected_behind (word_of (text_at q))) s s p q LabelOrKeyword LabelOrKeyword l h refl refl) (inl (word_behind ty (text_at q) w))
 alone_led n s p q _ ty l h w = absurd w
 
 -- no value begins with such a token
@@ -59,8 +59,8 @@ nothing_begins s Comma text h = refl
 nothing_begins s _ text h = absurd h
 
 -- after a label that may have a payload
-pub label_behind : (alone with : NodeType) (text : List ℕ) → IsLabelWord alone with text → due_behind (word_of text) ≡ behind_label
-label_behind kind.ResultOk kind.ResultOk text h = ap due_behind h
-label_behind kind.ResultErr kind.ResultErr text h = ap due_behind h
-label_behind kind.Label kind.VariantWithPayload text h = ap due_behind h
+pub label_behind : (alone with : NodeType) (text : List ℕ) → IsLabelWord alone with text → expected_behind (word_of text) ≡ behind_label
+label_behind kind.ResultOk kind.ResultOk text h = ap expected_behind h
+label_behind kind.ResultErr kind.ResultErr text h = ap expected_behind h
+label_behind kind.Label kind.VariantWithPayload text h = ap expected_behind h
 label_behind _ _ text h = absurd h

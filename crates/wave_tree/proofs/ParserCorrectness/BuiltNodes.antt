@@ -10,7 +10,7 @@ use Rattle.wave_grammar.proofs.NodeTexts.Slices.{tokens_source}
 use Rattle.wave_grammar.specs.NodeTree.{NodeTree, node, no_nodes, node_trees}
 use Rattle.wave_grammar.specs.declared.form.NodeType.{NodeType}
 use Rattle.wave_tree.specs.ParsedNodes.{IsParsed}
-use Rattle.wave_tree.specs.Private.ParsedNodes.{IsBuilt}
+use Rattle.wave_tree.specs.Private.ParsedNodes.{IsNodeBuilt}
 use Rattle.wave_tree.proofs.ParserCorrectness.Steps.{Reached}
 
 -- the source stays after a token
@@ -26,25 +26,25 @@ pub source_reached : {n : ℕ} {d e : Expectation} {s r : List StackSymbol} {p q
 source_reached {p = p} {q = q} h = tokens_source p q h.tokens h.taken
 
 -- what is made of a node is made of what the node is
-pub built : {M E : Type 0} (Of : List ℕ → NodeTree → M → Type 0) (p q : Place) (A B : NodeTree → Type 0) (r : Result M E) → q.lexer.source ≡ p.lexer.source → ((n : NodeTree) → A n → B n) → IfOk r (IsBuilt Of q A) → IfOk r (IsBuilt Of p B)
-built Of p q A B (Ok made) e f (n, a, of) = (n, f n a, subst (λ (s : List ℕ). Of s n made) e of)
-built Of p q A B (Err x) e f h = tt
+pub built_node : {M E : Type 0} (Of : List ℕ → NodeTree → M → Type 0) (p q : Place) (A B : NodeTree → Type 0) (r : Result M E) → q.lexer.source ≡ p.lexer.source → ((n : NodeTree) → A n → B n) → IfOk r (IsNodeBuilt Of q A) → IfOk r (IsNodeBuilt Of p B)
+built_node Of p q A B (Ok built) e f (n, a, of) = (n, f n a, subst (λ (s : List ℕ). Of s n built) e of)
+built_node Of p q A B (Err x) e f h = tt
 
 -- a node, as an answer
 abbrev pub as_ok : NodeTree → Result NodeTree (Unit {0})
 as_ok n = Ok n
 
 -- what is made of a node of these children
-pub whole_built : {M Q : Type 0} (Of : List ℕ → NodeTree → M → Type 0) (Are : List ℕ → List NodeTree → Q → Type 0) (p q : Place) (ty : NodeType) (start : ℕ) (made : M) (parts : Q) (children : List NodeTree) (B : NodeTree → Type 0) →
-    q.lexer.source ≡ p.lexer.source → Are p.lexer.source children parts → ((cs : List NodeTree) → Are q.lexer.source cs parts → Of q.lexer.source (node ty (span start q.lexer.end) (node_trees cs)) made) →
-    B (node ty (span start q.lexer.end) (node_trees children)) → IsBuilt Of p B made
-whole_built Of Are p q ty start made parts children B e are of b =
+pub whole_node_built : {M Q : Type 0} (Of : List ℕ → NodeTree → M → Type 0) (Are : List ℕ → List NodeTree → Q → Type 0) (p q : Place) (ty : NodeType) (start : ℕ) (built : M) (parts : Q) (children : List NodeTree) (B : NodeTree → Type 0) →
+    q.lexer.source ≡ p.lexer.source → Are p.lexer.source children parts → ((cs : List NodeTree) → Are q.lexer.source cs parts → Of q.lexer.source (node ty (span start q.lexer.end) (node_trees cs)) built) →
+    B (node ty (span start q.lexer.end) (node_trees children)) → IsNodeBuilt Of p B built
+whole_node_built Of Are p q ty start built parts children B e are of b =
     let n = node ty (span start q.lexer.end) (node_trees children) in
-    (n, b, subst (λ (s : List ℕ). Of s n made) e (of children (subst (λ (s : List ℕ). Are s children parts) (sym e) are)))
+    (n, b, subst (λ (s : List ℕ). Of s n built) e (of children (subst (λ (s : List ℕ). Are s children parts) (sym e) are)))
 
 -- a node that was made of itself
-pub as_node : (Is : NodeTree → Type 0) (made : NodeTree) → (n : NodeTree) × Is n × (made ≡ n) → Is made
-as_node Is made (n, is, e) = subst Is (sym e) is
+pub as_node : (Is : NodeTree → Type 0) (built : NodeTree) → (n : NodeTree) × Is n × (built ≡ n) → Is built
+as_node Is built (n, is, e) = subst Is (sym e) is
 
 -- a part that was added to the parts of one source was added to those of the same source
 pub part_added : {Q : Type 0} (Are : List ℕ → List NodeTree → Q → Type 0) (old new : Q) (children : List NodeTree) (Is : NodeTree → Type 0) {from source : List ℕ} → from ≡ source →
@@ -55,13 +55,13 @@ part_added Are old new children Is e add are =
 
 -- what follows from an answer that says nothing of its value
 pub as_added : {M E A B : Type 0} (r : Result M E) → IfOk r (λ _. A) → (A → B) → IfOk r (λ _. B)
-as_added (Ok made) a f = f a
+as_added (Ok built) a f = f a
 as_added (Err e) a f = tt
 
 -- what is made of a node that has no parts
-pub none_built : {M : Type 0} (Of : List ℕ → NodeTree → M → Type 0) (p q : Place) (ty : NodeType) (start : ℕ) (made : M) (B : NodeTree → Type 0) →
-    q.lexer.source ≡ p.lexer.source → Of q.lexer.source (node ty (span start q.lexer.end) no_nodes) made → B (node ty (span start q.lexer.end) no_nodes) → IsBuilt Of p B made
-none_built Of p q ty start made B e of b = let n = node ty (span start q.lexer.end) no_nodes in (n, b, subst (λ (s : List ℕ). Of s n made) e of)
+pub none_node_built : {M : Type 0} (Of : List ℕ → NodeTree → M → Type 0) (p q : Place) (ty : NodeType) (start : ℕ) (built : M) (B : NodeTree → Type 0) →
+    q.lexer.source ≡ p.lexer.source → Of q.lexer.source (node ty (span start q.lexer.end) no_nodes) built → B (node ty (span start q.lexer.end) no_nodes) → IsNodeBuilt Of p B built
+none_node_built Of p q ty start built B e of b = let n = node ty (span start q.lexer.end) no_nodes in (n, b, subst (λ (s : List ℕ). Of s n built) e of)
 
 -- a key, which was taken last, and a value after its colon were added to the parts
 pub entry_added : {Q : Type 0} (Are : List ℕ → List NodeTree → Q → Type 0) (levels : ℕ) (p0 p b m : Place) (ty : NodeType) (children : List NodeTree) (old keyed new : Q) →
@@ -75,6 +75,6 @@ entry_added Are levels p0 p b m ty children old keyed new here colon_there are p
     part_added Are keyed new (children ++ key ∷ []) (IsParsed levels b m) (source_item p b Colon colon_there ∙ here) add with_key
 
 -- what is never made has whatever is wanted
-pub never_made : {M E : Type 0} (Is : M → Type 0) (r : Result M E) → IfOk r (λ _. ⊥) → IfOk r Is
-never_made Is (Ok made) none = absurd none
-never_made Is (Err e) none = tt
+pub never_built : {M E : Type 0} (Is : M → Type 0) (r : Result M E) → IfOk r (λ _. ⊥) → IfOk r Is
+never_built Is (Ok built) none = absurd none
+never_built Is (Err e) none = tt

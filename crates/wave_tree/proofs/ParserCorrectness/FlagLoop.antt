@@ -12,19 +12,19 @@ use Rattle.wave_lex.specs.declared.lex.Token.TheVariants.{BraceClose, LabelOrKey
 use Rattle.wave_grammar.specs.ParserPosition.{Place, text_at, span_at}
 use Rattle.wave_grammar.specs.LeafTokens.{name_of}
 use Rattle.wave_grammar.specs.PrefixAutomaton.{Expectation, StackSymbol}
-use Rattle.wave_grammar.specs.PrefixAutomaton as due
+use Rattle.wave_grammar.specs.PrefixAutomaton as expectation
 use Rattle.wave_grammar.specs.NodeTree.{NodeTree, node, node_trees}
 use Rattle.wave_grammar.specs.declared.form.NodeType.TheVariants as kind
 use Rattle.wave_grammar.specs.FlagOrder.{Flag, flag_name, flags_in_order}
 use Rattle.wave_tree.specs.ParsedNodes.{TakesClass}
-use Rattle.wave_tree.specs.Private.ParsedNodes.{IsBuilt, IsClosed, AreFurtherFlags, IsOfFlags}
+use Rattle.wave_tree.specs.Private.ParsedNodes.{IsNodeBuilt, IsClosed, AreFurtherFlags, IsOfFlags}
 use Rattle.wave_tree.proofs.ParserCorrectness.BuiltNodes.{source_item}
 use Rattle.wave_grammar.specs.SpannedTree.{slice}
 use Rattle.wave_grammar.proofs.NodeTexts.Slices.{tokens_source}
 use Rattle.wave_wasm.specs.Lists.{AllOf}
 use Rattle.wave_grammar.specs.FlagParts.{AreFlagsOf, flag_nodes}
 use Rattle.wave_tree.specs.Private.ParserState.{Stream, AsksFor}
-use Rattle.wave_tree.proofs.ParserCorrectness.Steps.{Reached, IsFlagDue}
+use Rattle.wave_tree.proofs.ParserCorrectness.Steps.{Reached, IsFlagExpected}
 use Rattle.wave_tree.proofs.ParserCorrectness.LexerCalls.{asks_reached}
 use Rattle.wave_wasm.proofs.Names.NameSets.{Holds}
 use Rattle.wave_grammar.proofs.NodeMeaning.FlagOrder.{order_last, none_in_order}
@@ -44,7 +44,7 @@ pub record FlagsSoFar (flags : BTreeMap (Bor (List ℕ)) (Range ℕ)) (start at 
   pub written : AllOf (IsWritten start.lexer.source) (flag_at start ∷ more)
   pub ordered : map entry_of flags.entries ≡ map named_place (flags_in_order (flag_at start ∷ more))
   pub tree : (rest : List Flag) (r : Place) → AreFurtherFlags at rest r → AreFurtherFlags start (more ++ rest) r
-  pub led : (n : ℕ) (s : List StackSymbol) → (d : Expectation) × IsFlagDue d (map flag_name (flag_at start ∷ more)) at × Reached n (due.behind_word (text_at start)) s start d s at
+  pub led : (n : ℕ) (s : List StackSymbol) → (d : Expectation) × IsFlagExpected d (map flag_name (flag_at start ∷ more)) at × Reached n (expectation.behind_word (text_at start)) s start d s at
 
 -- the source stays
 pub source_flags : (flags : BTreeMap (Bor (List ℕ)) (Range ℕ)) (start at : Place) → FlagsSoFar flags start at → at.lexer.source ≡ start.lexer.source
@@ -55,7 +55,7 @@ pub grown : (old new : BTreeMap (Bor (List ℕ)) (Range ℕ)) (start at m k : Pl
     new.entries ≡ insert_entry (λ a b. slice_cmp nat_cmp a.now b.now) old.entries key v → key.now ≡ name_of (text_at k) → v ≡ span_at k →
     is_one_of (map flag_name (flag_at start ∷ h.more)) (name_of (text_at k)) ≡ false →
     Holds new (map flag_name (flag_at start ∷ h.more) ++ name_of (text_at k) ∷ []) →
-    ((n : ℕ) (s : List StackSymbol) → (d : Expectation) × IsFlagDue d (map flag_name (flag_at start ∷ h.more) ++ name_of (text_at k) ∷ []) k × Reached n (due.behind_word (text_at start)) s start d s k) → FlagsSoFar new start k
+    ((n : ℕ) (s : List StackSymbol) → (d : Expectation) × IsFlagExpected d (map flag_name (flag_at start ∷ h.more) ++ name_of (text_at k) ∷ []) k × Reached n (expectation.behind_word (text_at start)) s start d s k) → FlagsSoFar new start k
 grown old new start at m k key v h comma_there label_there entries_are key_is node_is new_name holds led =
     let f = flag_at k in
     let fs = flag_at start ∷ h.more in
@@ -69,14 +69,14 @@ grown old new start at m k key v h comma_there label_there entries_are key_is no
       written = all_last (IsWritten start.lexer.source) fs f h.written (ap (λ (source : List ℕ). slice source (span_at k)) (source_item m k LabelOrKeyword label_there ∙ (source_item at m Comma comma_there ∙ source_flags old start at h)));
       ordered = ap (map entry_of) entries_are ∙ (insert_flag key v old.entries f (flags_in_order fs) pair h.ordered (none_in_order (flag_name f) fs none) ∙ ap (map named_place) (sym (order_last fs f none)));
       tree = λ rest r further. subst (λ z. AreFurtherFlags start z r) (sym (append_assoc h.more (f ∷ []) rest)) (h.tree (f ∷ rest) r (m, k, comma_there, label_there, refl, further));
-      led = λ n s. let (d, i, reached) = led n s in (d, subst (λ z. IsFlagDue d z k) names i, reached);
+      led = λ n s. let (d, i, reached) = led n s in (d, subst (λ z. IsFlagExpected d z k) names i, reached);
     }
 
 -- the close
 pub ended : {M E : Type 0} (Of : List ℕ → NodeTree → M → Type 0) (flags : BTreeMap (Bor (List ℕ)) (Range ℕ)) (start at q : Place) (from : ℕ) (r : Result M E) → (h : FlagsSoFar flags start at) → IsClosed BraceClose at q →
-    IfOk r (λ made. AreFlagsOf q.lexer.source flags → Of q.lexer.source (node kind.Flags (span from q.lexer.end) (flag_nodes flags)) made) → IfOk r (IsBuilt Of start (IsOfFlags from start q))
-ended Of flags start at q from (Err x) h close made = tt
-ended Of flags start at q from (Ok it) h close made =
+    IfOk r (λ built. AreFlagsOf q.lexer.source flags → Of q.lexer.source (node kind.Flags (span from q.lexer.end) (flag_nodes flags)) built) → IfOk r (IsNodeBuilt Of start (IsOfFlags from start q))
+ended Of flags start at q from (Err x) h close built = tt
+ended Of flags start at q from (Ok it) h close built =
     let fs = flag_at start ∷ h.more in
     let source : q.lexer.source ≡ start.lexer.source = source_closed at q close ∙ source_flags flags start at h in
     let named : AreFlagsOf q.lexer.source flags = subst (λ (s : List ℕ). AreFlagsOf s flags) (sym source) (all_named start.lexer.source flags.entries (flags_in_order fs) h.ordered (all_ordered start.lexer.source fs h.written)) in (
@@ -87,7 +87,7 @@ ended Of flags start at q from (Ok it) h close made =
         distinct = h.distinct;
         is = ap (λ z. node kind.Flags (span from q.lexer.end) (node_trees z)) (nodes_of flags.entries (flags_in_order fs) h.ordered);
       },
-      subst (λ (s : List ℕ). Of s (node kind.Flags (span from q.lexer.end) (flag_nodes flags)) it) source (made named),
+      subst (λ (s : List ℕ). Of s (node kind.Flags (span from q.lexer.end) (flag_nodes flags)) it) source (built named),
     )
   where
     source_closed : (p r : Place) → IsClosed BraceClose p r → r.lexer.source ≡ p.lexer.source
@@ -98,4 +98,4 @@ ended Of flags start at q from (Ok it) h close made =
 pub asks_flags : (flags : BTreeMap (Bor (List ℕ)) (Range ℕ)) (old at new : Stream) → FlagsSoFar flags old.place at.place → AsksFor old at → AsksFor at new → AsksFor old new
 asks_flags flags old at new so_far first more =
     let (d, i, r) = so_far.led 0 [] in
-    asks_reached 0 (due.behind_word (text_at old.place)) d [] [] old at new r first more
+    asks_reached 0 (expectation.behind_word (text_at old.place)) d [] [] old at new r first more

@@ -4,13 +4,13 @@ use Rattle.wave_lex.specs.declared.lex.Token as lex
 use Rattle.wave_grammar.specs.Token.{Token}
 use Rattle.wave_grammar.specs.ParserPosition.{Place, TakesItem, TakesTokens, token_of, text_at}
 use Rattle.wave_grammar.specs.PrefixAutomaton.{Expectation, StackSymbol}
-use Rattle.wave_grammar.specs.PrefixAutomaton as due
+use Rattle.wave_grammar.specs.PrefixAutomaton as expectation
 use Rattle.wave_grammar.specs.SyntaxErrors.{LeadsBehindValue}
 use Rattle.wave_tree.specs.ParserState.{HasTokens}
 use Rattle.wave_tree.specs.Private.TokenRoles.{form_of, IsClose}
 use Rattle.wave_tree.specs.Private.ParserState.{Stream, asked_of, AsksFor}
 use Rattle.wave_tree.specs.ParserLaws.{LexerCallsBounded}
-use Rattle.wave_tree.proofs.ParserCorrectness.Steps.{Reached, IsItemDue, tokens_join, taken_count, then_reached, item_read, no_close}
+use Rattle.wave_tree.proofs.ParserCorrectness.Steps.{Reached, IsItemExpected, tokens_join, taken_count, then_reached, item_read, no_close}
 
 -- nothing was asked for
 pub asks_none : (p q : Stream) → asked_of q ≡ asked_of p → AsksFor p q
@@ -47,23 +47,23 @@ pub asks_reached : (n : ℕ) (d e : Expectation) (s v : List StackSymbol) (p q r
 asks_reached n d e s v p q r h first more = asks_behind p q r h.tokens h.taken first more
 
 -- after a value that was read
-pub asks_value : (levels : ℕ) (p q r : Stream) → ((n : ℕ) (s : List StackSymbol) → n ≡ levels + length s → LeadsBehindValue n due.value s p.place q.place s) → AsksFor p q → AsksFor q r → AsksFor p r
-asks_value levels p q r read first more = asks_read levels due.value [] [] p q r (read levels [] (omega arith)) first more
+pub asks_value : (levels : ℕ) (p q r : Stream) → ((n : ℕ) (s : List StackSymbol) → n ≡ levels + length s → LeadsBehindValue n expectation.value s p.place q.place s) → AsksFor p q → AsksFor q r → AsksFor p r
+asks_value levels p q r read first more = asks_read levels expectation.value [] [] p q r (read levels [] (omega arith)) first more
 
--- where an item is due
-abbrev pub IsDueAt : ℕ → lex.Token → Place → Place → Type 0
-IsDueAt levels close old at =
-    (n : ℕ) (s : List StackSymbol) → n ≡ levels + 1 + length s → (d : Expectation) × IsItemDue d × Reached n due.first_item (form_of close ∷ s) old d (form_of close ∷ s) at
+-- where an item is expected
+abbrev pub IsExpectedAt : ℕ → lex.Token → Place → Place → Type 0
+IsExpectedAt levels close old at =
+    (n : ℕ) (s : List StackSymbol) → n ≡ levels + 1 + length s → (d : Expectation) × IsItemExpected d × Reached n expectation.first_item (form_of close ∷ s) old d (form_of close ∷ s) at
 
 -- after the first token of an item, which was taken there
-pub asks_begun : (levels : ℕ) (close token : lex.Token) (old this new : Stream) (at : Place) → IsDueAt levels close old.place at → TakesItem at (Some (Ok token)) this.place → AsksFor old this → AsksFor this new → AsksFor old new
+pub asks_begun : (levels : ℕ) (close token : lex.Token) (old this new : Stream) (at : Place) → IsExpectedAt levels close old.place at → TakesItem at (Some (Ok token)) this.place → AsksFor old this → AsksFor this new → AsksFor old new
 asks_begun levels close token old this new at led there first more =
     let (d, i, r) = led (levels + 1) [] (omega arith) in
     asks_behind old this new (r.tokens ++ token_of token (text_at this.place) ∷ []) (tokens_join old.place at this.place r.tokens (token_of token (text_at this.place) ∷ []) r.taken (this.place, (token, there, refl), refl)) first more
 
 -- after an item
-pub asks_item : (levels : ℕ) (close : lex.Token) (old behind new : Stream) (at : Place) → IsClose close → ((next : Place) × TakesItem at (Some (Ok close)) next → ⊥) → IsDueAt levels close old.place at →
-    ((n : ℕ) (s : List StackSymbol) → n ≡ levels + length s → LeadsBehindValue n due.value s at behind.place s) → AsksFor old behind → AsksFor behind new → AsksFor old new
+pub asks_item : (levels : ℕ) (close : lex.Token) (old behind new : Stream) (at : Place) → IsClose close → ((next : Place) × TakesItem at (Some (Ok close)) next → ⊥) → IsExpectedAt levels close old.place at →
+    ((n : ℕ) (s : List StackSymbol) → n ≡ levels + length s → LeadsBehindValue n expectation.value s at behind.place s) → AsksFor old behind → AsksFor behind new → AsksFor old new
 asks_item levels close old behind new at is_close none led read first more =
     let (d, i, r) = led (levels + 1) [] (omega arith) in
     let item = read (levels + 1) (form_of close ∷ []) (omega arith) in
@@ -71,8 +71,8 @@ asks_item levels close old behind new at is_close none led read first more =
     asks_behind old behind new h.tokens h.taken first more
 
 -- after the entries so far
-pub asks_entries : (levels : ℕ) (old at new : Stream) → ((n : ℕ) (s : List StackSymbol) → n ≡ levels + 1 + length s → Reached n due.behind_key s old.place due.behind_key s at.place) → AsksFor old at → AsksFor at new → AsksFor old new
-asks_entries levels old at new led first more = asks_reached (levels + 1) due.behind_key due.behind_key [] [] old at new (led (levels + 1) [] (omega arith)) first more
+pub asks_entries : (levels : ℕ) (old at new : Stream) → ((n : ℕ) (s : List StackSymbol) → n ≡ levels + 1 + length s → Reached n expectation.behind_key s old.place expectation.behind_key s at.place) → AsksFor old at → AsksFor at new → AsksFor old new
+asks_entries levels old at new led first more = asks_reached (levels + 1) expectation.behind_key expectation.behind_key [] [] old at new (led (levels + 1) [] (omega arith)) first more
 
 -- a new parser asks for the tokens that stand there and for one item more at most
 pub few : LexerCallsBounded

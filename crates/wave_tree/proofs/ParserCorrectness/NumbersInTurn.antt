@@ -5,7 +5,7 @@ use Rattle.wave_lex.specs.declared.lex.Token.TheVariants.{Comma, Number}
 use Rattle.wave_grammar.specs.Token.{Token}
 use Rattle.wave_grammar.specs.ParserPosition.{Place, TakesItem, TakesTokens, text_at, token_of}
 use Rattle.wave_grammar.specs.PrefixAutomaton.{Expectation, StackSymbol}
-use Rattle.wave_grammar.specs.PrefixAutomaton as due
+use Rattle.wave_grammar.specs.PrefixAutomaton as expectation
 use Rattle.wave_grammar.specs.SyntaxErrors.{LeadsBehindValue}
 use Rattle.wave_grammar.specs.NodeParts.{TakesPart}
 use Rattle.wave_grammar.specs.NodeTree.{NodeTree}
@@ -18,19 +18,19 @@ use Rattle.wave_tree.specs.Private.ParsedNodes.{AreFurther, AreClosedItems, Take
 use Rattle.wave_tree.proofs.NodeCorrectness.Items.{items_next}
 use Rattle.wave_tree.proofs.ParserCorrectness.AloneTokens.{alone_parsed, alone_led}
 use Rattle.wave_tree.proofs.ParserCorrectness.BuiltNodes.{source_item, source_reached}
-use Rattle.wave_tree.proofs.ParserCorrectness.LexerCalls.{IsDueAt, asks_begun, asks_behind}
-use Rattle.wave_tree.proofs.ParserCorrectness.Steps.{Reached, IsItemDue, comma_behind, item_read, left_at, no_close, other_next, taken_count, token_less, token_there, then_behind, then_reached}
+use Rattle.wave_tree.proofs.ParserCorrectness.LexerCalls.{IsExpectedAt, asks_begun, asks_behind}
+use Rattle.wave_tree.proofs.ParserCorrectness.Steps.{Reached, IsItemExpected, comma_behind, item_read, left_at, no_close, other_next, taken_count, token_less, token_there, then_behind, then_reached}
 
 -- after an item that was read
-pub behind_item : {n : ℕ} {d e : Expectation} {s : List StackSymbol} {p q w : Place} (close : lex.Token) → IsClose close → ((next : Place) × TakesItem q (Some (Ok close)) next → ⊥) → IsItemDue e →
-    Reached n d (form_of close ∷ s) p e (form_of close ∷ s) q → (h : LeadsBehindValue n due.value (form_of close ∷ s) q w (form_of close ∷ s)) → Reached n d (form_of close ∷ s) p h.due_there (form_of close ∷ s) w
+pub behind_item : {n : ℕ} {d e : Expectation} {s : List StackSymbol} {p q w : Place} (close : lex.Token) → IsClose close → ((next : Place) × TakesItem q (Some (Ok close)) next → ⊥) → IsItemExpected e →
+    Reached n d (form_of close ∷ s) p e (form_of close ∷ s) q → (h : LeadsBehindValue n expectation.value (form_of close ∷ s) q w (form_of close ∷ s)) → Reached n d (form_of close ∷ s) p h.expected_there (form_of close ∷ s) w
 behind_item {e = e} {s = s} {q = q} close is_close none i r h = then_reached r (item_read e i (no_close close s q is_close none) h)
 
 -- among the items of a list or a tuple, whose first place is this one, the first token of the next item was taken last; these parts were made of the items before it
 abbrev pub IsInItems : {M : Type 0} → (List ℕ → List NodeTree → M → Type 0) → ℕ → lex.Token → lex.Token → Place → Place → M → Type 0
 IsInItems Are levels close token first here parts = (at : Place) × TakesItem at (Some (Ok token)) here
     × ((next : Place) × TakesItem at (Some (Ok close)) next → ⊥)
-    × IsDueAt levels close first at
+    × IsExpectedAt levels close first at
     × (children : List NodeTree) × Are first.lexer.source children parts
     × ((item : NodeTree) (m r : Place) (more : List NodeTree) → IsParsed levels at m item → AreFurther levels close m more r → AreClosedItems levels close first (children ++ item ∷ more) r)
 
@@ -42,15 +42,15 @@ number_apart close (inr e) q = let wrong = q ∙ e in cc
 module _ (levels : ℕ) (some : 0 < levels) (close : lex.Token) (is_close : IsClose close) (first : Place) where
   -- so it is after a number among the items
   number_in_items : (p q : Place) (children : List NodeTree) → IsInItems (λ s cs all. cs ≡ all) levels close Number first p children → TakesNumber p q → IsInItems (λ s cs all. cs ≡ all) levels close Number first q (children ++ number_node p ∷ [])
-  number_in_items p q all (at, there, none, due_at, children, are, go) (comma, comma_there, number_there) =
+  number_in_items p q all (at, there, none, expected_at, children, are, go) (comma, comma_there, number_there) =
       let is : IsParsed levels at p (number_node p) = alone_parsed levels at p Number kind.Number some there refl in (
         comma,
         number_there,
         other_next close Number comma q (number_apart close is_close) number_there,
         λ n s e.
-            let (d, i, r) = due_at n s e in
+            let (d, i, r) = expected_at n s e in
             let item = alone_led n (form_of close ∷ s) at p Number kind.Number (omega arith) there refl in
-            (due.next_item, inr refl, then_behind item.due_there Comma (behind_item close is_close none i r item) item.is_behind comma_there (comma_behind close s (text_at comma) is_close)),
+            (expectation.next_item, inr refl, then_behind item.expected_there Comma (behind_item close is_close none i r item) item.is_behind comma_there (comma_behind close s (text_at comma) is_close)),
         children ++ number_node p ∷ [],
         ap (λ (z : List NodeTree). z ++ number_node p ∷ []) are,
         items_next levels close first at p comma comma children (children ++ number_node p ∷ []) (number_node p) go is comma_there refl refl,
@@ -68,7 +68,7 @@ module _ (levels : ℕ) (some : 0 < levels) (close : lex.Token) (is_close : IsCl
 
   -- a number that was taken among the items stands in the source
   source_here : {M : Type 0} (Are : List ℕ → List NodeTree → M → Type 0) (p : Place) (parts : M) → IsInItems Are levels close Number first p parts → p.lexer.source ≡ first.lexer.source
-  source_here Are p parts (at, there, none, due_at, children, are, go) = let (d, i, r) = due_at (levels + 1) [] (omega arith) in source_item at p Number there ∙ source_reached r
+  source_here Are p parts (at, there, none, expected_at, children, are, go) = let (d, i, r) = expected_at (levels + 1) [] (omega arith) in source_item at p Number there ∙ source_reached r
 
   -- so parts to which numbers in turn were added are made of the items before the last of them
   pub still_in_items : {M : Type 0} (Are : List ℕ → NodeType → List NodeTree → M → Type 0) (ty : NodeType) → ((any : List NodeTree) → TakesPart ty any) → (token : lex.Token) (p q : Place) (a b : M) → IsInItems (λ s cs ps. Are s ty cs ps) levels close token first p a
@@ -77,15 +77,15 @@ module _ (levels : ℕ) (some : 0 < levels) (close : lex.Token) (is_close : IsCl
       subst (λ z. IsInItems (λ s cs ps. Are s ty cs ps) levels close token first z b) (sym place) (subst (λ z. IsInItems (λ s cs ps. Are s ty cs ps) levels close token first p z) (sym parts) h)
   still_in_items Are ty takes token p q a b h added (inl is) =
       let here = subst (λ z. IsInItems (λ s cs ps. Are s ty cs ps) levels close z first p a) is h in
-      let (at, there, none, due_at, children, are, go) = here in
-      let all = numbers_in_items added.places p q children (at, there, none, due_at, children, refl, go) added.turn in
-      let (at', there', none', due', children', same, go') = all in
+      let (at, there, none, expected_at, children, are, go) = here in
+      let all = numbers_in_items added.places p q children (at, there, none, expected_at, children, refl, go) added.turn in
+      let (at', there', none', expected', children', same, go') = all in
       let then_are = added.added ty children takes (subst (λ (z : List ℕ). Are z ty children a) (sym (source_here (λ s cs ps. Are s ty cs ps) p a here)) are) in
       subst (λ z. IsInItems (λ s cs ps. Are s ty cs ps) levels close z first q b) (sym is) (
         at',
         there',
         none',
-        due',
+        expected',
         children',
         subst (λ (z : List NodeTree). Are first.lexer.source ty z b) (sym same) (subst (λ (z : List ℕ). Are z ty (children ++ map number_node added.places) b) (source_here (λ s cs ps. cs ≡ ps) q (children ++ map number_node added.places) all) then_are),
         go',
@@ -107,7 +107,7 @@ numbers_more (one ∷ more) p q r (is, next, takes, rest) last = (is, next, take
 
 -- what was asked after the first token of an item
 pub asks_in_items : {M : Type 0} (Are : List ℕ → List NodeTree → M → Type 0) (levels : ℕ) (close token : lex.Token) (parts : M) (old this new : Stream) → IsInItems Are levels close token old.place this.place parts → AsksFor old this → AsksFor this new → AsksFor old new
-asks_in_items Are levels close token parts old this new (at, there, none, due_at, children, are, go) first then_more = asks_begun levels close token old this new at due_at there first then_more
+asks_in_items Are levels close token parts old this new (at, there, none, expected_at, children, are, go) first then_more = asks_begun levels close token old this new at expected_at there first then_more
 
 -- the tokens that were taken
 numbers_tokens : (places : List Place) (p q : Place) → AreNumbersInTurn p places q → (ts : List Token) × TakesTokens p ts q

@@ -30,12 +30,12 @@ module _ (Takes : Type 0) where
 
   -- so it is of an answer
   pub answer_token : {M : Type 0} (p q : Place) (c : lex.Token) (r : Result M Diagnostic) → TakesItem p (Some (Ok c)) q → IfErr r (OnlyOutOfMemory Takes q) → IfErr r (OnlyOutOfMemory Takes p)
-  answer_token p q c (Ok made) h wants = tt
+  answer_token p q c (Ok built) h wants = tt
   answer_token p q c (Err e) h wants = wants_token p q c e h wants
 
   -- a brace stands there
   pub answer_brace : {M : Type 0} (p q : Place) (r : Result M Diagnostic) → TakesItem p (Some (Ok BraceOpen)) q → IfErr r (OnlyOutOfMemory Takes p)
-  answer_brace p q (Ok made) h = tt
+  answer_brace p q (Ok built) h = tt
   answer_brace p q (Err e) h = λ is none. absurd (none [] p q refl h)
 
   -- a refusal of another kind
@@ -44,7 +44,7 @@ module _ (Takes : Type 0) where
 
   -- what is always a refusal, by what it says
   pub wants_refused : {M : Type 0} {P : Diagnostic → Type 0} (p : Place) (r : Result M Diagnostic) → IfErr r P → ((x : Diagnostic) → P x → OnlyOutOfMemory Takes p x) → IfErr r (OnlyOutOfMemory Takes p)
-  wants_refused p (Ok made) says wants = tt
+  wants_refused p (Ok built) says wants = tt
   wants_refused p (Err e) says wants = wants e says
 
   -- what stands next is none of the wanted tokens
@@ -63,11 +63,11 @@ wants_less Less Takes p e more wants = λ memory none. more (wants memory none)
 
 -- so whatever the parts are
 pub whatever_parts : {M E A B C : Type 0} (Are : A → B → C → Type 0) (Is : E → Type 0) (r : Result M E) → IfErr r Is → IfErr r (λ e. (a : A) (b : B) (c : C) → Are a b c → Is e)
-whatever_parts Are Is (Ok made) h = tt
+whatever_parts Are Is (Ok built) h = tt
 whatever_parts Are Is (Err e) h = λ a b c are. h
 
 -- parts take memory, where they were refused for lack of it
 pub wants_any : {M E A B C : Type 0} (Are : A → B → C → Type 0) (Takes : Type 0) (Is : E → Type 0) (r : Result M E) → IfErr r (λ _. (a : A) (b : B) (c : C) → Are a b c → Takes) → ((e : E) → Takes → Is e) →
     IfErr r (λ e. (a : A) (b : B) (c : C) → Are a b c → Is e)
-wants_any Are Takes Is (Ok made) takes f = tt
+wants_any Are Takes Is (Ok built) takes f = tt
 wants_any Are Takes Is (Err e) takes f = λ a b c are. f e (takes a b c are)

@@ -10,7 +10,7 @@ use Rattle.wave_grammar.specs.Token.{Token, paren_open}
 use Rattle.wave_grammar.specs.Tree.{Takes}
 use Rattle.wave_grammar.specs.ParserPosition as place
 use Rattle.wave_grammar.specs.ParserPosition.{Place, TakesToken, TakesTokens, token_of, text_at}
-use Rattle.wave_grammar.specs.PrefixAutomaton as due
+use Rattle.wave_grammar.specs.PrefixAutomaton as expectation
 use Rattle.wave_grammar.specs.PrefixAutomaton.{Expectation, StackSymbol, Step, value, behind_value, behind_label, reads, unexpected, empty_tuple, repeated_flag, too_deep, step, Shifts}
 use Rattle.wave_grammar.specs.SyntaxErrors.{StandsAt, IsBehind, IsWithin, IsUnfinished}
 use Rattle.wave_tree.specs.ParserLaws.{AreNext, ReadHaveATree, RefusedHaveNone}
@@ -35,15 +35,15 @@ token_one p q r t u (c, (h, a), e) (d, (k, b), f) =
     same_class c d k = cc
 
 -- tokens that are taken are a prefix of those that are next
-behind_front : (p q : Place) (front ts : List Token) → TakesTokens p front q → AreNext p ts → (rest : List Token) × (ts ≡ front ++ rest) × AreNext q rest
-behind_front p q [] ts same next = (ts, refl, subst (λ z. AreNext z ts) same next)
-behind_front p q (t ∷ front) [] (m, h, more) (last, same, none) = absurd (none t m (subst (λ z. TakesToken z t m) same h))
-behind_front p q (t ∷ front) (u ∷ ts) (m, h, more) (last, (k, g, others), none) =
+behind_prefix : (p q : Place) (prefix ts : List Token) → TakesTokens p prefix q → AreNext p ts → (rest : List Token) × (ts ≡ prefix ++ rest) × AreNext q rest
+behind_prefix p q [] ts same next = (ts, refl, subst (λ z. AreNext z ts) same next)
+behind_prefix p q (t ∷ prefix) [] (m, h, more) (last, same, none) = absurd (none t m (subst (λ z. TakesToken z t m) same h))
+behind_prefix p q (t ∷ prefix) (u ∷ ts) (m, h, more) (last, (k, g, others), none) =
     let (tokens, there) = token_one p m k t u h g in
-    let (rest, same, next) = behind_front m q front ts more (last, subst (λ z. TakesTokens z ts last) (sym there) others, none) in
+    let (rest, same, next) = behind_prefix m q prefix ts more (last, subst (λ z. TakesTokens z ts last) (sym there) others, none) in
     (rest, ap (λ z. z ∷ ts) (sym tokens) ∙ ap (λ z. t ∷ z) same, next)
 
--- after a value no more is due before the tokens that are next
+-- after a value no more is expected before the tokens that are next
 ends_there : (d : Expectation) (q : Place) (rest : List Token) → IsBehind d q → AreNext q rest → EndsBefore d rest
 ends_there d q rest (inl e) next = subst (λ z. EndsBefore z rest) (sym e) tt
 ends_there d q rest (inr (e, apart)) (last, taken, none) = subst (λ z. EndsBefore z rest) (sym e) (λ more f. not_next more (subst (λ z. TakesTokens q z last) f taken))
@@ -54,16 +54,16 @@ ends_there d q rest (inr (e, apart)) (last, taken, none) = subst (λ z. EndsBefo
 -- where a value was read a tree stands
 pub read_have_tree : ReadHaveATree
 read_have_tree n p q ts h next =
-    let (rest, same, behind) = behind_front p q h.tokens ts h.taken next in
-    let (t, takes) = led_is_tree n h.tokens rest h.due_there (ends_there h.due_there q rest h.is_behind behind) h.leads in
+    let (rest, same, behind) = behind_prefix p q h.tokens ts h.taken next in
+    let (t, takes) = led_is_tree n h.tokens rest h.expected_there (ends_there h.expected_there q rest h.is_behind behind) h.leads in
     (t, rest, subst (λ z. Takes n z t rest) (sym same) takes, behind)
 
 -- ---- refusals
 
 -- tokens that are next, in two parts
-split : (p q : Place) (front rest : List Token) → TakesTokens p (front ++ rest) q → (m : Place) × TakesTokens p front m × TakesTokens m rest q
+split : (p q : Place) (prefix rest : List Token) → TakesTokens p (prefix ++ rest) q → (m : Place) × TakesTokens p prefix m × TakesTokens m rest q
 split p q [] rest h = (p, refl, h)
-split p q (t ∷ front) rest (k, one, more) = let (m, a, b) = split k q front rest more in (m, (k, one, a), b)
+split p q (t ∷ prefix) rest (k, one, more) = let (m, a, b) = split k q prefix rest more in (m, (k, one, a), b)
 
 -- a token has one answer
 one_step : (n : ℕ) (d e : Expectation) (s r : List StackSymbol) (p q m : Place) (c : lex.Token) (t : Token) (x : Step) → place.TakesItem p (Some (Ok c)) q → step n d s (token_of c (text_at q)) ≡ x → TakesToken p t m → step n d s t ≡ reads e r → x ≡ reads e r
@@ -88,7 +88,7 @@ read_stands kind.NestingTooDeep x n d e s r p q m t (deep, f, says) k g = let w 
 read_stands j x n d e s r p q m t h k g = absurd h
 
 -- after the outermost value no token is read
-behind_none : (t : Token) (e : Expectation) (r : List StackSymbol) → due.behind_step [] t ≡ reads e r → ⊥
+behind_none : (t : Token) (e : Expectation) (r : List StackSymbol) → expectation.behind_step [] t ≡ reads e r → ⊥
 behind_none t e r x = cc
 
 -- a token is read after the outermost value only where it is an open parenthesis after a label
@@ -100,7 +100,7 @@ over_step n d e r t rest (inr (f, apart)) x = (is_open t (ap (λ z. step n z [] 
     is_open paren_open x = refl
     is_open u x = let w : unexpected ≡ reads e r = x in cc
 
--- where a value ends no more is due in it
+-- where a value ends no more is expected in it
 within_not_end : (d : Expectation) (rest : List Token) → IsEnd d rest → IsWithin d → ⊥
 within_not_end d rest (inl e) h = subst IsWithin e h
 within_not_end d rest (inr (e, k)) h = subst IsWithin e h
@@ -111,25 +111,25 @@ next_rest m q t [] (last, e, none) h apart = none t q (subst (λ z. TakesToken z
 next_rest m q t (u ∷ rest) (last, (k, one, more), none) h apart = apart rest (ap (λ z. z ∷ rest) (token_one m k q u t one h).0)
 
 -- where tokens lead to a refusal within a value, none of their prefixes is a whole value
-clash : (k : ParserErrorKind) (x : Diagnostic) (n : ℕ) (d0 : Expectation) (s0 : List StackSymbol) (p q at m : Place) (tokens front rest : List Token) (d e : Expectation) (r : List StackSymbol) →
-    TakesTokens p tokens at → Shifts n d0 s0 tokens e r → IsUnfinished e r → StandsAt k x n e r at q → TakesTokens p front m → Shifts n d0 s0 front d [] → IsEnd d rest → AreNext m rest → ⊥
+clash : (k : ParserErrorKind) (x : Diagnostic) (n : ℕ) (d0 : Expectation) (s0 : List StackSymbol) (p q at m : Place) (tokens prefix rest : List Token) (d e : Expectation) (r : List StackSymbol) →
+    TakesTokens p tokens at → Shifts n d0 s0 tokens e r → IsUnfinished e r → StandsAt k x n e r at q → TakesTokens p prefix m → Shifts n d0 s0 prefix d [] → IsEnd d rest → AreNext m rest → ⊥
 clash k x n d0 s0 p q at m [] [] rest d e r a (v, w) (inl u) stands b (v', w') end next = within_not_end d rest end (subst IsWithin (sym v ∙ v') u)
 clash k x n d0 s0 p q at m [] [] rest d e r a (v, w) (inr u) stands b (v', w') end next = let z = ap length (sym w ∙ w') in omega arith
-clash k x n d0 s0 p q at m [] (t ∷ front) rest d e r a (v, w) u stands (j, one, b) (d', s', z, leads) end next =
+clash k x n d0 s0 p q at m [] (t ∷ prefix) rest d e r a (v, w) u stands (j, one, b) (d', s', z, leads) end next =
     read_stands k x n e d' r s' at q j t stands (subst (λ y. TakesToken y t j) a one) (ap (λ y. step n y r t) (sym v) ∙ (ap (λ y. step n d0 y t) (sym w) ∙ z))
 clash k x n d0 s0 p q at m (t ∷ tokens) [] rest d e r (j, one, a) (d', s', z, leads) u stands b (v, w) end next =
     let y = over_step n d d' s' t rest end (ap (λ c. step n c [] t) (sym v) ∙ (ap (λ c. step n d0 c t) (sym w) ∙ z)) in
     next_rest m j t rest next (subst (λ c. TakesToken c t j) b one) (λ others f. y.1 others (f ∙ ap (λ c. c ∷ others) y.0))
-clash k x n d0 s0 p q at m (t ∷ tokens) (t' ∷ front) rest d e r (j, one, a) (d', s', z, leads) u stands (j', one', b) (d'', s'', z', leads') end next =
+clash k x n d0 s0 p q at m (t ∷ tokens) (t' ∷ prefix) rest d e r (j, one, a) (d', s', z, leads) u stands (j', one', b) (d'', s'', z', leads') end next =
     let o = token_one p j j' t t' one one' in
     let same : reads d' s' ≡ reads d'' s'' = sym z ∙ (ap (step n d0 s0) o.0 ∙ z') in
     let f : d' ≡ d'' = cc in
     let g : s' ≡ s'' = cc in
-    clash k x n d'' s'' j' q at m tokens front rest d e r (subst (λ c. TakesTokens c tokens at) o.1 a) (subst (λ c. Shifts n c s'' tokens e r) f (subst (λ c. Shifts n d' c tokens e r) g leads)) u stands b leads' end next
+    clash k x n d'' s'' j' q at m tokens prefix rest d e r (subst (λ c. TakesTokens c tokens at) o.1 a) (subst (λ c. Shifts n c s'' tokens e r) f (subst (λ c. Shifts n d' c tokens e r) g leads)) u stands b leads' end next
 
 -- where a value was refused no tree stands
 pub refused_have_none : RefusedHaveNone
 refused_have_none n x p q ts h (last, taken, none) t rest takes =
-    let (d, end, (front, same, leads)) = takes_lead n n [] (omega arith) ts t rest takes in
-    let (m, a, b) = split p last front rest (subst (λ z. TakesTokens p z last) same taken) in
-    clash x.kind x n value [] p q h.at m h.tokens front rest d h.due_there h.open_there h.taken h.leads h.unfinished h.stands a leads end (last, b, none)
+    let (d, end, (prefix, same, leads)) = takes_lead n n [] (omega arith) ts t rest takes in
+    let (m, a, b) = split p last prefix rest (subst (λ z. TakesTokens p z last) same taken) in
+    clash x.kind x n value [] p q h.at m h.tokens prefix rest d h.expected_there h.open_there h.taken h.leads h.unfinished h.stands a leads end (last, b, none)

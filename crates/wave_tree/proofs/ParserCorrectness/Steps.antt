@@ -13,8 +13,8 @@ use Rattle.wave_lex.specs.Tokenization.{Lexed, NextIs, remainder_of, span, item_
 use Rattle.wave_lex.proofs.Tokenization.NextToken.{next_one, next_less}
 use Rattle.wave_grammar.specs.Token.{Token, paren_open}
 use Rattle.wave_grammar.specs.ParserPosition.{Place, TakesItem, TakesToken, TakesTokens, token_of, text_at, span_at}
-use Rattle.wave_grammar.specs.PrefixAutomaton as due
-use Rattle.wave_grammar.specs.PrefixAutomaton.{Expectation, StackSymbol, value, first_item, next_item, behind_value, behind_label, reads, unexpected, empty_tuple, repeated_flag, too_deep, step, Shifts, IsValueDue, closes, is_paren, is_colon, is_brace_close, behind_step, value_step, key_step, brace_step, behind_flag_step, flag_step}
+use Rattle.wave_grammar.specs.PrefixAutomaton as expectation
+use Rattle.wave_grammar.specs.PrefixAutomaton.{Expectation, StackSymbol, value, first_item, next_item, behind_value, behind_label, reads, unexpected, empty_tuple, repeated_flag, too_deep, step, Shifts, IsValueExpected, closes, is_paren, is_colon, is_brace_close, behind_step, value_step, key_step, brace_step, behind_flag_step, flag_step}
 use Rattle.wave_grammar.specs.SyntaxErrors.{IsTooDeep, StandsAt, IsSyntaxError, FailsBySyntax, IsBehind, LeadsBehindValue, Gives, IsWithin, IsUnfinished}
 use Rattle.wave_tree.specs.ParserState.{Fails}
 use Rattle.wave_tree.specs.Private.ParserState.{IsRefused}
@@ -26,7 +26,7 @@ pub tokens_join : (p q r : Place) (ts us : List Token) → TakesTokens p ts q �
 tokens_join p q r [] us e h = subst (λ z. TakesTokens z us r) (sym e) h
 tokens_join p q r (t ∷ ts) us (k, one, more) h = (k, one, tokens_join k q r ts us more h)
 
--- from p, where d is due within s, tokens lead to q, where e is due within r
+-- from p, where d is expected within s, tokens lead to q, where e is expected within r
 pub record Reached (n : ℕ) (d : Expectation) (s : List StackSymbol) (p : Place) (e : Expectation) (r : List StackSymbol) (q : Place) : Type 0 where
   pub tokens : List Token
   pub taken : TakesTokens p tokens q
@@ -52,15 +52,15 @@ then_reached {n} {d} {e} {f} {s} {r} {v} {p} {q} {w} h k = record {
   leads = leads_join n d e f s r v h.tokens k.tokens h.leads k.leads;
 }
 
-pub reached : {n : ℕ} {d : Expectation} {s v : List StackSymbol} {p q : Place} → (h : LeadsBehindValue n d s p q v) → Reached n d s p h.due_there v q
+pub reached : {n : ℕ} {d : Expectation} {s v : List StackSymbol} {p q : Place} → (h : LeadsBehindValue n d s p q v) → Reached n d s p h.expected_there v q
 reached h = record { tokens = h.tokens; taken = h.taken; leads = h.leads }
 
 pub read_there : {n : ℕ} {d e : Expectation} {s v : List StackSymbol} {p q : Place} → Reached n d s p e v q → IsBehind e q → LeadsBehindValue n d s p q v
-read_there {e = e} h b = record { tokens = h.tokens; taken = h.taken; due_there = e; is_behind = b; leads = h.leads }
+read_there {e = e} h b = record { tokens = h.tokens; taken = h.taken; expected_there = e; is_behind = b; leads = h.leads }
 
 -- a refusal that stands where tokens lead
 pub refused_there : {n : ℕ} {d e : Expectation} {s v : List StackSymbol} {p q w : Place} (u : IsUnfinished e v) (x : Diagnostic) → Reached n d s p e v q → StandsAt x.kind x n e v q w → IsSyntaxError x n d s p w
-refused_there {e = e} {v = v} {q = q} u x h b = record { unfinished = u; tokens = h.tokens; at = q; due_there = e; open_there = v; taken = h.taken; leads = h.leads; stands = b }
+refused_there {e = e} {v = v} {q = q} u x h b = record { unfinished = u; tokens = h.tokens; at = q; expected_there = e; open_there = v; taken = h.taken; leads = h.leads; stands = b }
 
 -- tokens, and then a refusal
 pub then_refused : {n : ℕ} {d e : Expectation} {s v : List StackSymbol} {p q w : Place} (x : Diagnostic) → Reached n d s p e v q → IsSyntaxError x n e v q w → IsSyntaxError x n d s p w
@@ -68,10 +68,10 @@ then_refused {n} {d} {e} {s} {v} {p} {q} x h b = record {
   unfinished = b.unfinished;
   tokens = h.tokens ++ b.tokens;
   at = b.at;
-  due_there = b.due_there;
+  expected_there = b.expected_there;
   open_there = b.open_there;
   taken = tokens_join p q b.at h.tokens b.tokens h.taken b.taken;
-  leads = leads_join n d e b.due_there s v b.open_there h.tokens b.tokens h.leads b.leads;
+  leads = leads_join n d e b.expected_there s v b.open_there h.tokens b.tokens h.leads b.leads;
   stands = b.stands;
 }
 
@@ -113,14 +113,14 @@ unexpected_there {n} {d} {e} {s} {v} {p} {q} {w} u x c h t f says = λ apart. re
 
 -- what is always a refusal, by what it says
 pub refuses_there : {X : Type 0} {P : Diagnostic → Type 0} {n : ℕ} {d : Expectation} {s : List StackSymbol} {p w : Place} (v : List StackSymbol) (r : Result X Diagnostic) → IfOk r (λ _. ⊥) → IfErr r P → ((x : Diagnostic) → P x → FailsBySyntax x n d s p w) → Gives r n d s p w v
-refuses_there v (Ok made) never says refuses = absurd never
+refuses_there v (Ok built) never says refuses = absurd never
 refuses_there v (Err x) never says refuses = refuses x says
 
 -- ---- after a value
 
 pub not_deep : {n : ℕ} {d : Expectation} {s : List StackSymbol} {p : Place} → IsBehind d p → IsTooDeep n d s p → ⊥
-not_deep (inl e) deep = subst IsValueDue e deep.due
-not_deep (inr (e, apart)) deep = subst IsValueDue e deep.due
+not_deep (inl e) deep = subst IsValueExpected e deep.expected
+not_deep (inr (e, apart)) deep = subst IsValueExpected e deep.expected
 
 paren_is : (t : Token) → is_paren t ≡ true → t ≡ paren_open
 paren_is paren_open e = refl
@@ -140,12 +140,12 @@ pub comma_behind : (c : lex.Token) (s : List StackSymbol) (text : List ℕ) → 
 comma_behind c s text (inl e) = subst (λ z. behind_step (form_of z ∷ s) (token_of Comma text) ≡ reads next_item (form_of z ∷ s)) (sym e) refl
 comma_behind c s text (inr e) = subst (λ z. behind_step (form_of z ∷ s) (token_of Comma text) ≡ reads next_item (form_of z ∷ s)) (sym e) refl
 
-paren_other : (c : lex.Token) (s : List StackSymbol) (text : List ℕ) → c ≢ ParenClose → c ≢ Comma → behind_step (due.tuple ∷ s) (token_of c text) ≡ unexpected
+paren_other : (c : lex.Token) (s : List StackSymbol) (text : List ℕ) → c ≢ ParenClose → c ≢ Comma → behind_step (expectation.tuple ∷ s) (token_of c text) ≡ unexpected
 paren_other ParenClose s text h k = absurd (h refl)
 paren_other Comma s text h k = absurd (k refl)
 paren_other _ s text h k = refl
 
-bracket_other : (c : lex.Token) (s : List StackSymbol) (text : List ℕ) → c ≢ BracketClose → c ≢ Comma → behind_step (due.list ∷ s) (token_of c text) ≡ unexpected
+bracket_other : (c : lex.Token) (s : List StackSymbol) (text : List ℕ) → c ≢ BracketClose → c ≢ Comma → behind_step (expectation.list ∷ s) (token_of c text) ≡ unexpected
 bracket_other BracketClose s text h k = absurd (h refl)
 bracket_other Comma s text h k = absurd (k refl)
 bracket_other _ s text h k = refl
@@ -154,11 +154,11 @@ pub other_behind : (close c : lex.Token) (s : List StackSymbol) (text : List ℕ
 other_behind close c s text (inl e) h k = subst (λ z. behind_step (form_of z ∷ s) (token_of c text) ≡ unexpected) (sym e) (paren_other c s text (λ x. h (x ∙ sym e)) k)
 other_behind close c s text (inr e) h k = subst (λ z. behind_step (form_of z ∷ s) (token_of c text) ≡ unexpected) (sym e) (bracket_other c s text (λ x. h (x ∙ sym e)) k)
 
-paren_closes : (c : lex.Token) (s : List StackSymbol) (text : List ℕ) → closes (due.tuple ∷ s) (token_of c text) ≡ true → c ≡ ParenClose
+paren_closes : (c : lex.Token) (s : List StackSymbol) (text : List ℕ) → closes (expectation.tuple ∷ s) (token_of c text) ≡ true → c ≡ ParenClose
 paren_closes ParenClose s text e = refl
 paren_closes _ s text e = cc
 
-bracket_closes : (c : lex.Token) (s : List StackSymbol) (text : List ℕ) → closes (due.list ∷ s) (token_of c text) ≡ true → c ≡ BracketClose
+bracket_closes : (c : lex.Token) (s : List StackSymbol) (text : List ℕ) → closes (expectation.list ∷ s) (token_of c text) ≡ true → c ≡ BracketClose
 bracket_closes BracketClose s text e = refl
 bracket_closes _ s text e = cc
 
@@ -168,14 +168,14 @@ only_close close c s text (inr e) h = bracket_closes c s text (subst (λ z. clos
 
 -- ---- an item stands where a close may
 
-abbrev pub IsItemDue : Expectation → Type 0
-IsItemDue d = (d ≡ first_item) ⊎ (d ≡ next_item)
+abbrev pub IsItemExpected : Expectation → Type 0
+IsItemExpected d = (d ≡ first_item) ⊎ (d ≡ next_item)
 
-item_due : (d : Expectation) → IsItemDue d → IsValueDue d
-item_due d (inl e) = subst IsValueDue (sym e) tt
-item_due d (inr e) = subst IsValueDue (sym e) tt
+item_expected : (d : Expectation) → IsItemExpected d → IsValueExpected d
+item_expected d (inl e) = subst IsValueExpected (sym e) tt
+item_expected d (inr e) = subst IsValueExpected (sym e) tt
 
-pub item_step : (n : ℕ) (d : Expectation) (s : List StackSymbol) (t : Token) → IsItemDue d → (closes s t ≡ true → ⊥) → step n value s t ≡ step n d s t
+pub item_step : (n : ℕ) (d : Expectation) (s : List StackSymbol) (t : Token) → IsItemExpected d → (closes s t ≡ true → ⊥) → step n value s t ≡ step n d s t
 item_step n d s t (inl e) h = sym (ap (λ z. step n z s t) e ∙ if_false (closes s t) _ _ h)
 item_step n d s t (inr e) h = sym (ap (λ z. step n z s t) e ∙ if_false (closes s t) _ _ h)
 
@@ -197,15 +197,15 @@ level_deep n s t h = ap (λ b. if b then value_step s t else too_deep) (nat_lt_f
 -- no level is left for a value
 pub no_level : (n : ℕ) (s : List StackSymbol) (p : Place) (x : Diagnostic) → n ≤ length s → Says x kind.NestingTooDeep (span_at p) None → FailsBySyntax x n value s p p
 no_level n s p x h says = λ apart. refused_there (inl tt) x (here n value s p)
-    (subst (λ k. StandsAt k x n value s p p) (sym (kind_is says)) (record { full = h; due = tt; no_close = λ t q there. level_deep n s t h }, refl, says))
+    (subst (λ k. StandsAt k x n value s p p) (sym (kind_is says)) (record { full = h; expected = tt; no_close = λ t q there. level_deep n s t h }, refl, says))
 
 value_deep : (n : ℕ) (d : Expectation) (s : List StackSymbol) (p : Place) → IsTooDeep n d s p → IsTooDeep n value s p
-value_deep n d s p deep = record { full = deep.full; due = tt; no_close = λ t q h. level_deep n s t deep.full }
+value_deep n d s p deep = record { full = deep.full; expected = tt; no_close = λ t q h. level_deep n s t deep.full }
 
-item_deep : (n : ℕ) (d : Expectation) (s : List StackSymbol) (p : Place) → IsItemDue d → NoClose s p → IsTooDeep n value s p → IsTooDeep n d s p
-item_deep n d s p i apart deep = record { full = deep.full; due = item_due d i; no_close = λ t q h. sym (item_step n d s t i (apart t q h)) ∙ level_deep n s t deep.full }
+item_deep : (n : ℕ) (d : Expectation) (s : List StackSymbol) (p : Place) → IsItemExpected d → NoClose s p → IsTooDeep n value s p → IsTooDeep n d s p
+item_deep n d s p i apart deep = record { full = deep.full; expected = item_expected d i; no_close = λ t q h. sym (item_step n d s t i (apart t q h)) ∙ level_deep n s t deep.full }
 
-item_stands : (k : ParserErrorKind) (x : Diagnostic) (n : ℕ) (d : Expectation) (s : List StackSymbol) (p q : Place) → IsItemDue d → NoClose s p → StandsAt k x n value s p q → StandsAt k x n d s p q
+item_stands : (k : ParserErrorKind) (x : Diagnostic) (n : ℕ) (d : Expectation) (s : List StackSymbol) (p q : Place) → IsItemExpected d → NoClose s p → StandsAt k x n value s p q → StandsAt k x n d s p q
 item_stands kind.EmptyTuple x n d s p q i apart (c, (h, e), f) = (c, (h, sym (item_step n d s (token_of c (text_at q)) i (apart _ q (token_there p q c h))) ∙ e), f)
 item_stands kind.InvalidToken x n d s p q i apart (bad, h, shallow, f) = (bad, h, (λ deep. shallow (value_deep n d s p deep)), f)
 item_stands kind.UnexpectedEnd x n d s p q i apart (h, shallow, f) = (h, (λ deep. shallow (value_deep n d s p deep)), f)
@@ -214,11 +214,11 @@ item_stands kind.DuplicateFlag x n d s p q i apart (c, (h, e), f) = (c, (h, sym 
 item_stands kind.NestingTooDeep x n d s p q i apart (deep, h, e) = (item_deep n d s p i apart deep, h, e)
 item_stands k x n d s p q i apart h = absurd h
 
-item_within : (d : Expectation) → IsItemDue d → IsWithin d
+item_within : (d : Expectation) → IsItemExpected d → IsWithin d
 item_within d (inl e) = subst IsWithin (sym e) tt
 item_within d (inr e) = subst IsWithin (sym e) tt
 
--- by what stands next both go on alike, and what is refused there where d is due is refused where e is
+-- by what stands next both go on alike, and what is refused there where d is expected is refused where e is
 pub record Alike (n : ℕ) (d e : Expectation) (s : List StackSymbol) (p : Place) : Type 0 where
   pub steps : (t : Token) (q : Place) → TakesToken p t q → step n d s t ≡ step n e s t
   pub first : (x : Diagnostic) (q : Place) → StandsAt x.kind x n d s p q → IsSyntaxError x n e s p q
@@ -232,7 +232,7 @@ alike_refused x n c d s p q alike (t ∷ ts) at e v (m, one, more) (d', s', a, l
   unfinished = u;
   tokens = t ∷ ts;
   at = at;
-  due_there = e;
+  expected_there = e;
   open_there = v;
   taken = (m, one, more);
   leads = (d', s', sym (alike.steps t m one) ∙ a, leads);
@@ -240,30 +240,30 @@ alike_refused x n c d s p q alike (t ∷ ts) at e v (m, one, more) (d', s', a, l
 }
 
 alike_refuses : {n : ℕ} {c d : Expectation} {s : List StackSymbol} {p q : Place} (x : Diagnostic) → Alike n c d s p → FailsBySyntax x n c s p q → FailsBySyntax x n d s p q
-alike_refuses {n} {c} {d} {s} {p} {q} x alike h = λ known. let r = h known in alike_refused x n c d s p q alike r.tokens r.at r.due_there r.open_there r.taken r.leads r.unfinished r.stands
+alike_refuses {n} {c} {d} {s} {p} {q} x alike h = λ known. let r = h known in alike_refused x n c d s p q alike r.tokens r.at r.expected_there r.open_there r.taken r.leads r.unfinished r.stands
 
 alike_read_at : (n : ℕ) (c d : Expectation) (s v : List StackSymbol) (p q : Place) → Alike n c d s p → (ts : List Token) (e : Expectation) → IsBehind e q → TakesTokens p ts q → Shifts n c s ts e v → Reached n d s p e v q
 alike_read_at n c d s v p q alike [] e b taken (x, y) = absurd (alike.not_behind (subst (λ z. IsBehind z p) (sym x) (subst (IsBehind e) (sym taken) b)))
 alike_read_at n c d s v p q alike (t ∷ ts) e b (m, one, more) (d', s', x, leads) = record { tokens = t ∷ ts; taken = (m, one, more); leads = (d', s', sym (alike.steps t m one) ∙ x, leads) }
 
-alike_read : {n : ℕ} {c d : Expectation} {s v : List StackSymbol} {p q : Place} → Alike n c d s p → (h : LeadsBehindValue n c s p q v) → Reached n d s p h.due_there v q
-alike_read {n} {c} {d} {s} {v} {p} {q} alike h = alike_read_at n c d s v p q alike h.tokens h.due_there h.is_behind h.taken h.leads
+alike_read : {n : ℕ} {c d : Expectation} {s v : List StackSymbol} {p q : Place} → Alike n c d s p → (h : LeadsBehindValue n c s p q v) → Reached n d s p h.expected_there v q
+alike_read {n} {c} {d} {s} {v} {p} {q} alike h = alike_read_at n c d s v p q alike h.tokens h.expected_there h.is_behind h.taken h.leads
 
 value_not_behind : (p : Place) → IsBehind value p → ⊥
 value_not_behind p (inl e) = cc
 value_not_behind p (inr (e, h)) = cc
 
-item_alike : (n : ℕ) (d : Expectation) (s : List StackSymbol) (p : Place) → IsItemDue d → NoClose s p → Alike n value d s p
+item_alike : (n : ℕ) (d : Expectation) (s : List StackSymbol) (p : Place) → IsItemExpected d → NoClose s p → Alike n value d s p
 item_alike n d s p i apart = record {
   steps = λ t q there. item_step n d s t i (apart t q there);
-  first = λ x q stands. record { unfinished = inl (item_within d i); tokens = []; at = p; due_there = d; open_there = s; taken = refl; leads = (refl, refl); stands = item_stands x.kind x n d s p q i apart stands };
+  first = λ x q stands. record { unfinished = inl (item_within d i); tokens = []; at = p; expected_there = d; open_there = s; taken = refl; leads = (refl, refl); stands = item_stands x.kind x n d s p q i apart stands };
   not_behind = value_not_behind p;
 }
 
-pub item_refuses : {n : ℕ} {s : List StackSymbol} {p q : Place} (d : Expectation) (x : Diagnostic) → IsItemDue d → NoClose s p → FailsBySyntax x n value s p q → FailsBySyntax x n d s p q
+pub item_refuses : {n : ℕ} {s : List StackSymbol} {p q : Place} (d : Expectation) (x : Diagnostic) → IsItemExpected d → NoClose s p → FailsBySyntax x n value s p q → FailsBySyntax x n d s p q
 item_refuses {n} {s} {p} d x i apart h = alike_refuses x (item_alike n d s p i apart) h
 
-pub item_read : {n : ℕ} {s v : List StackSymbol} {p q : Place} (d : Expectation) → IsItemDue d → NoClose s p → (h : LeadsBehindValue n value s p q v) → Reached n d s p h.due_there v q
+pub item_read : {n : ℕ} {s v : List StackSymbol} {p q : Place} (d : Expectation) → IsItemExpected d → NoClose s p → (h : LeadsBehindValue n value s p q v) → Reached n d s p h.expected_there v q
 item_read {n} {s} {v} {p} d i apart h = alike_read (item_alike n d s p i apart) h
 
 -- ---- what is left gets less
@@ -282,7 +282,7 @@ tokens_less p q (t ∷ ts) (m, (c, h, e), more) = let one = token_less p m c h i
 pub value_less : {n : ℕ} {s v : List StackSymbol} (p m q : Place) (c : lex.Token) → TakesItem p (Some (Ok c)) m → LeadsBehindValue n value s p q v → left_at q ≤ left_at m
 value_less {n} {s} {v} p m q c there h = go h.tokens h.taken h.leads
   where
-    go : (ts : List Token) → TakesTokens p ts q → Shifts n value s ts h.due_there v → left_at q ≤ left_at m
+    go : (ts : List Token) → TakesTokens p ts q → Shifts n value s ts h.expected_there v → left_at q ≤ left_at m
     go [] taken leads = absurd (elim (subst (λ d. IsBehind d q) (sym leads.0) h.is_behind) [ inl is ↦ cc | inr is ↦ (let apart = is.0 in cc) ])
     go (t ∷ ts) (w, (k, first, e), more) leads =
         let same : left_at w ≡ left_at m = ap (λ (l : Lexed). length (remainder_of l)) (next_one p.lexer w.lexer m.lexer (Some (Ok k)) (Some (Ok c)) first.0 there.0).0 in
@@ -332,19 +332,19 @@ pub brace_class : (c : lex.Token) (text : List ℕ) → is_brace_close (token_of
 brace_class BraceClose text e = refl
 brace_class _ text e = cc
 
-pub no_paren : (n : ℕ) (s : List StackSymbol) (c : lex.Token) (text : List ℕ) → c ≢ ParenOpen → step n due.paren s (token_of c text) ≡ unexpected
+pub no_paren : (n : ℕ) (s : List StackSymbol) (c : lex.Token) (text : List ℕ) → c ≢ ParenOpen → step n expectation.paren s (token_of c text) ≡ unexpected
 no_paren n s c text h = if_false (is_paren (token_of c text)) _ _ (λ k. h (paren_class c text k))
 
-pub no_colon : (n : ℕ) (s : List StackSymbol) (c : lex.Token) (text : List ℕ) → c ≢ Colon → step n due.behind_key s (token_of c text) ≡ unexpected
+pub no_colon : (n : ℕ) (s : List StackSymbol) (c : lex.Token) (text : List ℕ) → c ≢ Colon → step n expectation.behind_key s (token_of c text) ≡ unexpected
 no_colon n s c text h = if_false (is_colon (token_of c text)) _ _ (λ k. h (colon_class c text k))
 
-pub no_brace : (n : ℕ) (s : List StackSymbol) (c : lex.Token) (text : List ℕ) → c ≢ BraceClose → step n due.no_fields s (token_of c text) ≡ unexpected
+pub no_brace : (n : ℕ) (s : List StackSymbol) (c : lex.Token) (text : List ℕ) → c ≢ BraceClose → step n expectation.no_fields s (token_of c text) ≡ unexpected
 no_brace n s c text h = if_false (is_brace_close (token_of c text)) _ _ (λ k. h (brace_class c text k))
 
 pub behind_bare : (p : Place) → ((next : Place) × TakesItem p (Some (Ok ParenOpen)) next → ⊥) → IsBehind behind_label p
 behind_bare p none = inr (refl, λ new (c, h, e). none (new, subst (λ z. TakesItem p (Some (Ok z)) new) (paren_class c (text_at new) (ap is_paren (sym e))) h))
 
-pub payload_other : (c : lex.Token) (s : List StackSymbol) (text : List ℕ) → c ≢ ParenClose → behind_step (due.payload ∷ s) (token_of c text) ≡ unexpected
+pub payload_other : (c : lex.Token) (s : List StackSymbol) (text : List ℕ) → c ≢ ParenClose → behind_step (expectation.payload ∷ s) (token_of c text) ≡ unexpected
 payload_other ParenClose s text h = absurd (h refl)
 payload_other _ s text h = refl
 
@@ -365,7 +365,7 @@ unexpected_behind {n} {d} {s} {v} {g} {p} {q} {w} e x c h is t f says =
 
 -- ---- braces
 
-pub key_reads : (c : lex.Token) (s : List StackSymbol) (text : List ℕ) → IsKeyClass c → key_step s (token_of c text) ≡ reads due.behind_key s
+pub key_reads : (c : lex.Token) (s : List StackSymbol) (text : List ℕ) → IsKeyClass c → key_step s (token_of c text) ≡ reads expectation.behind_key s
 key_reads Number s text h = refl
 key_reads LabelOrKeyword s text h = refl
 key_reads Char s text h = refl
@@ -387,7 +387,7 @@ brace_key Colon s text h k = absurd (k refl)
 brace_key LabelOrKeyword s text h k = absurd (h refl)
 brace_key _ s text h k = refl
 
-pub entries_other : (c : lex.Token) (s : List StackSymbol) (text : List ℕ) → c ≢ BraceClose → c ≢ Comma → behind_step (due.entries ∷ s) (token_of c text) ≡ unexpected
+pub entries_other : (c : lex.Token) (s : List StackSymbol) (text : List ℕ) → c ≢ BraceClose → c ≢ Comma → behind_step (expectation.entries ∷ s) (token_of c text) ≡ unexpected
 entries_other BraceClose s text h k = absurd (h refl)
 entries_other Comma s text h k = absurd (k refl)
 entries_other _ s text h k = refl
@@ -402,23 +402,23 @@ no_flag names BraceClose s text h k = absurd (h refl)
 no_flag names LabelOrKeyword s text h k = absurd (k refl)
 no_flag names _ s text h k = refl
 
-word_flag : (text : List ℕ) (c : lex.Token) (s : List StackSymbol) (n : ℕ) (more : List ℕ) → c ≢ Colon → step n (due.behind_word text) s (token_of c more) ≡ behind_flag_step (name_of text ∷ []) s (token_of c more)
+word_flag : (text : List ℕ) (c : lex.Token) (s : List StackSymbol) (n : ℕ) (more : List ℕ) → c ≢ Colon → step n (expectation.behind_word text) s (token_of c more) ≡ behind_flag_step (name_of text ∷ []) s (token_of c more)
 word_flag text Colon s n more h = absurd (h refl)
 word_flag text _ s n more h = refl
 
 -- after a flag: after the first one no colon stands
-abbrev pub IsFlagDue : Expectation → List (List ℕ) → Place → Type 0
-IsFlagDue d names p = (d ≡ due.behind_flag names)
-    ⊎ ((text : List ℕ) × (d ≡ due.behind_word text) × (names ≡ name_of text ∷ []) × ((next : Place) → TakesItem p (Some (Ok Colon)) next → ⊥))
+abbrev pub IsFlagExpected : Expectation → List (List ℕ) → Place → Type 0
+IsFlagExpected d names p = (d ≡ expectation.behind_flag names)
+    ⊎ ((text : List ℕ) × (d ≡ expectation.behind_word text) × (names ≡ name_of text ∷ []) × ((next : Place) → TakesItem p (Some (Ok Colon)) next → ⊥))
 
-pub flag_same : (n : ℕ) (d : Expectation) (names : List (List ℕ)) (s : List StackSymbol) (p q : Place) (c : lex.Token) → IsFlagDue d names p → TakesItem p (Some (Ok c)) q → step n d s (token_of c (text_at q)) ≡ behind_flag_step names s (token_of c (text_at q))
+pub flag_same : (n : ℕ) (d : Expectation) (names : List (List ℕ)) (s : List StackSymbol) (p q : Place) (c : lex.Token) → IsFlagExpected d names p → TakesItem p (Some (Ok c)) q → step n d s (token_of c (text_at q)) ≡ behind_flag_step names s (token_of c (text_at q))
 flag_same n d names s p q c (inl e) h = ap (λ z. step n z s (token_of c (text_at q))) e
 flag_same n d names s p q c (inr (text, e, f, apart)) h =
     ap (λ z. step n z s (token_of c (text_at q))) e ∙ (word_flag text c s n (text_at q) (λ k. apart q (subst (λ z. TakesItem p (Some (Ok z)) q) k h)) ∙ ap (λ z. behind_flag_step z s (token_of c (text_at q))) (sym f))
 
-pub flag_not_deep : (n : ℕ) (d : Expectation) (names : List (List ℕ)) (s : List StackSymbol) (p : Place) → IsFlagDue d names p → IsTooDeep n d s p → ⊥
-flag_not_deep n d names s p (inl e) deep = subst IsValueDue e deep.due
-flag_not_deep n d names s p (inr (text, e, f, apart)) deep = subst IsValueDue e deep.due
+pub flag_not_deep : (n : ℕ) (d : Expectation) (names : List (List ℕ)) (s : List StackSymbol) (p : Place) → IsFlagExpected d names p → IsTooDeep n d s p → ⊥
+flag_not_deep n d names s p (inl e) deep = subst IsValueExpected e deep.expected
+flag_not_deep n d names s p (inr (text, e, f, apart)) deep = subst IsValueExpected e deep.expected
 
 pub then_same : {n : ℕ} {d e f : Expectation} {s r v : List StackSymbol} {p q w : Place} (c : lex.Token) → Reached n d s p e r q → TakesItem q (Some (Ok c)) w → step n e r (token_of c (text_at w)) ≡ reads f v → Reached n d s p f v w
 then_same {w = w} c h k x = then_token (token_of c (text_at w)) h (token_there _ w c k) x
@@ -453,8 +453,8 @@ abbrev item_of : lex.Token → Option (Result lex.Token (Range ℕ))
 item_of c = Some (Ok c)
 
 -- what stands next is an item of this class, and it was asked for
-pub expected : {X : Type 0} (p q w : Place) (class : lex.Token) (x : Diagnostic) → q ≡ p → (next : Place) × TakesItem p (Some (Ok class)) next → Fails (λ k. k ≡ class) x q w → X
-expected p q w class x e (next, h) f = absurd (not_there f)
+pub not_expected : {X : Type 0} (p q w : Place) (class : lex.Token) (x : Diagnostic) → q ≡ p → (next : Place) × TakesItem p (Some (Ok class)) next → Fails (λ k. k ≡ class) x q w → X
+not_expected p q w class x e (next, h) f = absurd (not_there f)
   where
     not_error : (span : Range ℕ) → item_of class ≡ Some (Err span) → ⊥
     not_error span k = cc
@@ -512,17 +512,17 @@ module _ (n : ℕ) (d e f : Expectation) (s v : List StackSymbol) (p w : Place) 
   known_goes : (k : lex.Token) (q : Place) → TakesItem p (Some (Ok k)) q → step n d s (token_of k (text_at q)) ≡ reads f v
   known_goes k q h = ap (step n d s) (token_same (token_of k (text_at q)) q (token_there p q k h)) ∙ goes
 
-  known_stands : (k : ParserErrorKind) (x : Diagnostic) (q : Place) → (IsValueDue d → ⊥) → StandsAt k x n d s p q → ⊥
+  known_stands : (k : ParserErrorKind) (x : Diagnostic) (q : Place) → (IsValueExpected d → ⊥) → StandsAt k x n d s p q → ⊥
   known_stands kind.EmptyTuple x q apart (k, (h, is), says) = let wrong : reads f v ≡ empty_tuple = sym (known_goes k q h) ∙ is in cc
   known_stands kind.UnexpectedToken x q apart (k, (h, is), says) = let wrong : reads f v ≡ unexpected = sym (known_goes k q h) ∙ is in cc
   known_stands kind.DuplicateFlag x q apart (k, (h, is), says) = let wrong : reads f v ≡ repeated_flag = sym (known_goes k q h) ∙ is in cc
   known_stands kind.InvalidToken x q apart (bad, h, shallow, says) = let wrong : item_of c ≡ Some (Err bad) = (next_one p.lexer w.lexer q.lexer _ _ there.0 h.0).1 in cc
   known_stands kind.UnexpectedEnd x q apart (h, shallow, says) = let wrong : item_of c ≡ None = (next_one p.lexer w.lexer q.lexer _ _ there.0 h.0).1 in cc
-  known_stands kind.NestingTooDeep x q apart (deep, h, says) = apart deep.due
+  known_stands kind.NestingTooDeep x q apart (deep, h, says) = apart deep.expected
   known_stands k x q apart h = absurd h
 
   -- both go on alike, as what stands next is known
-  pub known_alike : (IsValueDue d → ⊥) → (IsBehind d p → ⊥) → step n e s (token_of c (text_at w)) ≡ reads f v → Alike n d e s p
+  pub known_alike : (IsValueExpected d → ⊥) → (IsBehind d p → ⊥) → step n e s (token_of c (text_at w)) ≡ reads f v → Alike n d e s p
   known_alike apart not_behind as_well = record {
     steps = λ t q one. let same = token_same t q one in ap (step n d s) same ∙ (goes ∙ (sym as_well ∙ ap (step n e s) (sym same)));
     first = λ x q stands. absurd (known_stands x.kind x q apart stands);
@@ -533,23 +533,23 @@ pub gives_alike : {X : Type 0} (n : ℕ) (d e : Expectation) (s v : List StackSy
 gives_alike n d e s v p q (Ok x) alike h = read_there (alike_read alike h) h.is_behind
 gives_alike n d e s v p q (Err x) alike h = alike_refuses x alike h
 
-paren_not_behind : (p : Place) → IsBehind due.paren p → ⊥
+paren_not_behind : (p : Place) → IsBehind expectation.paren p → ⊥
 paren_not_behind p (inl e) = cc
 paren_not_behind p (inr (e, h)) = cc
 
-key_not_behind : (p : Place) → IsBehind due.behind_key p → ⊥
+key_not_behind : (p : Place) → IsBehind expectation.behind_key p → ⊥
 key_not_behind p (inl e) = cc
 key_not_behind p (inr (e, h)) = cc
 
 -- before an open parenthesis a label goes on as `some` does
-pub paren_alike : (n : ℕ) (s : List StackSymbol) (p : Place) → (next : Place) × TakesItem p (Some (Ok ParenOpen)) next → Alike n due.paren behind_label s p
-paren_alike n s p (w, there) = known_alike n due.paren behind_label value s (due.payload ∷ s) p w ParenOpen there refl (λ h. h) (paren_not_behind p) refl
+pub paren_alike : (n : ℕ) (s : List StackSymbol) (p : Place) → (next : Place) × TakesItem p (Some (Ok ParenOpen)) next → Alike n expectation.paren behind_label s p
+paren_alike n s p (w, there) = known_alike n expectation.paren behind_label value s (expectation.payload ∷ s) p w ParenOpen there refl (λ h. h) (paren_not_behind p) refl
 
 -- before a colon a word in braces goes on as a key does
-pub colon_alike : (n : ℕ) (s : List StackSymbol) (p : Place) (text : List ℕ) → (next : Place) × TakesItem p (Some (Ok Colon)) next → Alike n due.behind_key (due.behind_word text) s p
-colon_alike n s p text (w, there) = known_alike n due.behind_key (due.behind_word text) value s (due.entries ∷ s) p w Colon there refl (λ h. h) (key_not_behind p) refl
+pub colon_alike : (n : ℕ) (s : List StackSymbol) (p : Place) (text : List ℕ) → (next : Place) × TakesItem p (Some (Ok Colon)) next → Alike n expectation.behind_key (expectation.behind_word text) s p
+colon_alike n s p text (w, there) = known_alike n expectation.behind_key (expectation.behind_word text) value s (expectation.entries ∷ s) p w Colon there refl (λ h. h) (key_not_behind p) refl
 
-pub flag_within : (d : Expectation) (names : List (List ℕ)) (p : Place) → IsFlagDue d names p → IsWithin d
+pub flag_within : (d : Expectation) (names : List (List ℕ)) (p : Place) → IsFlagExpected d names p → IsWithin d
 flag_within d names p (inl e) = subst IsWithin (sym e) tt
 flag_within d names p (inr (text, e, f, apart)) = subst IsWithin (sym e) tt
 

@@ -11,9 +11,9 @@ use Rattle.wave_lex.specs.Tokens.{shape}
 use Rattle.wave_lex.specs.FunctionName.{IsName, NoName, NameIs}
 use Rattle.wave_lex.specs.Tokenization.{Lexed, span}
 use Rattle.wave_lex.proofs.Tokenization.Classes.{shape_not_empty}
-use Rattle.wave_lex.proofs.LongestPrefix.ByComputing.{front_positive}
+use Rattle.wave_lex.proofs.LongestPrefix.ByComputing.{prefix_positive}
 use Rattle.wave_grammar.specs.Token as token
-use Rattle.wave_grammar.specs.Token.{Token, CutsInto, paren_open, paren_close}
+use Rattle.wave_grammar.specs.Token.{Token, TokenizesTo, paren_open, paren_close}
 use Rattle.wave_grammar.specs.Tree as form
 use Rattle.wave_grammar.specs.Tree.{Tree, MaybeTree, no_tree, a_tree, Takes, word_of}
 use Rattle.wave_grammar.specs.Calls.{SpellsParams, IsCall}
@@ -21,7 +21,7 @@ use Rattle.wave_grammar.specs.SpannedTree.{tuple, placed_trees, trees_of, tree_o
 use Rattle.wave_grammar.specs.NodeTree.{NodeTree, type_of}
 use Rattle.wave_grammar.specs.ParserPosition as place
 use Rattle.wave_grammar.specs.ParserPosition.{Place, TakesToken, TakesTokens, token_of, text_at}
-use Rattle.wave_grammar.specs.PrefixAutomaton as due
+use Rattle.wave_grammar.specs.PrefixAutomaton as expectation
 use Rattle.wave_lex.specs.Errors.{Diagnostic, Says, Refusal, LiesInText}
 use Rattle.wave_wasm.specs.Types.{TypeTree}
 use Rattle.wave_grammar.specs.NodeParams.{RefusesNone}
@@ -35,7 +35,7 @@ use Rattle.wave_tree.specs.UntypedCall.{IsTupleTaken, AreParamsTaken, RefusesTup
 use Rattle.wave_tree.specs.Private.UntypedCall.{CallStandsIn, params_place}
 use Rattle.wave_grammar.proofs.Unambiguity.Trees.{one_tree}
 use Rattle.wave_tree.proofs.ParserCorrectness.Sound.{read_have_tree, refused_have_none, token_one}
-use Rattle.wave_tree.proofs.ParserCorrectness.Steps.{expected}
+use Rattle.wave_tree.proofs.ParserCorrectness.Steps.{not_expected}
 use Rattle.wave_grammar.proofs.NodeTexts.Slices.{taken_is}
 use Rattle.wave_grammar.proofs.ErrorSpans.Nodes.{node_in_text}
 use Rattle.wave_tree.proofs.TextReading.Meaning.{AllOf, all_from, cut_from, all_are_next, all_taken, nothing_there}
@@ -45,15 +45,15 @@ use Rattle.wave_tree.proofs.NodeCorrectness.Lists.{tuple_parsed}
 
 -- ---- what is taken
 
--- what leads on after a `(` leads on from before it, where a value is due
-read_before : (old m new : Place) → TakesClass ParenOpen old m → LeadsBehindValue 101 due.first_item (due.tuple ∷ []) m new [] → LeadsBehindValue 101 due.value [] old new []
-read_before old m new open_there h = record { tokens = paren_open ∷ h.tokens; taken = (m, (ParenOpen, open_there, refl), h.taken); due_there = h.due_there; is_behind = h.is_behind; leads = (due.first_item, due.tuple ∷ [], refl, h.leads) }
+-- what leads on after a `(` leads on from before it, where a value is expected
+read_before : (old m new : Place) → TakesClass ParenOpen old m → LeadsBehindValue 101 expectation.first_item (expectation.tuple ∷ []) m new [] → LeadsBehindValue 101 expectation.value [] old new []
+read_before old m new open_there h = record { tokens = paren_open ∷ h.tokens; taken = (m, (ParenOpen, open_there, refl), h.taken); expected_there = h.expected_there; is_behind = h.is_behind; leads = (expectation.first_item, expectation.tuple ∷ [], refl, h.leads) }
 
-refused_before : (e : Diagnostic) (old m new : Place) → TakesClass ParenOpen old m → IsSyntaxError e 101 due.first_item (due.tuple ∷ []) m new → IsSyntaxError e 101 due.value [] old new
-refused_before e old m new open_there h = record { tokens = paren_open ∷ h.tokens; at = h.at; due_there = h.due_there; open_there = h.open_there; taken = (m, (ParenOpen, open_there, refl), h.taken); leads = (due.first_item, due.tuple ∷ [], refl, h.leads); unfinished = h.unfinished; stands = h.stands }
+refused_before : (e : Diagnostic) (old m new : Place) → TakesClass ParenOpen old m → IsSyntaxError e 101 expectation.first_item (expectation.tuple ∷ []) m new → IsSyntaxError e 101 expectation.value [] old new
+refused_before e old m new open_there h = record { tokens = paren_open ∷ h.tokens; at = h.at; expected_there = h.expected_there; open_there = h.open_there; taken = (m, (ParenOpen, open_there, refl), h.taken); leads = (expectation.first_item, expectation.tuple ∷ [], refl, h.leads); unfinished = h.unfinished; stands = h.stands }
 
 -- the tuple of the parameters
-pub tuple_taken : (old m new : Place) (parsed : NodeTree) → IsSound old → TakesClass ParenOpen old m → LeadsBehindValue 101 due.first_item (due.tuple ∷ []) m new [] → IsOfItems 100 ParenClose m new parsed → IsTupleTaken 100 old new parsed
+pub tuple_taken : (old m new : Place) (parsed : NodeTree) → IsSound old → TakesClass ParenOpen old m → LeadsBehindValue 101 expectation.first_item (expectation.tuple ∷ []) m new [] → IsOfItems 100 ParenClose m new parsed → IsTupleTaken 100 old new parsed
 tuple_taken old m new parsed sound open_there read items =
     let h = tuple_parsed 101 old m new parsed (omega arith) open_there items in
     record {
@@ -72,12 +72,12 @@ tuple_taken old m new parsed sound open_there read items =
 -- a tuple is spelled as parameters are
 tuple_tokens : (tokens : List Token) (n : ℕ) (ts : form.Trees) → Takes (suc n) tokens (form.tuple ts) [] → SpellsParams n tokens (a_tree (form.tuple ts))
 tuple_tokens [] n ts h = absurd h
-tuple_tokens (token.paren_open ∷ front) n ts h = inr (front, h.0, refl, h.1, h.2, ap a_tree h.3)
-tuple_tokens (token.bracket_open ∷ front) n ts h = absurd (cc h.2)
-tuple_tokens (token.brace_open ∷ front) n ts (inl h) = absurd (cc h.1)
-tuple_tokens (token.brace_open ∷ front) n ts (inr (inl h)) = absurd (cc h.1)
-tuple_tokens (token.brace_open ∷ front) n ts (inr (inr (inl h))) = absurd (cc h.3)
-tuple_tokens (token.brace_open ∷ front) n ts (inr (inr (inr h))) = absurd (cc h.4)
+tuple_tokens (token.paren_open ∷ prefix) n ts h = inr (prefix, h.0, refl, h.1, h.2, ap a_tree h.3)
+tuple_tokens (token.bracket_open ∷ prefix) n ts h = absurd (cc h.2)
+tuple_tokens (token.brace_open ∷ prefix) n ts (inl h) = absurd (cc h.1)
+tuple_tokens (token.brace_open ∷ prefix) n ts (inr (inl h)) = absurd (cc h.1)
+tuple_tokens (token.brace_open ∷ prefix) n ts (inr (inr (inl h))) = absurd (cc h.3)
+tuple_tokens (token.brace_open ∷ prefix) n ts (inr (inr (inr h))) = absurd (cc h.4)
 tuple_tokens (token.label text ∷ behind) n ts h = absurd (no_word (word_of text) text n behind ts h)
 tuple_tokens (token.number text ∷ behind) n ts h = absurd (cc h.1)
 tuple_tokens (token.char text ∷ behind) n ts h = absurd (cc h.1)
@@ -88,12 +88,12 @@ tuple_tokens (_ ∷ behind) n ts h = absurd h
 -- parameters are `()` or a tuple's tokens
 pub params_tokens : (n : ℕ) (tokens : List Token) (params : MaybeTree) → SpellsParams n tokens params → (tokens ≡ paren_open ∷ paren_close ∷ []) ⊎ ((t : Tree) × Takes (suc n) tokens t [])
 params_tokens n tokens params (inl h) = inl h.0
-params_tokens n tokens params (inr (front, items, is, some, all, e)) = inr (form.tuple (form.trees items), subst (λ z. Takes (suc n) z (form.tuple (form.trees items)) []) (sym is) (items, some, all, refl))
+params_tokens n tokens params (inr (prefix, items, is, some, all, e)) = inr (form.tuple (form.trees items), subst (λ z. Takes (suc n) z (form.tuple (form.trees items)) []) (sym is) (items, some, all, refl))
 
 -- they begin with `(`
 pub opens : (n : ℕ) (tokens : List Token) (params : MaybeTree) → SpellsParams n tokens params → (more : List Token) × (tokens ≡ paren_open ∷ more)
 opens n tokens params (inl h) = (paren_close ∷ [], h.0)
-opens n tokens params (inr (front, items, is, some, all, e)) = (front, is)
+opens n tokens params (inr (prefix, items, is, some, all, e)) = (prefix, is)
 
 -- no tree begins with `()`
 no_empty : (n : ℕ) (more : List Token) (t : Tree) (rest : List Token) → Takes (suc n) (paren_open ∷ paren_close ∷ more) t rest → ⊥
@@ -130,7 +130,7 @@ record CallTokens (s : List ℕ) (k : ℕ) : Type 0 where
 call_tokens : (s : List ℕ) (k : ℕ) (name : List ℕ) (params : MaybeTree) → IsName s k → IsCall s name params → CallTokens s k
 call_tokens s k name params named h =
     let same = one_name s h.bytes k h.named named in
-    record { tokens = h.tokens; params = params; spelled = h.spelled; all = all_from (behind_name s k) h.tokens (subst (λ (z : ℕ). CutsInto (drop z s) h.tokens) same h.cut) }
+    record { tokens = h.tokens; params = params; spelled = h.spelled; all = all_from (behind_name s k) h.tokens (subst (λ (z : ℕ). TokenizesTo (drop z s) h.tokens) same h.cut) }
 
 -- their first is `(`
 first_open : (s : List ℕ) (k : ℕ) → CallTokens s k → (m : Place) × TakesClass ParenOpen (behind_name s k) m
@@ -148,14 +148,14 @@ no_call_empty : (s : List ℕ) → s ≡ [] → IsNoCall s
 no_call_empty s e name params h =
     let (m, open_there) = first_open s h.bytes (call_tokens s h.bytes name params h.named h) in
     let it = taken_is (behind_name s h.bytes) m ParenOpen open_there in
-    let some = front_positive (shape ParenOpen) (drop it.g (drop h.bytes s)) it.k (shape_not_empty ParenOpen) it.token_is.is.0 in
+    let some = prefix_positive (shape ParenOpen) (drop it.g (drop h.bytes s)) it.k (shape_not_empty ParenOpen) it.token_is.is.0 in
     let fits = it.token_is.is.0.fits in
     omega (arith, some, fits, length-drop it.g (drop h.bytes s), length-drop h.bytes s, ap length e)
 
 no_call_refused : (s : List ℕ) (k : ℕ) (p : Place) (e : Diagnostic) → IsName s k → RefusesTuple e (behind_name s k) p → IsNoCall s
 no_call_refused s k p e named (inl fails) name params h =
     let (m, open_there) = first_open s k (call_tokens s k name params named h) in
-    expected (behind_name s k) (behind_name s k) p ParenOpen e refl (m, open_there) fails
+    not_expected (behind_name s k) (behind_name s k) p ParenOpen e refl (m, open_there) fails
 no_call_refused s k p e named (inr (m, open_there, no_close, refused)) name params h =
     let it = call_tokens s k name params named h in by it (params_tokens 100 it.tokens it.params it.spelled)
   where
@@ -239,7 +239,7 @@ named_at s l name (k, it, named) = (k, named, λ i. record { source = it.source 
 
 -- the place of a refused name
 pub unnamed_at : (s : List ℕ) (l : Lexed) (bad : Range ℕ) (e : Diagnostic) → NameIs (record { source = s; start = 0; end = 0 }) l (Some (Err bad)) → Says e because.InvalidToken (span l.start l.end) None → NameFault s e
-unnamed_at s l bad e (k, it, none, front, place) says = inr (k, none, front, subst (λ (p : Range ℕ). Says e because.InvalidToken p None) (λ i. span (it.start i) ((it.end ∙ zero_plus) i)) says)
+unnamed_at s l bad e (k, it, none, prefix, place) says = inr (k, none, prefix, subst (λ (p : Range ℕ). Says e because.InvalidToken p None) (λ i. span (it.start i) ((it.end ∙ zero_plus) i)) says)
   where
     zero_plus : 0 + k ≡ k
     zero_plus = omega arith

@@ -9,10 +9,10 @@ use Rattle.wave_lex.specs.declared.lex.Token as lex
 use Rattle.wave_lex.specs.Errors.{Diagnostic}
 use Rattle.wave_lex.specs.declared.error.ParserErrorKind.{ParserErrorKind}
 use Rattle.wave_lex.specs.declared.error.ParserErrorKind.TheVariants as kind
-use Rattle.wave_lex.specs.Tokenization.{IsGap, Front, remainder_of}
+use Rattle.wave_lex.specs.Tokenization.{IsWhitespace, Prefix, remainder_of}
 use Rattle.wave_lex.proofs.Tokenization.NextToken.{next_one}
 use Rattle.wave_grammar.specs.Token as token
-use Rattle.wave_grammar.specs.Token.{Token, lexeme_of, CutsInto, brace_open, brace_close, paren_open, paren_close, bracket_open, bracket_close, colon, comma}
+use Rattle.wave_grammar.specs.Token.{Token, lexeme_of, TokenizesTo, brace_open, brace_close, paren_open, paren_close, bracket_open, bracket_close, colon, comma}
 use Rattle.wave_grammar.specs.Denotes.{Means, MeansNone}
 use Rattle.wave_grammar.specs.Tree as tree
 use Rattle.wave_grammar.specs.Tree.{Tree}
@@ -29,7 +29,7 @@ use Rattle.wave_grammar.proofs.Elaboration.GrammarToTree.{through}
 use Rattle.wave_grammar.proofs.Elaboration.TreeToGrammar.{back}
 use Rattle.wave_grammar.proofs.Unambiguity.Trees.{one_tree}
 use Rattle.wave_tree.proofs.ParserCorrectness.Sound.{read_have_tree, refused_have_none, token_one}
-use Rattle.wave_grammar.proofs.NodeTexts.Slices.{tokens_front, tokens_source}
+use Rattle.wave_grammar.proofs.NodeTexts.Slices.{tokens_prefix, tokens_source}
 
 -- ---- nodes
 
@@ -67,17 +67,17 @@ record TakenTo (p : Place) (ts : List Token) (r : List ℕ) : Type 0 where
   pub left : remainder_of last.lexer ≡ r
 
 -- the tokens at the start of what is left are taken
-front_taken : (p : Place) (ts : List Token) (r : List ℕ) → Front (remainder_of p.lexer) (map lexeme_of ts) r → TakenTo p ts r
-front_taken p [] r e = record { last = p; taken = refl; left = e }
-front_taken p (t ∷ ts) r (g, k, gap_is, longest, text, more) =
+prefix_taken : (p : Place) (ts : List Token) (r : List ℕ) → Prefix (remainder_of p.lexer) (map lexeme_of ts) r → TakenTo p ts r
+prefix_taken p [] r e = record { last = p; taken = refl; left = e }
+prefix_taken p (t ∷ ts) r (g, k, whitespace_is, longest, text, more) =
     let l = p.lexer in
     let q : Place = record { lexer = record { source = l.source; start = l.end + g; end = l.end + g + k }; taken = p.taken + 1 } in
-    let step : TakesItem p (Some (Ok (lexeme_of t).0)) q = ((g, k, record { source = refl; skipped = gap_is; start = refl; end = refl }, longest), refl) in
+    let step : TakesItem p (Some (Ok (lexeme_of t).0)) q = ((g, k, record { source = refl; skipped = whitespace_is; start = refl; end = refl }, longest), refl) in
     let text_is : text_at q ≡ take k (drop g (remainder_of l)) =
     ap (λ z. take z (drop (l.end + g) l.source)) (omega arith) ∙ ap (take k) (sym (drop-drop g l.end l.source)) in
     let left : drop (g + k) (remainder_of l) ≡ remainder_of q.lexer = drop-drop (g + k) l.end l.source ∙ ap (λ z. drop z l.source) (omega arith) in
     let token_is : t ≡ token_of (lexeme_of t).0 (text_at q) = token_again t ∙ ap (token_of (lexeme_of t).0) (text ∙ sym text_is) in
-    let rest = front_taken q ts r (subst (λ z. Front z (map lexeme_of ts) r) left more) in
+    let rest = prefix_taken q ts r (subst (λ z. Prefix z (map lexeme_of ts) r) left more) in
     record { last = rest.last; taken = (q, ((lexeme_of t).0, step, token_is), rest.taken); left = rest.left }
 
 -- all tokens of a text, and the end after them
@@ -86,9 +86,9 @@ pub record AllOf (p : Place) (ts : List Token) : Type 0 where
   pub taken : TakesTokens p ts last
   pub ends : (behind : Place) × TakesItem last None behind
 
-pub all_from : (p : Place) (ts : List Token) → CutsInto (remainder_of p.lexer) ts → AllOf p ts
-all_from p ts (r, front, gap_is) =
-    let it = front_taken p ts r front in
+pub all_from : (p : Place) (ts : List Token) → TokenizesTo (remainder_of p.lexer) ts → AllOf p ts
+all_from p ts (r, prefix, whitespace_is) =
+    let it = prefix_taken p ts r prefix in
     let l = it.last.lexer in
     let n = length (remainder_of l) in
     record {
@@ -96,11 +96,11 @@ all_from p ts (r, front, gap_is) =
       taken = it.taken;
       ends = (
         record { lexer = record { source = l.source; start = l.end + n; end = l.end + n + 0 }; taken = it.last.taken + 1 },
-        (record { source = refl; skipped = subst (λ z. IsGap z (length z)) (sym it.left) gap_is; start = refl; end = refl }, refl),
+        (record { source = refl; skipped = subst (λ z. IsWhitespace z (length z)) (sym it.left) whitespace_is; start = refl; end = refl }, refl),
       );
     }
 
-pub all_of : (s : List ℕ) (ts : List Token) → CutsInto s ts → AllOf (start_of s) ts
+pub all_of : (s : List ℕ) (ts : List Token) → TokenizesTo s ts → AllOf (start_of s) ts
 all_of s ts cut = all_from (start_of s) ts cut
 
 abbrev item : lex.Token → Item
@@ -125,36 +125,36 @@ pub all_are_next : (p : Place) (ts : List Token) → AllOf p ts → AreNext p ts
 all_are_next p ts h = (h.last, h.taken, no_token_there h.last h.ends.0 h.ends.1)
 
 -- tokens after which none is next are all
-pub all_taken : (p q : Place) (front ts : List Token) → TakesTokens p front q → AreNext q [] → (h : AllOf p ts) → (front ≡ ts) × (q ≡ h.last)
+pub all_taken : (p q : Place) (prefix ts : List Token) → TakesTokens p prefix q → AreNext q [] → (h : AllOf p ts) → (prefix ≡ ts) × (q ≡ h.last)
 all_taken p q [] [] e next h = (refl, sym e ∙ h.taken)
 all_taken p q [] (u ∷ ts) e (last, same, none) h = let (k, one, others) = h.taken in absurd (none u k (subst (λ z. TakesToken z u k) (e ∙ same) one))
-all_taken p q (t ∷ front) [] (m, one, more) next h = absurd (no_token_there h.last h.ends.0 h.ends.1 t m (subst (λ z. TakesToken z t m) h.taken one))
-all_taken p q (t ∷ front) (u ∷ ts) (m, one, more) next h =
+all_taken p q (t ∷ prefix) [] (m, one, more) next h = absurd (no_token_there h.last h.ends.0 h.ends.1 t m (subst (λ z. TakesToken z t m) h.taken one))
+all_taken p q (t ∷ prefix) (u ∷ ts) (m, one, more) next h =
     let (k, other, others) = h.taken in
     let (tokens, there) = token_one p m k t u one other in
     let rest : AllOf m ts = record { last = h.last; taken = subst (λ z. TakesTokens z ts h.last) (sym there) others; ends = h.ends } in
-    let (a, b) = all_taken m q front ts more next rest in
-    (ap (λ z. z ∷ front) tokens ∙ ap (λ z. u ∷ z) a, b)
+    let (a, b) = all_taken m q prefix ts more next rest in
+    (ap (λ z. z ∷ prefix) tokens ∙ ap (λ z. u ∷ z) a, b)
 
 -- ---- the meaning
 
 -- the tokens that were taken up to the end are those of what was left
-pub cut_from : (p q : Place) (tokens : List Token) → TakesTokens p tokens q → ((behind : Place) × TakesItem q None behind) → CutsInto (remainder_of p.lexer) tokens
+pub cut_from : (p q : Place) (tokens : List Token) → TakesTokens p tokens q → ((behind : Place) × TakesItem q None behind) → TokenizesTo (remainder_of p.lexer) tokens
 cut_from p q tokens taken (behind, ends) =
     let n = length p.lexer.source + q.lexer.end in
-    let front = tokens_front p q tokens n taken (omega arith) in
+    let prefix = tokens_prefix p q tokens n taken (omega arith) in
     let r = remainder_of q.lexer in
     let start_left = length-drop p.lexer.end p.lexer.source in
     let end_left = length-drop q.lexer.end q.lexer.source in
     let whole : take n (remainder_of p.lexer) ≡ remainder_of p.lexer = take_all n (remainder_of p.lexer) (omega (arith, start_left)) in
     let rest : take (n - (q.lexer.end - p.lexer.end)) r ≡ r = take_all (n - (q.lexer.end - p.lexer.end)) r (let e = same_length in omega (arith, e, end_left)) in
-    (r, subst (λ z. Front z (map lexeme_of tokens) r) whole (subst (λ z. Front (take n (remainder_of p.lexer)) (map lexeme_of tokens) z) rest front), ends.0.skipped)
+    (r, subst (λ z. Prefix z (map lexeme_of tokens) r) whole (subst (λ z. Prefix (take n (remainder_of p.lexer)) (map lexeme_of tokens) z) rest prefix), ends.0.skipped)
   where
     same_length : length q.lexer.source ≡ length p.lexer.source
     same_length = ap length (tokens_source p q tokens taken)
 
 -- so those of a whole text are all its tokens
-pub all_cut : (s : List ℕ) (p : Place) (tokens : List Token) → TakesTokens (start_of s) tokens p → ((behind : Place) × TakesItem p None behind) → CutsInto s tokens
+pub all_cut : (s : List ℕ) (p : Place) (tokens : List Token) → TakesTokens (start_of s) tokens p → ((behind : Place) × TakesItem p None behind) → TokenizesTo s tokens
 all_cut s p tokens taken ends = cut_from (start_of s) p tokens taken ends
 
 -- a text whose tokens are those of the tree means its value

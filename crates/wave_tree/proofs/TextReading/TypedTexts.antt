@@ -4,7 +4,7 @@ use Rattle.std.specs.Prelude.{◌⊎◌}
 use Rattle.wave_wasm.specs.Types.{TypeTree, HasDistinctNames, IsRepresentable}
 use Rattle.wave_wasm.specs.Values.{Value}
 use Rattle.wave_wasm.specs.HasType.{HasType}
-use Rattle.wave_lex.specs.Labels.{Good}
+use Rattle.wave_lex.specs.Labels.{HasDistinctLabels}
 use Rattle.wave_lex.specs.declared.error.ParserErrorKind.TheVariants as kind
 use Rattle.wave_lex.specs.Errors.{Diagnostic, Refusal, LiesInText, refusal_of}
 use Rattle.wave_grammar.specs.SpannedTree.{SpannedTree, tree_of}
@@ -55,17 +55,17 @@ node_refused Full T n source old new parsed e same read h of_type answer apart =
 
 -- a value that was read within n levels prints within twice as many
 pub value_prints : {V : Type 0} (tree_of_value : V → Value) (of : V → TypeTree → Type 0) → ((v : V) (T : TypeTree) → of v T → HasType T (tree_of_value v)) →
-    (T : TypeTree) (n : ℕ) (old new : Place) (v : V) → IsValueTaken tree_of_value of T n old new v → Good T → IsRepresentable T → PrintsWithinTwice T n (tree_of_value v)
-value_prints tree_of_value of fits T n old new v h good own =
+    (T : TypeTree) (n : ℕ) (old new : Place) (v : V) → IsValueTaken tree_of_value of T n old new v → HasDistinctLabels T → IsRepresentable T → PrintsWithinTwice T n (tree_of_value v)
+value_prints tree_of_value of fits T n old new v h labelled own =
     let taken = h.read.taken in
-    let it = h.means good.1 in
-    twice T good own n taken.tokens (tree_of_value v) (fits v T it.is_of) (back T n taken.tokens (tree_of h.placed) (tree_of_value v) [] taken.takes it.reads)
+    let it = h.means labelled.1 in
+    twice T labelled own n taken.tokens (tree_of_value v) (fits v T it.is_of) (back T n taken.tokens (tree_of h.placed) (tree_of_value v) [] taken.takes it.reads)
 
 -- ---- refused values
 
 -- a value that could not be read: of what begins the text
-front_refused : (Full : TypeTree → Type 0) (T : TypeTree) (n : ℕ) (s : List ℕ) (p : Place) (e : Diagnostic) → RefusesValue Full T n e (start_of s) p → RefusesStart n s e
-front_refused Full T n s p e h = by (memory_or e.kind)
+prefix_refused : (Full : TypeTree → Type 0) (T : TypeTree) (n : ℕ) (s : List ℕ) (p : Place) (e : Diagnostic) → RefusesValue Full T n e (start_of s) p → RefusesStart n s e
+prefix_refused Full T n s p e h = by (memory_or e.kind)
   where
     by_kind : IsSyntaxError e n value [] (start_of s) p ⊎ IsTypeRefused Full T n e (start_of s) p → RefusesStart n s e
     by_kind (inl k) = inl (refused_spells_none n s e p (λ apart. k))
@@ -95,7 +95,7 @@ text_blamed Full T n s p e h distinct = by (memory_or e.kind)
 pub value_refused : (Full : TypeTree → Type 0) (T : TypeTree) (n : ℕ) (s : List ℕ) (old new : Parsing) (e : Diagnostic) → old ≡ limited (first_at (start_of s).lexer) n → RefusesValue Full T old.limit e old.place new.place → LiesInText old.place.lexer.source e.span → IsCausedBetween old.limit old.place new.place e → StaysWithout e old.place new.place → RefusesText Full T n s e
 value_refused Full T n s old new e first refused within caused memory =
     let here = subst (λ (z : Parsing). RefusesValue Full T z.limit e z.place new.place) first refused in record {
-      front = front_refused Full T n s new.place e here;
+      prefix = prefix_refused Full T n s new.place e here;
       blames = text_blamed Full T n s new.place e here;
       within = subst (λ (z : Parsing). LiesInText z.place.lexer.source e.span) first within;
       caused = (new.place, subst (λ (z : Parsing). IsCausedBetween z.limit z.place new.place e) first caused);
@@ -113,7 +113,7 @@ pub trailing_refused : {V : Type 0} (tree_of_value : V → Value) (of : V → Ty
 trailing_refused tree_of_value of Full T n s p v e h trails =
     let t = tree_of h.placed in
     let (behind, any, says) = trails in record {
-      front = inl (trailing_spells_none n s e p t h.read.read h.read.taken trails);
+      prefix = inl (trailing_spells_none n s e p t h.read.read h.read.taken trails);
       blames = λ distinct. inr (inl (
         inr (inr (p, h.placed, tree_of_value v, h.read, (h.means distinct).reads, trails)),
         λ w means. let ends = (whole_read T n s p t w h.read.read h.read.taken means).ends in nothing_there p ends.0 behind ends.1 any,
@@ -141,7 +141,7 @@ pub whole_text : {V : Type 0} (tree_of_value : V → Value) (of : V → TypeTree
 whole_text tree_of_value of Full T n s = record {
   ends = λ p v taken ends. value_read tree_of_value of T n s p v taken ends;
   trails = λ p v e taken trails. trailing_refused tree_of_value of Full T n s p v e taken trails;
-  refused = λ p e refused. (front_refused Full T n s p e refused, text_blamed Full T n s p e refused);
+  refused = λ p e refused. (prefix_refused Full T n s p e refused, text_blamed Full T n s p e refused);
 }
 
 -- an untyped value there

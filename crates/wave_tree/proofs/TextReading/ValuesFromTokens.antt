@@ -6,7 +6,7 @@ use Rattle.std.specs.declared.ops.Range.{Range}
 use Rattle.wave_wasm.specs.Types.{TypeTree, IsRepresentable}
 use Rattle.wave_wasm.specs.Borrowed.{shown}
 use Rattle.wave_wasm.specs.HasType.{HasType}
-use Rattle.wave_lex.specs.Labels.{Good}
+use Rattle.wave_lex.specs.Labels.{HasDistinctLabels}
 use Rattle.wave_wasm.specs.Values.{Value}
 use Rattle.wave_lex.specs.declared.lex.Token as lex
 use Rattle.wave_lex.specs.declared.lex.Token.TheVariants.{ParenOpen, BracketOpen}
@@ -34,7 +34,7 @@ use Rattle.wave_read.specs.PlainReading.{IsPlain, IsReadSparing}
 use Rattle.wave_read.specs.Reading.{IsReadAs}
 use Rattle.wave_tree.specs.ParserState.{BeginsRow}
 use Rattle.wave_tree.specs.ParsedNodes.{IsParsed, IsNodeTaken, IsSound}
-use Rattle.wave_tree.specs.Private.ParsedNodes.{IsBuilt}
+use Rattle.wave_tree.specs.Private.ParsedNodes.{IsNodeBuilt}
 use Rattle.wave_tree.specs.FromStr.{IsValueTaken, IsTypeRefused, IsCausedBetween, PrintsWithinTwice}
 use Rattle.wave_tree.proofs.TextReading.Meaning.{node_parsed}
 use Rattle.wave_tree.proofs.TextReading.TypedTexts.{node_read, node_refused, value_prints}
@@ -69,19 +69,19 @@ module _ {V : Type 0} (tree : V → Value) (of : V → TypeTree → Type 0) (Ful
   answered_caused T n old new e h = λ was. (h.node, h.taken, (h.read.within (is_value n old new h.node h.taken)).0.caused was)
 
 -- a value that was read prints within twice as many levels
-pub all_print : {V E : Type 0} (tree : V → Value) (of : V → TypeTree → Type 0) → ((v : V) (T : TypeTree) → of v T → HasType T (tree v)) → (T : TypeTree) (n : ℕ) (old new : Place) (r : Result V E) → IfOk r (IsValueTaken tree of T n old new) → Good T → IsRepresentable T → IfOk r (λ v. PrintsWithinTwice T n (tree v))
-all_print tree of fits T n old new (Ok v) h good own = value_prints tree of fits T n old new v h good own
-all_print tree of fits T n old new (Err e) h good own = tt
+pub all_print : {V E : Type 0} (tree : V → Value) (of : V → TypeTree → Type 0) → ((v : V) (T : TypeTree) → of v T → HasType T (tree v)) → (T : TypeTree) (n : ℕ) (old new : Place) (r : Result V E) → IfOk r (IsValueTaken tree of T n old new) → HasDistinctLabels T → IsRepresentable T → IfOk r (λ v. PrintsWithinTwice T n (tree v))
+all_print tree of fits T n old new (Ok v) h labelled own = value_prints tree of fits T n old new v h labelled own
+all_print tree of fits T n old new (Err e) h labelled own = tt
 
 -- ---- tuples and lists
 
-tuple_taken : (n : ℕ) (front rest : List Token) (t : Tree) → Takes n (paren_open ∷ front) t rest → (ts : Trees) × (t ≡ form.tuple ts)
-tuple_taken zero front rest t h = absurd h
-tuple_taken (suc n) front rest t (items, some, are, is) = (trees items, is)
+tuple_taken : (n : ℕ) (prefix rest : List Token) (t : Tree) → Takes n (paren_open ∷ prefix) t rest → (ts : Trees) × (t ≡ form.tuple ts)
+tuple_taken zero prefix rest t h = absurd h
+tuple_taken (suc n) prefix rest t (items, some, are, is) = (trees items, is)
 
-list_taken : (n : ℕ) (front rest : List Token) (t : Tree) → Takes n (bracket_open ∷ front) t rest → (ts : Trees) × (t ≡ form.list ts)
-list_taken zero front rest t h = absurd h
-list_taken (suc n) front rest t (items, are, is) = (trees items, is)
+list_taken : (n : ℕ) (prefix rest : List Token) (t : Tree) → Takes n (bracket_open ∷ prefix) t rest → (ts : Trees) × (t ≡ form.list ts)
+list_taken zero prefix rest t h = absurd h
+list_taken (suc n) prefix rest t (items, are, is) = (trees items, is)
 
 tuple_from : (ty : NodeType) (p : Range ℕ) (text : List ℕ) (cs : List SpannedTree) (s : SpannedShape) (ts : Trees) → From ty p text cs s → tree_of_shape s ≡ form.tuple ts → ty ≡ kind.Tuple
 tuple_from ty p text cs (tuple items) ts f is = f.0
@@ -107,20 +107,20 @@ pub row_there : (n : ℕ) (old new : Place) (parsed : NodeTree) → IsSound old 
 row_there n old new parsed sound h (q, inl mark) =
     let (c, item, is) = h.begins in
     let token : h.token ≡ paren_open = is ∙ ap (λ z. token_of z (text_at h.first)) (same_class old q h.first ParenOpen c mark item) in
-    let (ts, made) = tuple_taken n (h.others ++ []) [] (tree_of h.placed) (subst (λ z. Takes n (z ∷ (h.others ++ [])) (tree_of h.placed) []) token (h.takes [] (λ more e. cc))) in
-    inl (tuple_type old.lexer.source parsed h.placed ts (h.is_node sound).0 made)
+    let (ts, built) = tuple_taken n (h.others ++ []) [] (tree_of h.placed) (subst (λ z. Takes n (z ∷ (h.others ++ [])) (tree_of h.placed) []) token (h.takes [] (λ more e. cc))) in
+    inl (tuple_type old.lexer.source parsed h.placed ts (h.is_node sound).0 built)
 row_there n old new parsed sound h (q, inr mark) =
     let (c, item, is) = h.begins in
     let token : h.token ≡ bracket_open = is ∙ ap (λ z. token_of z (text_at h.first)) (same_class old q h.first BracketOpen c mark item) in
-    let (ts, made) = list_taken n (h.others ++ []) [] (tree_of h.placed) (subst (λ z. Takes n (z ∷ (h.others ++ [])) (tree_of h.placed) []) token (h.takes [] (λ more e. cc))) in
-    inr (list_type old.lexer.source parsed h.placed ts (h.is_node sound).0 made)
+    let (ts, built) = list_taken n (h.others ++ []) [] (tree_of h.placed) (subst (λ z. Takes n (z ∷ (h.others ++ [])) (tree_of h.placed) []) token (h.takes [] (λ more e. cc))) in
+    inr (list_type old.lexer.source parsed h.placed ts (h.is_node sound).0 built)
 
--- ---- the type that is due
+-- ---- the type that is expected
 
 -- what was made of a node there; at a plain type a tuple or a list is refused without memory
 pub typed_answered : {V S : Type 0} (tree : V → Value) (of : V → TypeTree → Type 0) (Full : TypeTree → Type 0) (type_tree : S → TypeTree) (n : ℕ) (old new : Place) (r : Result V Diagnostic) (o : Option (Bor S)) (x : Bor S) → o ≡ Some x → IsSound old →
-    LeadsBehindValue n value [] old new [] → IsBuilt (IsReadSparing tree of Full in_text in_text (shown type_tree o)) old (IsParsed n old new) r →
+    LeadsBehindValue n value [] old new [] → IsNodeBuilt (IsReadSparing tree of Full in_text in_text (shown type_tree o)) old (IsParsed n old new) r →
     IsAnswered tree of Full (type_tree x.now) n old new r × (IsPlain (type_tree x.now) → BeginsRow old → IfErr r (λ e. e.kind ≢ because.OutOfMemory))
-typed_answered {V} {S} tree of Full type_tree n old new r o x due sound led (m, parsed, read) =
-    let given = subst (λ (z : Option (Bor S)). IsReadSparing tree of Full in_text in_text (shown type_tree z) old.lexer.source m r) due read in
+typed_answered {V} {S} tree of Full type_tree n old new r o x expected sound led (m, parsed, read) =
+    let given = subst (λ (z : Option (Bor S)). IsReadSparing tree of Full in_text in_text (shown type_tree z) old.lexer.source m r) expected read in
     (answered tree of Full (type_tree x.now) n old new r m sound led parsed given.0, λ plain row. given.1 plain (row_there n old new m sound parsed row))

@@ -6,12 +6,12 @@ use Rattle.wave_lex.specs.declared.lex.Token.TheVariants.{BraceOpen, BraceClose,
 use Rattle.wave_lex.specs.declared.lex.Token.TheVariants.{Colon, Comma, Number, LabelOrKeyword, Char, String, MultilineString}
 use Rattle.wave_grammar.specs.declared.form.NodeType.TheVariants as node
 use Rattle.wave_grammar.specs.LeafTokens.{name_of}
-use Rattle.wave_grammar.specs.PrefixAutomaton as due
+use Rattle.wave_grammar.specs.PrefixAutomaton as expectation
 use Rattle.wave_grammar.specs.PrefixAutomaton.{Expectation, StackSymbol, Step}
 use Rattle.wave_tree.specs.declared.role.ValueStart.{ValueStart}
-use Rattle.wave_tree.specs.declared.role.ValueStart.TheVariants as front
-use Rattle.wave_tree.specs.declared.expected.moves.Due.{Due}
-use Rattle.wave_tree.specs.declared.expected.moves.Due.TheVariants as known
+use Rattle.wave_tree.specs.declared.role.ValueStart.TheVariants as starts
+use Rattle.wave_tree.specs.declared.expected.moves.State.{State}
+use Rattle.wave_tree.specs.declared.expected.moves.State.TheVariants as known
 use Rattle.wave_tree.specs.declared.expected.moves.Form.{Form}
 use Rattle.wave_tree.specs.declared.expected.moves.Form.TheVariants as form
 use Rattle.wave_tree.specs.declared.expected.moves.Change.{Change}
@@ -21,42 +21,42 @@ use Rattle.wave_tree.specs.declared.expected.moves.Move.{Move}
 -- ---- moves
 
 -- the opening forms stay
-abbrev pub stay : Due → Option Move
-stay d = Some (record { due = d; change = change.Stay })
+abbrev pub stay : State → Option Move
+stay d = Some (record { state = d; change = change.Stay })
 
 -- a form is opened
-abbrev pub opening : Form → Due → Option Move
-opening f d = Some (record { due = d; change = change.Open f })
+abbrev pub opening : Form → State → Option Move
+opening f d = Some (record { state = d; change = change.Open f })
 
 -- the innermost form is closed
-abbrev pub closing : Due → Option Move
-closing d = Some (record { due = d; change = change.Close })
+abbrev pub closing : State → Option Move
+closing d = Some (record { state = d; change = change.Close })
 
 -- what a value begins with whose first token is of this class; of a label, that of a case
 abbrev pub sample_start : lex.Token → ValueStart
-sample_start Number = front.Alone node.Number
-sample_start Char = front.Alone node.Char
-sample_start String = front.Alone node.String
-sample_start MultilineString = front.Alone node.MultilineString
-sample_start LabelOrKeyword = front.Label node.Label node.VariantWithPayload
-sample_start ParenOpen = front.Paren
-sample_start BracketOpen = front.Bracket
-sample_start BraceOpen = front.Brace
-sample_start _ = front.Nothing
+sample_start Number = starts.Alone node.Number
+sample_start Char = starts.Alone node.Char
+sample_start String = starts.Alone node.String
+sample_start MultilineString = starts.Alone node.MultilineString
+sample_start LabelOrKeyword = starts.Label node.Label node.VariantWithPayload
+sample_start ParenOpen = starts.Paren
+sample_start BracketOpen = starts.Bracket
+sample_start BraceOpen = starts.Brace
+sample_start _ = starts.Nothing
 
 -- where a value may stand
-abbrev pub front_move : ValueStart → Option Move
-front_move (front.Alone ty) = stay known.BehindValue
-front_move front.Some = stay known.Paren
-front_move (front.Label alone with) = stay known.BehindLabel
-front_move front.Paren = opening form.Tuple known.FirstItem
-front_move front.Bracket = opening form.List known.FirstItem
-front_move front.Brace = stay known.InBraces
-front_move front.Nothing = None
+abbrev pub start_move : ValueStart → Option Move
+start_move (starts.Alone ty) = stay known.BehindValue
+start_move starts.Some = stay known.Paren
+start_move (starts.Label alone with) = stay known.BehindLabel
+start_move starts.Paren = opening form.Tuple known.FirstItem
+start_move starts.Bracket = opening form.List known.FirstItem
+start_move starts.Brace = stay known.InBraces
+start_move starts.Nothing = None
 
--- where a value is due, and this many levels are left
+-- where a value is expected, and this many levels are left
 abbrev pub value_move : ℕ → ValueStart → Option Move
-value_move left f = if nat_lt 0 left then front_move f else None
+value_move left f = if nat_lt 0 left then start_move f else None
 
 -- after a value
 abbrev pub behind_move : Option Form → lex.Token → Option Move
@@ -86,11 +86,11 @@ abbrev pub closed : Option Form → Option Move
 closed None = None
 closed (Some f) = closing known.BehindValue
 
--- where the first item or the close is due
+-- where the first item or the close is expected
 abbrev pub first_move : Option Form → ℕ → lex.Token → ValueStart → Option Move
 first_move f left c start = if closes f c then closed_empty f else value_move left start
 
--- where a further item or the close is due
+-- where a further item or the close is expected
 abbrev pub item_move : Option Form → ℕ → lex.Token → ValueStart → Option Move
 item_move f left c start = if closes f c then closed f else value_move left start
 
@@ -104,7 +104,7 @@ abbrev pub paren_move : lex.Token → Option Move
 paren_move ParenOpen = opening form.Payload known.Value
 paren_move _ = None
 
--- where a key or the close of its braces is due
+-- where a key or the close of its braces is expected
 abbrev pub key_move : lex.Token → Option Move
 key_move LabelOrKeyword = stay known.BehindKey
 key_move Number = stay known.BehindKey
@@ -130,7 +130,7 @@ abbrev pub colon_move : lex.Token → Option Move
 colon_move Colon = opening form.Entries known.Value
 colon_move _ = None
 
--- where a further flag or the close is due
+-- where a further flag or the close is expected
 abbrev pub flag_move : lex.Token → Option Move
 flag_move LabelOrKeyword = stay known.BehindFlag
 flag_move BraceClose = stay known.BehindValue
@@ -147,8 +147,8 @@ abbrev pub word_move : lex.Token → Option Move
 word_move Colon = opening form.Entries known.Value
 word_move c = behind_flag_move c
 
--- what a token of this class does, where this is due within this form
-abbrev pub next_move : Due → Option Form → ℕ → lex.Token → ValueStart → Option Move
+-- what a token of this class does, where this is expected within this form
+abbrev pub next_move : State → Option Form → ℕ → lex.Token → ValueStart → Option Move
 next_move known.Value f left c start = value_move left start
 next_move known.FirstItem f left c start = first_move f left c start
 next_move known.NextItem f left c start = item_move f left c start
@@ -165,7 +165,7 @@ next_move known.BehindFlag f left c start = behind_flag_move c
 next_move known.Nothing f left c start = None
 
 -- a value can end after the move, from where so many levels are left
-abbrev pub goes_on : Due → Change → ℕ → Bool
+abbrev pub goes_on : State → Change → ℕ → Bool
 goes_on known.Value moved left = nat_lt 1 left
 goes_on known.Paren moved left = nat_lt 1 left
 goes_on known.BehindKey moved left = nat_lt 1 left
@@ -175,43 +175,43 @@ goes_on _ _ _ = true
 -- a move, after which a value can end
 abbrev pub goes_on_after : Option Move → ℕ → Bool
 goes_on_after None left = false
-goes_on_after (Some m) left = goes_on m.due m.change left
+goes_on_after (Some m) left = goes_on m.state m.change left
 
 -- a token of this class may stand there
-abbrev pub may_stand : Due → Option Form → ℕ → lex.Token → Bool
+abbrev pub may_stand : State → Option Form → ℕ → lex.Token → Bool
 may_stand d f left c = goes_on_after (next_move d f left c (sample_start c)) left
 
 -- ---- moves as steps of the automaton
 
--- the code's word for what is due
-abbrev pub due_of : Expectation → Due
-due_of due.value = known.Value
-due_of due.first_item = known.FirstItem
-due_of due.next_item = known.NextItem
-due_of due.behind_value = known.BehindValue
-due_of due.behind_label = known.BehindLabel
-due_of due.paren = known.Paren
-due_of due.in_braces = known.InBraces
-due_of due.no_fields = known.NoFields
-due_of (due.behind_word text) = known.BehindWord
-due_of due.key = known.Key
-due_of due.behind_key = known.BehindKey
-due_of (due.flag names) = known.Flag
-due_of (due.behind_flag names) = known.BehindFlag
+-- the code's word for what is expected
+abbrev pub expected_of : Expectation → State
+expected_of expectation.value = known.Value
+expected_of expectation.first_item = known.FirstItem
+expected_of expectation.next_item = known.NextItem
+expected_of expectation.behind_value = known.BehindValue
+expected_of expectation.behind_label = known.BehindLabel
+expected_of expectation.paren = known.Paren
+expected_of expectation.in_braces = known.InBraces
+expected_of expectation.no_fields = known.NoFields
+expected_of (expectation.behind_word text) = known.BehindWord
+expected_of expectation.key = known.Key
+expected_of expectation.behind_key = known.BehindKey
+expected_of (expectation.flag names) = known.Flag
+expected_of (expectation.behind_flag names) = known.BehindFlag
 
 -- the automaton's word for a form
 abbrev pub symbol_of : Form → StackSymbol
-symbol_of form.Tuple = due.tuple
-symbol_of form.List = due.list
-symbol_of form.Payload = due.payload
-symbol_of form.Entries = due.entries
+symbol_of form.Tuple = expectation.tuple
+symbol_of form.List = expectation.list
+symbol_of form.Payload = expectation.payload
+symbol_of form.Entries = expectation.entries
 
 -- the code's word for one
 abbrev pub form_of : StackSymbol → Form
-form_of due.tuple = form.Tuple
-form_of due.list = form.List
-form_of due.payload = form.Payload
-form_of due.entries = form.Entries
+form_of expectation.tuple = form.Tuple
+form_of expectation.list = form.List
+form_of expectation.payload = form.Payload
+form_of expectation.entries = form.Entries
 
 -- the innermost form
 abbrev pub innermost : List StackSymbol → Option Form
@@ -225,48 +225,48 @@ stack_of (f ∷ fs) = stack_of fs ++ symbol_of f ∷ []
 
 -- the innermost form is a tuple or a list
 abbrev pub IsInItems : List StackSymbol → Type 0
-IsInItems (due.tuple ∷ s) = Unit {0}
-IsInItems (due.list ∷ s) = Unit {0}
+IsInItems (expectation.tuple ∷ s) = Unit {0}
+IsInItems (expectation.list ∷ s) = Unit {0}
 IsInItems _ = ⊥
 
 -- r are the forms around the innermost one of s
 abbrev pub AreAround : List StackSymbol → List StackSymbol → Type 0
 AreAround r s = (f : StackSymbol) × (s ≡ f ∷ r)
 
--- where d is due, these flags were read
+-- where d is expected, these flags were read
 abbrev pub WereRead : List (List ℕ) → Expectation → Type 0
-WereRead names d = (d ≡ due.behind_flag names) ⊎ ((text : List ℕ) × (d ≡ due.behind_word text) × (names ≡ name_of text ∷ []))
+WereRead names d = (d ≡ expectation.behind_flag names) ⊎ ((text : List ℕ) × (d ≡ expectation.behind_word text) × (names ≡ name_of text ∷ []))
 
--- a token of this text, where d is due within s, is read by the move to this, after which e is due within r
-abbrev pub LeadsBy : Due → Change → List ℕ → Expectation → List StackSymbol → Expectation → List StackSymbol → Type 0
-LeadsBy known.Value (change.Open f) text d s e r = (e ≡ due.value) × (r ≡ symbol_of f ∷ s)
-LeadsBy known.FirstItem (change.Open form.Tuple) text d s e r = (e ≡ due.first_item) × (r ≡ due.tuple ∷ s)
-LeadsBy known.FirstItem (change.Open form.List) text d s e r = (e ≡ due.first_item) × (r ≡ due.list ∷ s)
-LeadsBy known.NextItem change.Stay text d s e r = (e ≡ due.next_item) × (r ≡ s) × IsInItems s
-LeadsBy known.BehindValue change.Stay text d s e r = (e ≡ due.behind_value) × (r ≡ s)
-LeadsBy known.BehindValue change.Close text d s e r = (e ≡ due.behind_value) × AreAround r s
-LeadsBy known.BehindLabel change.Stay text d s e r = (e ≡ due.behind_label) × (r ≡ s)
-LeadsBy known.Paren change.Stay text d s e r = (e ≡ due.paren) × (r ≡ s)
-LeadsBy known.InBraces change.Stay text d s e r = (e ≡ due.in_braces) × (r ≡ s)
-LeadsBy known.NoFields change.Stay text d s e r = (e ≡ due.no_fields) × (r ≡ s)
-LeadsBy known.BehindWord change.Stay text d s e r = (e ≡ due.behind_word text) × (r ≡ s)
-LeadsBy known.Key change.Close text d s e r = (e ≡ due.key) × AreAround r s
-LeadsBy known.BehindKey change.Stay text d s e r = (e ≡ due.behind_key) × (r ≡ s)
-LeadsBy known.Flag change.Stay text d s e r = (names : List (List ℕ)) × (e ≡ due.flag names) × (r ≡ s) × WereRead names d
+-- a token of this text, where d is expected within s, is read by the move to this, after which e is expected within r
+abbrev pub LeadsBy : State → Change → List ℕ → Expectation → List StackSymbol → Expectation → List StackSymbol → Type 0
+LeadsBy known.Value (change.Open f) text d s e r = (e ≡ expectation.value) × (r ≡ symbol_of f ∷ s)
+LeadsBy known.FirstItem (change.Open form.Tuple) text d s e r = (e ≡ expectation.first_item) × (r ≡ expectation.tuple ∷ s)
+LeadsBy known.FirstItem (change.Open form.List) text d s e r = (e ≡ expectation.first_item) × (r ≡ expectation.list ∷ s)
+LeadsBy known.NextItem change.Stay text d s e r = (e ≡ expectation.next_item) × (r ≡ s) × IsInItems s
+LeadsBy known.BehindValue change.Stay text d s e r = (e ≡ expectation.behind_value) × (r ≡ s)
+LeadsBy known.BehindValue change.Close text d s e r = (e ≡ expectation.behind_value) × AreAround r s
+LeadsBy known.BehindLabel change.Stay text d s e r = (e ≡ expectation.behind_label) × (r ≡ s)
+LeadsBy known.Paren change.Stay text d s e r = (e ≡ expectation.paren) × (r ≡ s)
+LeadsBy known.InBraces change.Stay text d s e r = (e ≡ expectation.in_braces) × (r ≡ s)
+LeadsBy known.NoFields change.Stay text d s e r = (e ≡ expectation.no_fields) × (r ≡ s)
+LeadsBy known.BehindWord change.Stay text d s e r = (e ≡ expectation.behind_word text) × (r ≡ s)
+LeadsBy known.Key change.Close text d s e r = (e ≡ expectation.key) × AreAround r s
+LeadsBy known.BehindKey change.Stay text d s e r = (e ≡ expectation.behind_key) × (r ≡ s)
+LeadsBy known.Flag change.Stay text d s e r = (names : List (List ℕ)) × (e ≡ expectation.flag names) × (r ≡ s) × WereRead names d
 LeadsBy known.BehindFlag change.Stay text d s e r =
-    (names : List (List ℕ)) × (d ≡ due.flag names) × (is_one_of names (name_of text) ≡ false) × (e ≡ due.behind_flag (names ++ name_of text ∷ [])) × (r ≡ s)
+    (names : List (List ℕ)) × (d ≡ expectation.flag names) × (is_one_of names (name_of text) ≡ false) × (e ≡ expectation.behind_flag (names ++ name_of text ∷ [])) × (r ≡ s)
 LeadsBy _ _ text d s e r = ⊥
 
 -- a flag of this text is read by a move, and was read before
-abbrev pub IsRepeated : Due → List ℕ → Expectation → Type 0
-IsRepeated known.BehindFlag text d = (names : List (List ℕ)) × (d ≡ due.flag names) × (is_one_of names (name_of text) ≡ true)
+abbrev pub IsRepeated : State → List ℕ → Expectation → Type 0
+IsRepeated known.BehindFlag text d = (names : List (List ℕ)) × (d ≡ expectation.flag names) × (is_one_of names (name_of text) ≡ true)
 IsRepeated _ text d = ⊥
 
--- this move, or that there is none, is this step from where d is due within s; of flags that are repeated it knows nothing
+-- this move, or that there is none, is this step from where d is expected within s; of flags that are repeated it knows nothing
 abbrev pub IsMove : Option Move → List ℕ → Expectation → List StackSymbol → Step → Type 0
-IsMove (Some m) text d s (due.reads e r) = LeadsBy m.due m.change text d s e r
-IsMove (Some m) text d s due.repeated_flag = IsRepeated m.due text d
+IsMove (Some m) text d s (expectation.reads e r) = LeadsBy m.state m.change text d s e r
+IsMove (Some m) text d s expectation.repeated_flag = IsRepeated m.state text d
 IsMove (Some m) text d s _ = ⊥
-IsMove None text d s (due.reads e r) = ⊥
-IsMove None text d s due.repeated_flag = ⊥
+IsMove None text d s (expectation.reads e r) = ⊥
+IsMove None text d s expectation.repeated_flag = ⊥
 IsMove None text d s _ = Unit {0}

@@ -129,8 +129,8 @@ pub record IsOfFlags (start : ℕ) (old new : Place) (parsed : NodeTree) : Type 
   pub is : parsed ≡ node kind.Flags (span start new.lexer.end) (node_trees (map flag_node (flags_in_order ((span_at old, text_at old) ∷ more))))
 
 -- this was made of a node, of the place's source, for which this holds
-abbrev pub IsBuilt : {M : Type 0} → (List ℕ → NodeTree → M → Type 0) → Place → (NodeTree → Type 0) → M → Type 0
-IsBuilt Of p Is made = (n : NodeTree) × Is n × Of p.lexer.source n made
+abbrev pub IsNodeBuilt : {M : Type 0} → (List ℕ → NodeTree → M → Type 0) → Place → (NodeTree → Type 0) → M → Type 0
+IsNodeBuilt Of p Is built = (n : NodeTree) × Is n × Of p.lexer.source n built
 
 -- to parts made of the first children of a node a part was added, read from the place first on
 abbrev pub HasPartBehind : {M : Type 0} → (List ℕ → NodeType → List NodeTree → M → Type 0) → ℕ → Place → Place → M → M → Type 0

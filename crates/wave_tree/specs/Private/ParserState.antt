@@ -10,7 +10,7 @@ use Rattle.wave_lex.specs.Tokenization.{Lexed, NextIs, item_of, span}
 use Rattle.wave_grammar.specs.Tree.{leaf_word, none_word, some_word, ok_word, err_word, case_word}
 use Rattle.wave_grammar.specs.ParserPosition.{Place, Item, TakesItem, span_at}
 use Rattle.wave_tree.specs.declared.role.ValueStart.{ValueStart}
-use Rattle.wave_tree.specs.declared.role.ValueStart.TheVariants as front
+use Rattle.wave_tree.specs.declared.role.ValueStart.TheVariants as starts
 use Rattle.wave_lex.specs.declared.lex.Token.TheVariants as class
 use Rattle.wave_grammar.specs.declared.form.NodeType.{NodeType}
 use Rattle.wave_grammar.specs.declared.form.NodeType.TheVariants as kind
@@ -111,10 +111,10 @@ BeginsNothing _ = Unit {0}
 
 -- a value whose first token has this class and text begins so
 abbrev pub IsValueStart : lex.Token → List ℕ → ValueStart → Type 0
-IsValueStart c text (front.Alone ty) = IsAlone c text ty
-IsValueStart c text front.Some = (c ≡ class.LabelOrKeyword) × (word_of text ≡ some_word)
-IsValueStart c text (front.Label alone with) = (c ≡ class.LabelOrKeyword) × IsLabelWord alone with text
-IsValueStart c text front.Paren = c ≡ class.ParenOpen
-IsValueStart c text front.Bracket = c ≡ class.BracketOpen
-IsValueStart c text front.Brace = c ≡ class.BraceOpen
-IsValueStart c text front.Nothing = BeginsNothing c
+IsValueStart c text (starts.Alone ty) = IsAlone c text ty
+IsValueStart c text starts.Some = (c ≡ class.LabelOrKeyword) × (word_of text ≡ some_word)
+IsValueStart c text (starts.Label alone with) = (c ≡ class.LabelOrKeyword) × IsLabelWord alone with text
+IsValueStart c text starts.Paren = c ≡ class.ParenOpen
+IsValueStart c text starts.Bracket = c ≡ class.BracketOpen
+IsValueStart c text starts.Brace = c ≡ class.BraceOpen
+IsValueStart c text starts.Nothing = BeginsNothing c

@@ -1,4 +1,4 @@
-//! The automaton over the tokens of a value: what is due after those that were read.
+//! The automaton over the tokens of a value: what is expected after those that were read.
 ghost use Rattle.std.specs.Prelude.{◌≡◌, ◌↔◌, ℕ, ◌-◌, ◌++◌, List, [], ◌∷◌, length, true, IfOk, Contains, IsTrue};
 ghost use Rattle.wave_grammar.specs.Token.{Token as GrammarToken};
 ghost use Rattle.wave_grammar.specs.ParserPosition.{token_of};
@@ -7,7 +7,7 @@ ghost use Rattle.wave_tree.specs.Private.Moves.{innermost, stack_of, next_move, 
 ghost use Rattle.wave_tree.specs.Private.ParserState.{IsValueStart};
 ghost use Rattle.wave_tree.specs.Private.Prefixes.{IsAfter, IsNoted, IsChanged, MayEnd, added};
 
-use crate::expected::moves::{Change, Due, Form, Move, may_stand, next_move};
+use crate::expected::moves::{Change, Form, Move, State, may_stand, next_move};
 use crate::role::value_start;
 use std::alloc::{AllocError, Global};
 use std::collections::BTreeMap;
@@ -31,23 +31,23 @@ const CLASSES: [Token; 13] = [
     Token::MultilineString,
 ];
 
-/// Notes the name of a label after which this is due, where it is a flag or may be one, and answers
+/// Notes the name of a label after which this is expected, where it is a flag or may be one, and answers
 /// whether it is a flag that was read before.
 fn note_label<'source>(
     alloc: Global,
     names: &mut BTreeMap<&'source str, ()>,
-    due: Due,
+    state: State,
     text: &'source str,
 ) -> Result<bool, AllocError>
-    ensures { IfOk result (IsNoted due text.now names.old names.new) }
+    ensures { IfOk result (IsNoted state text.now names.old names.new) }
 {
-    match due {
-        Due::BehindWord => {
+    match state {
+        State::BehindWord => {
             *names = BTreeMap::new(alloc);
             names.insert(label_name(text), ())?;
             Ok(false)
         }
-        Due::BehindFlag => {
+        State::BehindFlag => {
             let before = names.insert(label_name(text), ())?;
             Ok(before.is_some())
         }
@@ -72,7 +72,7 @@ fn change_forms(forms: &mut Vec<Form>, change: Change) -> Result<(), AllocError>
 /// Reads tokens, whatever they are, and knows what may stand after them.
 #[derive(Drop)]
 pub(crate) struct Automaton<'source> {
-    due: Due,
+    state: State,
     /// The open forms, the outermost first.
     forms: Vec<Form>,
     /// The names of the flags since the last open brace.
@@ -84,11 +84,11 @@ pub(crate) struct Automaton<'source> {
 impl<'source> Automaton<'source> {
     /// Before the first token of a value of at most `levels` levels.
     pub(crate) fn new(alloc: Global, levels: u32) -> Self
-        ensures after { IsAfter levels [] result.due result.forms.items result.names }
+        ensures after { IsAfter levels [] result.state result.forms.items result.names }
         ensures levels { result.levels ≡ levels }
     {
         Automaton {
-            due: Due::Value,
+            state: State::Value,
             forms: Vec::new(alloc),
             names: BTreeMap::new(alloc),
             levels: levels as usize,
@@ -119,39 +119,39 @@ impl<'source> Automaton<'source> {
         text: &'source str,
     ) -> Result<(), AllocError>
         ensures after { IfOk result (λ _. (tokens : List GrammarToken)
-            → IsAfter self.old.levels tokens self.old.due self.old.forms.items self.old.names
-            → IsAfter self.old.levels (tokens ++ token_of class text.now ∷ []) self.new.due self.new.forms.items self.new.names) }
+            → IsAfter self.old.levels tokens self.old.state self.old.forms.items self.old.names
+            → IsAfter self.old.levels (tokens ++ token_of class text.now ∷ []) self.new.state self.new.forms.items self.new.names) }
         ensures levels { self.new.levels ≡ self.old.levels }
     {
         let form = self.form();
         let left = self.left();
         let start = value_start(class, text);
-        let Some(moved) = next_move(self.due, form, left, class, start) else {
-            self.due = Due::Nothing;
+        let Some(moved) = next_move(self.state, form, left, class, start) else {
+            self.state = State::Nothing;
             return Ok(());
         };
-        let was_read = note_label(alloc, &mut self.names, moved.due, text)?;
+        let was_read = note_label(alloc, &mut self.names, moved.state, text)?;
         if was_read {
-            self.due = Due::Nothing;
+            self.state = State::Nothing;
             return Ok(());
         }
         change_forms(&mut self.forms, moved.change)?;
-        self.due = moved.due;
+        self.state = moved.state;
         Ok(())
     }
 
     /// Whether a token of this class may stand next.
     fn may_stand(&self, class: Token) -> bool
         ensures { let s = stack_of self.now.forms.items in
-            result ≡ may_stand self.now.due (innermost s) (self.now.levels - length s) class }
+            result ≡ may_stand self.now.state (innermost s) (self.now.levels - length s) class }
     {
-        may_stand(self.due, self.form(), self.left(), class)
+        may_stand(self.state, self.form(), self.left(), class)
     }
 
     /// Adds the class where one of its tokens may stand next.
     fn add_class(&self, classes: &mut Vec<Token>, class: Token) -> Result<(), AllocError>
         ensures { let s = stack_of self.now.forms.items in
-            IfOk result (λ _. classes.new.items ≡ added (may_stand self.now.due (innermost s) (self.now.levels - length s)) class classes.old.items) }
+            IfOk result (λ _. classes.new.items ≡ added (may_stand self.now.state (innermost s) (self.now.levels - length s)) class classes.old.items) }
     {
         if self.may_stand(class) {
             classes.push(class)?;
@@ -162,7 +162,7 @@ impl<'source> Automaton<'source> {
     /// The classes of the tokens that may stand next.
     pub(crate) fn classes(&self, alloc: Global) -> Result<Vec<Token>, AllocError>
         ensures { let s = stack_of self.now.forms.items in
-            IfOk result (λ v. (c : Token) → Contains v.items c ↔ (may_stand self.now.due (innermost s) (self.now.levels - length s) c ≡ true)) }
+            IfOk result (λ v. (c : Token) → Contains v.items c ↔ (may_stand self.now.state (innermost s) (self.now.levels - length s) c ≡ true)) }
     {
         let mut classes = Vec::new(alloc);
         for class in CLASSES {
@@ -173,10 +173,10 @@ impl<'source> Automaton<'source> {
 
     /// Whether the value may end here.
     pub(crate) fn may_end(&self) -> bool
-        ensures { IsTrue result ↔ MayEnd self.now.due self.now.forms.items }
+        ensures { IsTrue result ↔ MayEnd self.now.state self.now.forms.items }
     {
-        match self.due {
-            Due::BehindValue | Due::BehindLabel => self.forms.is_empty(),
+        match self.state {
+            State::BehindValue | State::BehindLabel => self.forms.is_empty(),
             _ => false,
         }
     }

@@ -2,7 +2,7 @@
 ghost use Rattle.std.specs.Prelude.{◌≡◌, List, IfOk, MatchOption};
 ghost use Rattle.wave_lex.specs.Tokenization.{Lexed};
 ghost use Rattle.wave_tree.specs.Expected.{Placed, StandBefore, IsExpectedInCall, IsWithoutName};
-ghost use Rattle.wave_tree.specs.Private.CallFronts.{classes_of, front_of, front_behind, classes_in_call, end_in_call};
+ghost use Rattle.wave_tree.specs.Private.CallPrefixes.{classes_of, prefix_of, prefix_behind, classes_in_call, end_in_call};
 
 use crate::expected::{Expected, expected_from, next_before};
 use crate::parser::DEFAULT_LEVELS;
@@ -12,7 +12,7 @@ use wave_lex::lex::{Lexer, Token};
 
 /// How the tokens behind the name of a function begin.
 #[derive(Clone, Copy)]
-pub(crate) enum CallFront {
+pub(crate) enum CallPrefix {
     /// There are none.
     Nothing,
     /// The first is no `(`.
@@ -26,65 +26,65 @@ pub(crate) enum CallFront {
 }
 
 /// How the tokens go on that stand behind a `(`, up to the place `at`.
-fn front_behind(lexer: &mut Lexer, at: usize) -> CallFront
-    ensures { (tokens : List Placed) → StandBefore lexer.old at tokens → result ≡ front_behind (classes_of tokens) }
+fn prefix_behind(lexer: &mut Lexer, at: usize) -> CallPrefix
+    ensures { (tokens : List Placed) → StandBefore lexer.old at tokens → result ≡ prefix_behind (classes_of tokens) }
 {
     let Some(class) = next_before(lexer, at) else {
-        return CallFront::Open;
+        return CallPrefix::Open;
     };
     if class != Token::ParenClose {
-        return CallFront::Params;
+        return CallPrefix::Params;
     }
     match next_before(lexer, at) {
-        None => CallFront::NoParams,
-        Some(_) => CallFront::Params,
+        None => CallPrefix::NoParams,
+        Some(_) => CallPrefix::Params,
     }
 }
 
 /// How the tokens begin that stand from where the lexer stands up to the place `at`.
-fn front_of(first: &Lexer, at: usize) -> CallFront
-    ensures { (tokens : List Placed) → StandBefore first.now at tokens → result ≡ front_of (classes_of tokens) }
+fn prefix_of(first: &Lexer, at: usize) -> CallPrefix
+    ensures { (tokens : List Placed) → StandBefore first.now at tokens → result ≡ prefix_of (classes_of tokens) }
 {
     let mut lexer = first.clone();
     let Some(class) = next_before(&mut lexer, at) else {
-        return CallFront::Nothing;
+        return CallPrefix::Nothing;
     };
     if class != Token::ParenOpen {
-        return CallFront::Other;
+        return CallPrefix::Other;
     }
-    front_behind(&mut lexer, at)
+    prefix_behind(&mut lexer, at)
 }
 
 /// The classes that may stand in a call, by those that may stand in a tuple.
 fn classes_in_call(
     alloc: Global,
-    front: CallFront,
+    prefix: CallPrefix,
     mut classes: Vec<Token>,
 ) -> Result<Vec<Token>, AllocError>
-    ensures { IfOk result (λ v. v.items ≡ classes_in_call front classes.items) }
+    ensures { IfOk result (λ v. v.items ≡ classes_in_call prefix classes.items) }
 {
-    match front {
-        CallFront::Nothing => {
+    match prefix {
+        CallPrefix::Nothing => {
             let mut only = Vec::new(alloc);
             only.push(Token::ParenOpen)?;
             Ok(only)
         }
-        CallFront::Other => Ok(Vec::new(alloc)),
-        CallFront::Open => {
+        CallPrefix::Other => Ok(Vec::new(alloc)),
+        CallPrefix::Open => {
             classes.push(Token::ParenClose)?;
             Ok(classes)
         }
-        CallFront::NoParams | CallFront::Params => Ok(classes),
+        CallPrefix::NoParams | CallPrefix::Params => Ok(classes),
     }
 }
 
 /// Whether a call may end, by whether a tuple may.
-fn end_in_call(front: CallFront, may_end: bool) -> bool
-    ensures { result ≡ end_in_call front may_end }
+fn end_in_call(prefix: CallPrefix, may_end: bool) -> bool
+    ensures { result ≡ end_in_call prefix may_end }
 {
-    match front {
-        CallFront::NoParams => true,
-        CallFront::Params => may_end,
+    match prefix {
+        CallPrefix::NoParams => true,
+        CallPrefix::Params => may_end,
         _ => false,
     }
 }
@@ -92,7 +92,7 @@ fn end_in_call(front: CallFront, may_end: bool) -> bool
 /// What may stand at the byte place `at` of the source, where a call is read as by
 /// `UntypedFuncCall::parse`: behind the name first `(`, and then values of at most 100 levels, as
 /// `expected_at` tells of a value; or `)` at once. None where no function name begins the source, or it
-/// ends behind `at`. Open brackets are told as by `expected_at`, the parenthesis of the call the first.
+/// ends behind `at`. Open brackets are reported as by `expected_at`, the parenthesis of the call the first.
 pub fn expected_in_call_at(
     alloc: Global,
     source: &str,
@@ -107,11 +107,11 @@ pub fn expected_in_call_at(
         return Ok(None);
     }
     let first = names.into_lexer();
-    let front = front_of(&first, at);
+    let prefix = prefix_of(&first, at);
     let tuple = expected_from(alloc, &first, at, DEFAULT_LEVELS + 1)?;
     Ok(Some(Expected {
-        classes: classes_in_call(alloc, front, tuple.classes)?,
-        may_end: end_in_call(front, tuple.may_end),
+        classes: classes_in_call(alloc, prefix, tuple.classes)?,
+        may_end: end_in_call(prefix, tuple.may_end),
         open_brackets: tuple.open_brackets,
     }))
 }

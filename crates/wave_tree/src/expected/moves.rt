@@ -6,9 +6,9 @@ use crate::role::ValueStart;
 use wave_grammar::form::NodeType;
 use wave_lex::lex::Token;
 
-/// What is due.
+/// What is expected.
 #[derive(Clone, Copy)]
-pub(crate) enum Due {
+pub(crate) enum State {
     /// A value.
     Value,
     /// The first item of a tuple or a list, or the close.
@@ -17,7 +17,7 @@ pub(crate) enum Due {
     NextItem,
     /// After a value what the innermost open form takes.
     BehindValue,
-    /// After a label, `ok` or `err` a payload, or what is due after a value.
+    /// After a label, `ok` or `err` a payload, or what is expected after a value.
     BehindLabel,
     /// After `some` a payload.
     Paren,
@@ -61,36 +61,36 @@ pub(crate) enum Change {
 /// What a token does that is read.
 #[derive(Clone, Copy)]
 pub(crate) struct Move {
-    pub(crate) due: Due,
+    pub(crate) state: State,
     pub(crate) change: Change,
 }
 
 /// The open forms stay.
-fn stay(due: Due) -> Option<Move>
-    ensures { result ≡ spec.stay due }
+fn stay(state: State) -> Option<Move>
+    ensures { result ≡ spec.stay state }
 {
     Some(Move {
-        due,
+        state,
         change: Change::Stay,
     })
 }
 
 /// A form is opened.
-fn opening(form: Form, due: Due) -> Option<Move>
-    ensures { result ≡ spec.opening form due }
+fn opening(form: Form, state: State) -> Option<Move>
+    ensures { result ≡ spec.opening form state }
 {
     Some(Move {
-        due,
+        state,
         change: Change::Open(form),
     })
 }
 
 /// The innermost form is closed.
-fn closing(due: Due) -> Option<Move>
-    ensures { result ≡ spec.closing due }
+fn closing(state: State) -> Option<Move>
+    ensures { result ≡ spec.closing state }
 {
     Some(Move {
-        due,
+        state,
         change: Change::Close,
     })
 }
@@ -112,27 +112,27 @@ pub(crate) fn sample_start(class: Token) -> ValueStart
     }
 }
 
-/// Where a value is due that may stand there.
-fn front_move(front: ValueStart) -> Option<Move>
-    ensures { result ≡ spec.front_move front }
+/// Where a value is expected that may stand there.
+fn start_move(start: ValueStart) -> Option<Move>
+    ensures { result ≡ spec.start_move start }
 {
-    match front {
-        ValueStart::Alone(_) => stay(Due::BehindValue),
-        ValueStart::Some => stay(Due::Paren),
-        ValueStart::Label(_, _) => stay(Due::BehindLabel),
-        ValueStart::Paren => opening(Form::Tuple, Due::FirstItem),
-        ValueStart::Bracket => opening(Form::List, Due::FirstItem),
-        ValueStart::Brace => stay(Due::InBraces),
+    match start {
+        ValueStart::Alone(_) => stay(State::BehindValue),
+        ValueStart::Some => stay(State::Paren),
+        ValueStart::Label(_, _) => stay(State::BehindLabel),
+        ValueStart::Paren => opening(Form::Tuple, State::FirstItem),
+        ValueStart::Bracket => opening(Form::List, State::FirstItem),
+        ValueStart::Brace => stay(State::InBraces),
         ValueStart::Nothing => None,
     }
 }
 
-/// Where a value is due, and this many levels are left.
-fn value_move(left: usize, front: ValueStart) -> Option<Move>
-    ensures { result ≡ spec.value_move left front }
+/// Where a value is expected, and this many levels are left.
+fn value_move(left: usize, start: ValueStart) -> Option<Move>
+    ensures { result ≡ spec.value_move left start }
 {
     if left > 0 {
-        return front_move(front);
+        return start_move(start);
     }
     None
 }
@@ -144,22 +144,22 @@ fn behind_move(form: Option<Form>, class: Token) -> Option<Move>
     match form {
         None => None,
         Some(Form::Tuple) => match class {
-            Token::Comma => stay(Due::NextItem),
-            Token::ParenClose => closing(Due::BehindValue),
+            Token::Comma => stay(State::NextItem),
+            Token::ParenClose => closing(State::BehindValue),
             _ => None,
         },
         Some(Form::List) => match class {
-            Token::Comma => stay(Due::NextItem),
-            Token::BracketClose => closing(Due::BehindValue),
+            Token::Comma => stay(State::NextItem),
+            Token::BracketClose => closing(State::BehindValue),
             _ => None,
         },
         Some(Form::Payload) => match class {
-            Token::ParenClose => closing(Due::BehindValue),
+            Token::ParenClose => closing(State::BehindValue),
             _ => None,
         },
         Some(Form::Entries) => match class {
-            Token::Comma => closing(Due::Key),
-            Token::BraceClose => closing(Due::BehindValue),
+            Token::Comma => closing(State::Key),
+            Token::BraceClose => closing(State::BehindValue),
             _ => None,
         },
     }
@@ -182,7 +182,7 @@ fn closed_empty(form: Option<Form>) -> Option<Move>
 {
     match form {
         None | Some(Form::Tuple) => None,
-        Some(_) => closing(Due::BehindValue),
+        Some(_) => closing(State::BehindValue),
     }
 }
 
@@ -192,28 +192,28 @@ fn closed(form: Option<Form>) -> Option<Move>
 {
     match form {
         None => None,
-        Some(_) => closing(Due::BehindValue),
+        Some(_) => closing(State::BehindValue),
     }
 }
 
-/// Where the first item or the close is due.
-fn first_move(form: Option<Form>, left: usize, class: Token, front: ValueStart) -> Option<Move>
-    ensures { result ≡ spec.first_move form left class front }
+/// Where the first item or the close is expected.
+fn first_move(form: Option<Form>, left: usize, class: Token, start: ValueStart) -> Option<Move>
+    ensures { result ≡ spec.first_move form left class start }
 {
     if closes(form, class) {
         return closed_empty(form);
     }
-    value_move(left, front)
+    value_move(left, start)
 }
 
-/// Where a further item or the close is due.
-fn item_move(form: Option<Form>, left: usize, class: Token, front: ValueStart) -> Option<Move>
-    ensures { result ≡ spec.item_move form left class front }
+/// Where a further item or the close is expected.
+fn item_move(form: Option<Form>, left: usize, class: Token, start: ValueStart) -> Option<Move>
+    ensures { result ≡ spec.item_move form left class start }
 {
     if closes(form, class) {
         return closed(form);
     }
-    value_move(left, front)
+    value_move(left, start)
 }
 
 /// After a label, `ok` or `err`.
@@ -221,7 +221,7 @@ fn label_move(form: Option<Form>, class: Token) -> Option<Move>
     ensures { result ≡ spec.label_move form class }
 {
     match class {
-        Token::ParenOpen => opening(Form::Payload, Due::Value),
+        Token::ParenOpen => opening(Form::Payload, State::Value),
         _ => behind_move(form, class),
     }
 }
@@ -231,12 +231,12 @@ fn paren_move(class: Token) -> Option<Move>
     ensures { result ≡ spec.paren_move class }
 {
     match class {
-        Token::ParenOpen => opening(Form::Payload, Due::Value),
+        Token::ParenOpen => opening(Form::Payload, State::Value),
         _ => None,
     }
 }
 
-/// Where a key or the close of its braces is due.
+/// Where a key or the close of its braces is expected.
 fn key_move(class: Token) -> Option<Move>
     ensures { result ≡ spec.key_move class }
 {
@@ -245,8 +245,8 @@ fn key_move(class: Token) -> Option<Move>
         | Token::Number
         | Token::Char
         | Token::String
-        | Token::MultilineString => stay(Due::BehindKey),
-        Token::BraceClose => stay(Due::BehindValue),
+        | Token::MultilineString => stay(State::BehindKey),
+        Token::BraceClose => stay(State::BehindValue),
         _ => None,
     }
 }
@@ -256,8 +256,8 @@ fn brace_move(class: Token) -> Option<Move>
     ensures { result ≡ spec.brace_move class }
 {
     match class {
-        Token::LabelOrKeyword => stay(Due::BehindWord),
-        Token::Colon => stay(Due::NoFields),
+        Token::LabelOrKeyword => stay(State::BehindWord),
+        Token::Colon => stay(State::NoFields),
         _ => key_move(class),
     }
 }
@@ -267,7 +267,7 @@ fn no_fields_move(class: Token) -> Option<Move>
     ensures { result ≡ spec.no_fields_move class }
 {
     match class {
-        Token::BraceClose => stay(Due::BehindValue),
+        Token::BraceClose => stay(State::BehindValue),
         _ => None,
     }
 }
@@ -277,18 +277,18 @@ fn colon_move(class: Token) -> Option<Move>
     ensures { result ≡ spec.colon_move class }
 {
     match class {
-        Token::Colon => opening(Form::Entries, Due::Value),
+        Token::Colon => opening(Form::Entries, State::Value),
         _ => None,
     }
 }
 
-/// Where a further flag or the close is due.
+/// Where a further flag or the close is expected.
 fn flag_move(class: Token) -> Option<Move>
     ensures { result ≡ spec.flag_move class }
 {
     match class {
-        Token::LabelOrKeyword => stay(Due::BehindFlag),
-        Token::BraceClose => stay(Due::BehindValue),
+        Token::LabelOrKeyword => stay(State::BehindFlag),
+        Token::BraceClose => stay(State::BehindValue),
         _ => None,
     }
 }
@@ -298,8 +298,8 @@ fn behind_flag_move(class: Token) -> Option<Move>
     ensures { result ≡ spec.behind_flag_move class }
 {
     match class {
-        Token::Comma => stay(Due::Flag),
-        Token::BraceClose => stay(Due::BehindValue),
+        Token::Comma => stay(State::Flag),
+        Token::BraceClose => stay(State::BehindValue),
         _ => None,
     }
 }
@@ -309,48 +309,48 @@ fn word_move(class: Token) -> Option<Move>
     ensures { result ≡ spec.word_move class }
 {
     match class {
-        Token::Colon => opening(Form::Entries, Due::Value),
+        Token::Colon => opening(Form::Entries, State::Value),
         _ => behind_flag_move(class),
     }
 }
 
-/// What a token of this class does, where this is due within this form and so many levels are left;
+/// What a token of this class does, where this is expected within this form and so many levels are left;
 /// a value that it begins, begins so. Of flags that are repeated it knows nothing.
 pub(crate) fn next_move(
-    due: Due,
+    state: State,
     form: Option<Form>,
     left: usize,
     class: Token,
-    front: ValueStart,
+    start: ValueStart,
 ) -> Option<Move>
-    ensures { result ≡ spec.next_move due form left class front }
+    ensures { result ≡ spec.next_move state form left class start }
 {
-    match due {
-        Due::Value => value_move(left, front),
-        Due::FirstItem => first_move(form, left, class, front),
-        Due::NextItem => item_move(form, left, class, front),
-        Due::BehindValue => behind_move(form, class),
-        Due::BehindLabel => label_move(form, class),
-        Due::Paren => paren_move(class),
-        Due::InBraces => brace_move(class),
-        Due::NoFields => no_fields_move(class),
-        Due::BehindWord => word_move(class),
-        Due::Key => key_move(class),
-        Due::BehindKey => colon_move(class),
-        Due::Flag => flag_move(class),
-        Due::BehindFlag => behind_flag_move(class),
-        Due::Nothing => None,
+    match state {
+        State::Value => value_move(left, start),
+        State::FirstItem => first_move(form, left, class, start),
+        State::NextItem => item_move(form, left, class, start),
+        State::BehindValue => behind_move(form, class),
+        State::BehindLabel => label_move(form, class),
+        State::Paren => paren_move(class),
+        State::InBraces => brace_move(class),
+        State::NoFields => no_fields_move(class),
+        State::BehindWord => word_move(class),
+        State::Key => key_move(class),
+        State::BehindKey => colon_move(class),
+        State::Flag => flag_move(class),
+        State::BehindFlag => behind_flag_move(class),
+        State::Nothing => None,
     }
 }
 
 /// Whether a value can end after this move from where so many levels are left: not where the move
 /// leads to a value past the last level.
 pub(crate) fn goes_on(moved: Move, left: usize) -> bool
-    ensures { result ≡ spec.goes_on moved.due moved.change left }
+    ensures { result ≡ spec.goes_on moved.state moved.change left }
 {
-    match moved.due {
-        Due::Value | Due::Paren | Due::BehindKey => left > 1,
-        Due::FirstItem => match moved.change {
+    match moved.state {
+        State::Value | State::Paren | State::BehindKey => left > 1,
+        State::FirstItem => match moved.change {
             Change::Open(Form::Tuple) => left > 1,
             _ => true,
         },
@@ -360,10 +360,10 @@ pub(crate) fn goes_on(moved: Move, left: usize) -> bool
 
 /// Whether a token of this class may stand there, if it stands well: a label that is none of the flags
 /// before it, and no keyword.
-pub(crate) fn may_stand(due: Due, form: Option<Form>, left: usize, class: Token) -> bool
-    ensures { result ≡ spec.may_stand due form left class }
+pub(crate) fn may_stand(state: State, form: Option<Form>, left: usize, class: Token) -> bool
+    ensures { result ≡ spec.may_stand state form left class }
 {
-    match next_move(due, form, left, class, sample_start(class)) {
+    match next_move(state, form, left, class, sample_start(class)) {
         Some(moved) => goes_on(moved, left),
         None => false,
     }

@@ -1,17 +1,17 @@
 //! What may stand at a place of a text, in words for people.
 ghost use Rattle.std.specs.Prelude.{◌≡◌, ◌<◌, ◌++◌, [], ◌∷◌, IfOk, if◌then◌else◌, codes, string_bytes};
 ghost use Rattle.wave_wasm.specs.Borrowed.{texts};
-ghost use Rattle.wave_tree.specs.Expected.{class_word, words_among, starts_told, or_joined, expected_words};
+ghost use Rattle.wave_tree.specs.Expected.{class_word, words_among, starts_reported, or_joined, expected_words};
 ghost use Rattle.wave_tree.specs.Private.Separators.{separator};
 
 use crate::expected::Expected;
 use std::alloc::{AllocError, Global};
 use wave_lex::lex::Token;
 
-/// What is told where a value may stand, of which the first token isn't told.
+/// What is reported where a value may stand, of which the first token isn't reported.
 static VALUE: [Token; 1] = [Token::BracketOpen];
 
-/// What is told of a label, of the other keys by one of them, and of a payload, where no value may stand.
+/// What is reported of a label, of the other keys by one of them, and of a payload, where no value may stand.
 static LABEL_AND_KEYS: [Token; 3] = [Token::LabelOrKeyword, Token::Number, Token::ParenOpen];
 
 /// The marks that begin no value.
@@ -25,21 +25,21 @@ static MARKS: [Token; 5] = [
 
 impl Expected {
     /// What may stand there, for people: `',' or '}'`; `a value or ']'`, where a value may, of which
-    /// the first token isn't told; `a label, another key or '}'`, where a key may; `the end`, where the
+    /// the first token isn't reported; `a label, another key or '}'`, where a key may; `the end`, where the
     /// text may end; `nothing`, where the tokens before begin no value.
     pub fn words(&self, alloc: Global) -> Result<String, AllocError>
         ensures { IfOk result (λ text. string_bytes text ≡ expected_words self.now.classes.items self.now.may_end) }
     {
         let mut words = Vec::new(alloc);
-        self.add_words(&mut words, self.starts_told())?;
+        self.add_words(&mut words, self.starts_reported())?;
         self.add_words(&mut words, &MARKS)?;
         self.add_end(&mut words)?;
         or_joined(alloc, words.as_slice())
     }
 
-    /// What is told of the tokens that begin a value or a key.
-    fn starts_told(&self) -> &'static [Token]
-        ensures { result.now ≡ starts_told self.now.classes.items }
+    /// What is reported of the tokens that begin a value or a key.
+    fn starts_reported(&self) -> &'static [Token]
+        ensures { result.now ≡ starts_reported self.now.classes.items }
     {
         if self.contains(Token::BracketOpen) {
             return &VALUE;
@@ -58,10 +58,10 @@ impl Expected {
     }
 
     /// Adds the words of those of the classes that may stand there.
-    fn add_words(&self, words: &mut Vec<&'static str>, told: &[Token]) -> Result<(), AllocError>
-        ensures { IfOk result (λ _. texts words.new.items ≡ texts words.old.items ++ words_among self.now.classes.items told.now) }
+    fn add_words(&self, words: &mut Vec<&'static str>, reported: &[Token]) -> Result<(), AllocError>
+        ensures { IfOk result (λ _. texts words.new.items ≡ texts words.old.items ++ words_among self.now.classes.items reported.now) }
     {
-        for class in told {
+        for class in reported {
             self.add_word(words, *class)?;
         }
         Ok(())
@@ -78,7 +78,7 @@ impl Expected {
     }
 }
 
-/// How people are told of a class; of a value by its `[`.
+/// How a class is named to people; a value by its `[`.
 fn class_word(class: Token) -> &'static str
     ensures { result.now ≡ class_word class }
 {

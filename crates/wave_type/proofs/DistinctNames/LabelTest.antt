@@ -19,7 +19,7 @@ use Rattle.wave_wasm.specs.Names.{IsNoneOf, AreDistinct, is_one_of}
 use Rattle.wave_wasm.specs.Types as type
 use Rattle.wave_wasm.specs.Types.{TypeTree, MaybeType, Types, Fields, Cases, no_type, a_type, no_types, type_and, no_fields, field, no_cases, case_of, EachNames, EachNamesOfMaybe, EachNamesOfTypes, EachNamesOfFields, EachNamesOfCases, fields_of, cases_of, field_names, case_names}
 use Rattle.wave_wasm.proofs.Names.NameTests.{none_of, distinct_more}
-use Rattle.wave_lex.specs.Labels.{IsLabel, Good}
+use Rattle.wave_lex.specs.Labels.{IsLabel, HasDistinctLabels}
 use Rattle.wave_lex.specs.LongestMatch.{Greatest, IsPrefixOf}
 use Rattle.wave_lex.specs.Tokens.{label}
 use Rattle.wave_lex.proofs.RegularShapes.Derivatives.{matches_from, matches_into}
@@ -43,9 +43,9 @@ whole_from : (s : List ℕ) → IsLabel s → IsPrefixOf label s (length s)
 whole_from s h = record { scalars = s; fits = omega arith; spelled = by_itself s h ∙ sym (take-length s); has = h }
 
 -- the longest label at the start of a name is the whole name exactly where the name is a label
-pub front_tells : (s : List ℕ) (o : Option ℕ) → Greatest (IsPrefixOf label s) o → option_eq eqb o (Some (length s)) ≡ is_label s
-front_tells s None none = sym (false_from_ne_true (is_label s) (λ t. none (length s) (whole_from s (matches_from s label t))))
-front_tells s (Some k) best =
+pub prefix_tells : (s : List ℕ) (o : Option ℕ) → Greatest (IsPrefixOf label s) o → option_eq eqb o (Some (length s)) ≡ is_label s
+prefix_tells s None none = sym (false_from_ne_true (is_label s) (λ t. none (length s) (whole_from s (matches_from s label t))))
+prefix_tells s (Some k) best =
     both_ways (eqb k (length s)) (is_label s) (λ e. matches_into s label (whole_into s (subst (IsPrefixOf label s) (eqb-true k (length s) e) best.0))) (λ t. let le = best.1 (length s) (whole_from s (matches_from s label t)) in eq-eqb k (length s) (omega (arith, best.0.fits)))
 
 -- ---- names
@@ -139,8 +139,8 @@ module _ (Pass Also : List (List ℕ) → Type 0) (says : (ns : List (List ℕ))
     cases_into (case_of name payload more) h k = both_true (maybe_into payload h.0 k.0) (cases_into more h.1 k.1)
 
 -- the test passes exactly where the names are labels and distinct
-pub pass_is_good : (T : TypeTree) (b : Bool) → b ≡ names_pass T → IsTrue b ↔ Good T
-pass_is_good T b e =
+pub pass_is_labelled : (T : TypeTree) (b : Bool) → b ≡ names_pass T → IsTrue b ↔ HasDistinctLabels T
+pass_is_labelled T b e =
     (λ h. (each_from (AllOf IsLabel) labels_from T (sym e ∙ h), each_from AreDistinct distinct_from T (sym e ∙ h)), λ g. e ∙ each_into (AllOf IsLabel) AreDistinct names_into T g.0 g.1)
 
 -- ---- kept names

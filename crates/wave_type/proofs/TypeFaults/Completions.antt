@@ -1,4 +1,4 @@
--- What is taken before a refusal begins a type: whatever is due can be completed.
+-- What is taken before a refusal begins a type: whatever is expected can be completed.
 use Rattle.std.proofs.Common.{◌≡◌, ℕ, zero, suc, ◌<◌, Bool, true, false, List, [], ◌∷◌, ◌++◌, inl, inr, Option, Some, None, refl, sym, ap, subst, ◌∙◌, arith, map, length, codes, append_assoc}
 use Rattle.std.specs.Prelude.{◌⊎◌, ◌^◌, ◌||◌, max, if◌then◌else◌}
 use Rattle.std.specs.Fmt.{decimal}
@@ -17,12 +17,12 @@ use Rattle.wave_lex.specs.Regex.{Matches, joined}
 use Rattle.wave_lex.specs.Tokens.{lower, digit, ◌or◌}
 use Rattle.wave_type.specs.declared.error.TypeErrorKind.{TypeErrorKind}
 use Rattle.wave_type.specs.declared.error.TypeErrorKind.TheVariants.{UnexpectedToken, UnexpectedEnd, DuplicateName, InvalidKeyType, InvalidCount}
-use Rattle.wave_type.specs.TypeFaults.{Part, no_more, a_length, err_type, more_types, more_fields, more_cases, more_names, Expectation, mark_due, type_due, key_due, ok_due, part_due, close_due, last_due, payloads_due, payload_due, results_due, result_due, Step, takes, passes, refuses, due_behind, before, word_step, type_step, only_step, name_step, part_step, step, refused, due_of_type, due_of_function}
+use Rattle.wave_type.specs.TypeFaults.{Part, no_more, a_length, err_type, more_types, more_fields, more_cases, more_names, Expectation, mark_expected, type_expected, key_expected, ok_expected, part_expected, close_expected, last_expected, payloads_expected, payload_expected, results_expected, result_expected, Step, takes, passes, refuses, expected_behind, before, word_step, type_step, only_step, name_step, part_step, step, refused, expected_of_type, expected_of_function}
 use Rattle.wave_type.specs.TypeFaultLaws.{TakenBegins}
 use Rattle.wave_type.specs.FunctionSpelling.{SpellsParts, SpellsResults}
 use Rattle.wave_type.specs.TypeSpelling.{Tokens, Names, Closes, Spells, SpellsPayload, StandsAlone}
 use Rattle.wave_type.proofs.TypeReading.Functions.{Parts, no_empty_label, parts_there}
-use Rattle.wave_type.specs.Private.TypeReading.{made}
+use Rattle.wave_type.specs.Private.TypeReading.{built}
 use Rattle.wave_type.specs.TypeWords.{kind_of_word, key_of_word, name_of_token, count_of_token}
 use Rattle.wave_type.proofs.TypeFaults.TokenSteps.{by_step}
 use Rattle.wave_type.proofs.TypeReading.Sound.{AreParts, IsNamed, IsField, IsCase, names_spelled, types_spelled, fields_spelled, cases_spelled, field_names_of, case_names_of, distinct_more, word_back, count_back, name_back, key_back}
@@ -65,7 +65,7 @@ new_name_of names = long_name (longest names)
 is_new : (names : List (List ℕ)) → is_one_of names (new_name_of names) ≡ false
 is_new names = none_so_long names (new_name_of names) (omega (arith, long_length (longest names)))
 
--- ---- what fills what is due
+-- ---- what fills what is expected
 
 -- each name is none of those, and none before it
 abbrev AreNew : List (List ℕ) → List (List ℕ) → Type 0
@@ -97,28 +97,28 @@ FillsResult ts r =
     ((T : TypeTree) × Spells T ts r)
     ⊎ ((xs : List (List ℕ × TypeTree)) × (k : Tokens) × (ts ≡ codes "(" ∷ k) × AreParts (codes ")") IsField xs k r × AreNew [] (map (λ f. f.0) xs))
 
--- the tokens, up to the rest, are what is due
+-- the tokens, up to the rest, are what is expected
 abbrev Fills : Expectation → Tokens → Tokens → Type 0
-Fills (mark_due mark) ts r = ts ≡ mark ∷ r
-Fills (type_due n) ts r = (T : TypeTree) × Spells T ts r
-Fills key_due ts r = (K : Simple) × (ts ≡ kind_word (simple_kind K) ∷ r)
-Fills (ok_due n) ts r = (T : TypeTree) × Spells T (codes "result" ∷ codes "<" ∷ ts) r
-Fills (part_due mark part) ts r = FillsFirst mark part ts r
-Fills (close_due mark part) ts r = (ts ≡ mark ∷ r) ⊎ ((u : Tokens) × (ts ≡ codes "," ∷ u) × ((u ≡ mark ∷ r) ⊎ FillsPart mark part u r))
-Fills (last_due mark part) ts r = (ts ≡ mark ∷ r) ⊎ FillsPart mark part ts r
-Fills (payloads_due n) ts r = (T : TypeTree) × Spells T (codes "result" ∷ ts) r
-Fills (payload_due n) ts r = (p : Option TypeTree) × SpellsPayload (maybe_type p) ts r
-Fills (results_due n) ts r = (ts ≡ r) ⊎ ((k : Tokens) × (ts ≡ codes "-" ∷ codes ">" ∷ k) × FillsResult k r)
-Fills (result_due n) ts r = FillsResult ts r
+Fills (mark_expected mark) ts r = ts ≡ mark ∷ r
+Fills (type_expected n) ts r = (T : TypeTree) × Spells T ts r
+Fills key_expected ts r = (K : Simple) × (ts ≡ kind_word (simple_kind K) ∷ r)
+Fills (ok_expected n) ts r = (T : TypeTree) × Spells T (codes "result" ∷ codes "<" ∷ ts) r
+Fills (part_expected mark part) ts r = FillsFirst mark part ts r
+Fills (close_expected mark part) ts r = (ts ≡ mark ∷ r) ⊎ ((u : Tokens) × (ts ≡ codes "," ∷ u) × ((u ≡ mark ∷ r) ⊎ FillsPart mark part u r))
+Fills (last_expected mark part) ts r = (ts ≡ mark ∷ r) ⊎ FillsPart mark part ts r
+Fills (payloads_expected n) ts r = (T : TypeTree) × Spells T (codes "result" ∷ ts) r
+Fills (payload_expected n) ts r = (p : Option TypeTree) × SpellsPayload (maybe_type p) ts r
+Fills (results_expected n) ts r = (ts ≡ r) ⊎ ((k : Tokens) × (ts ≡ codes "-" ∷ codes ">" ∷ k) × FillsResult k r)
+Fills (result_expected n) ts r = FillsResult ts r
 
 -- one after the other
 abbrev FillsAll : List Expectation → Tokens → Tokens → Type 0
 FillsAll [] ts r = ts ≡ r
-FillsAll (due ∷ dues) ts r = (m : Tokens) × Fills due ts m × FillsAll dues m r
+FillsAll (expected ∷ expectations) ts r = (m : Tokens) × Fills expected ts m × FillsAll expectations m r
 
-split : (some dues : List Expectation) (ts r : Tokens) → FillsAll (some ++ dues) ts r → (m : Tokens) × FillsAll some ts m × FillsAll dues m r
-split [] dues ts r h = (ts, refl, h)
-split (due ∷ some) dues ts r (m, f, h) = let q = split some dues m r h in (q.0, (m, f, q.1), q.2)
+split : (some expectations : List Expectation) (ts r : Tokens) → FillsAll (some ++ expectations) ts r → (m : Tokens) × FillsAll some ts m × FillsAll expectations m r
+split [] expectations ts r h = (ts, refl, h)
+split (expected ∷ some) expectations ts r (m, f, h) = let q = split some expectations m r h in (q.0, (m, f, q.1), q.2)
 
 -- ---- completions
 
@@ -140,28 +140,28 @@ some_part mark (more_names names) r =
     let x = new_name_of names in
     (x ∷ mark ∷ r, (x ∷ [], (mark ∷ r, (x, refl, one_name names), inl refl), (is_new names, tt)))
 
--- whatever is due can be completed
-some_tokens : (due : Expectation) (r : Tokens) → (ts : Tokens) × Fills due ts r
-some_tokens (mark_due mark) r = (mark ∷ r, refl)
-some_tokens (type_due n) r = (codes "bool" ∷ r, (type.simple type.bool, refl))
-some_tokens key_due r = (codes "bool" ∷ r, (type.bool, refl))
-some_tokens (ok_due n) r = (codes "bool" ∷ codes ">" ∷ r, (type.result (a_type (type.simple type.bool)) no_type, (codes "bool" ∷ codes ">" ∷ r, codes ">" ∷ r, refl, refl, inl refl)))
-some_tokens (part_due mark part) r = some_part mark part r
-some_tokens (close_due mark part) r = (mark ∷ r, inl refl)
-some_tokens (last_due mark part) r = (mark ∷ r, inl refl)
-some_tokens (payloads_due n) r = (codes "<" ∷ codes "bool" ∷ codes ">" ∷ r, (type.result (a_type (type.simple type.bool)) no_type, (codes "bool" ∷ codes ">" ∷ r, codes ">" ∷ r, refl, refl, inl refl)))
-some_tokens (payload_due n) r = (r, (None, refl))
-some_tokens (results_due n) r = (r, inl refl)
-some_tokens (result_due n) r = (codes "bool" ∷ r, inl (type.simple type.bool, refl))
+-- whatever is expected can be completed
+some_tokens : (expected : Expectation) (r : Tokens) → (ts : Tokens) × Fills expected ts r
+some_tokens (mark_expected mark) r = (mark ∷ r, refl)
+some_tokens (type_expected n) r = (codes "bool" ∷ r, (type.simple type.bool, refl))
+some_tokens key_expected r = (codes "bool" ∷ r, (type.bool, refl))
+some_tokens (ok_expected n) r = (codes "bool" ∷ codes ">" ∷ r, (type.result (a_type (type.simple type.bool)) no_type, (codes "bool" ∷ codes ">" ∷ r, codes ">" ∷ r, refl, refl, inl refl)))
+some_tokens (part_expected mark part) r = some_part mark part r
+some_tokens (close_expected mark part) r = (mark ∷ r, inl refl)
+some_tokens (last_expected mark part) r = (mark ∷ r, inl refl)
+some_tokens (payloads_expected n) r = (codes "<" ∷ codes "bool" ∷ codes ">" ∷ r, (type.result (a_type (type.simple type.bool)) no_type, (codes "bool" ∷ codes ">" ∷ r, codes ">" ∷ r, refl, refl, inl refl)))
+some_tokens (payload_expected n) r = (r, (None, refl))
+some_tokens (results_expected n) r = (r, inl refl)
+some_tokens (result_expected n) r = (codes "bool" ∷ r, inl (type.simple type.bool, refl))
 
-all_tokens : (dues : List Expectation) → (ts : Tokens) × FillsAll dues ts []
+all_tokens : (expectations : List Expectation) → (ts : Tokens) × FillsAll expectations ts []
 all_tokens [] = ([], refl)
-all_tokens (due ∷ dues) =
-    let rest = all_tokens dues in
-    let first = some_tokens due rest.0 in
+all_tokens (expected ∷ expectations) =
+    let rest = all_tokens expectations in
+    let first = some_tokens expected rest.0 in
     (first.0, (rest.0, first.1, rest.1))
 
--- ---- a token that is taken, before what fills what is due after it
+-- ---- a token that is taken, before what fills what is expected after it
 
 taken_if : (b : Bool) (x more : List Expectation) (y : Step) → (if b then takes x else y) ≡ takes more → ((b ≡ true) × (x ≡ more)) ⊎ ((b ≡ false) × (y ≡ takes more))
 taken_if true x more y e = inl (refl, (cc))
@@ -177,32 +177,32 @@ module _ {A : Type 0} (mark : List ℕ) (Is : A → Tokens → Tokens → Type 0
   behind_comma x [] ts u m h more = absurd more
   behind_comma x (y ∷ xs) ts u m h more = (u, h, more)
 
-list_of : (us k l m : Tokens) (E : TypeTree) → us ≡ codes "<" ∷ k → Spells E k l → Fills (close_due (codes ">") a_length) l m → (T : TypeTree) × Spells T (codes "list" ∷ us) m
+list_of : (us k l m : Tokens) (E : TypeTree) → us ≡ codes "<" ∷ k → Spells E k l → Fills (close_expected (codes ">") a_length) l m → (T : TypeTree) × Spells T (codes "list" ∷ us) m
 list_of us k l m E is s (inl e) = (type.list E, (k, l, ap (λ z. codes "list" ∷ z) is, s, inl e))
 list_of us k l m E is s (inr (u, e, inl f)) = (type.list E, (k, l, ap (λ z. codes "list" ∷ z) is, s, inr (e ∙ ap (λ z. codes "," ∷ z) f)))
 list_of us k l m E is s (inr (u, e, inr (n, v, f, lt, c))) = (type.fixed E n, (k, v, ap (λ z. codes "list" ∷ z) is, subst (Spells E k) (e ∙ ap (λ z. codes "," ∷ z) f) s, lt, c))
 
-ok_of : (n : ℕ) (ts l m : Tokens) (T : TypeTree) → Spells T ts l → Fills (close_due (codes ">") (err_type n)) l m → (R : TypeTree) × Spells R (codes "result" ∷ codes "<" ∷ ts) m
+ok_of : (n : ℕ) (ts l m : Tokens) (T : TypeTree) → Spells T ts l → Fills (close_expected (codes ">") (err_type n)) l m → (R : TypeTree) × Spells R (codes "result" ∷ codes "<" ∷ ts) m
 ok_of n ts l m T s (inl e) = (type.result (a_type T) no_type, (ts, l, refl, s, inl e))
 ok_of n ts l m T s (inr (u, e, inl f)) = (type.result (a_type T) no_type, (ts, l, refl, s, inr (e ∙ ap (λ z. codes "," ∷ z) f)))
 ok_of n ts l m T s (inr (u, e, inr (E, v, h, c))) = (type.result (a_type T) (a_type E), (ts, u, v, refl, subst (Spells T ts) e s, h, c))
 
-types_of_fill : (n : ℕ) (mark : List ℕ) (ts l m : Tokens) (T : TypeTree) → Spells T ts l → Fills (close_due mark (more_types n)) l m → (xs : List TypeTree) × AreParts mark Spells xs ts m
+types_of_fill : (n : ℕ) (mark : List ℕ) (ts l m : Tokens) (T : TypeTree) → Spells T ts l → Fills (close_expected mark (more_types n)) l m → (xs : List TypeTree) × AreParts mark Spells xs ts m
 types_of_fill n mark ts l m T s (inl e) = (T ∷ [], (l, s, inl e))
 types_of_fill n mark ts l m T s (inr (u, e, inl f)) = (T ∷ [], (l, s, inr (e ∙ ap (λ z. codes "," ∷ z) f)))
 types_of_fill n mark ts l m T s (inr (u, e, inr (xs, h))) = (T ∷ xs, behind_comma mark Spells T xs ts u m (subst (Spells T ts) e s) h)
 
-fields_of_fill : (n : ℕ) (mark : List ℕ) (names : List (List ℕ)) (x : List ℕ × TypeTree) (ts l m : Tokens) → is_one_of names x.0 ≡ false → IsField x ts l → Fills (close_due mark (more_fields n (names ++ x.0 ∷ []))) l m → (xs : List (List ℕ × TypeTree)) × AreParts mark IsField xs ts m × AreNew names (map (λ f. f.0) xs)
+fields_of_fill : (n : ℕ) (mark : List ℕ) (names : List (List ℕ)) (x : List ℕ × TypeTree) (ts l m : Tokens) → is_one_of names x.0 ≡ false → IsField x ts l → Fills (close_expected mark (more_fields n (names ++ x.0 ∷ []))) l m → (xs : List (List ℕ × TypeTree)) × AreParts mark IsField xs ts m × AreNew names (map (λ f. f.0) xs)
 fields_of_fill n mark names x ts l m new is (inl e) = (x ∷ [], (l, is, inl e), (new, tt))
 fields_of_fill n mark names x ts l m new is (inr (u, e, inl f)) = (x ∷ [], (l, is, inr (e ∙ ap (λ z. codes "," ∷ z) f)), (new, tt))
 fields_of_fill n mark names x ts l m new is (inr (u, e, inr (xs, h, d))) = (x ∷ xs, behind_comma mark IsField x xs ts u m (subst (IsField x ts) e is) h, (new, d))
 
-cases_of_fill : (n : ℕ) (mark : List ℕ) (names : List (List ℕ)) (x : List ℕ × Option TypeTree) (ts l m : Tokens) → is_one_of names x.0 ≡ false → IsCase x ts l → Fills (close_due mark (more_cases n (names ++ x.0 ∷ []))) l m → (xs : List (List ℕ × Option TypeTree)) × AreParts mark IsCase xs ts m × AreNew names (map (λ f. f.0) xs)
+cases_of_fill : (n : ℕ) (mark : List ℕ) (names : List (List ℕ)) (x : List ℕ × Option TypeTree) (ts l m : Tokens) → is_one_of names x.0 ≡ false → IsCase x ts l → Fills (close_expected mark (more_cases n (names ++ x.0 ∷ []))) l m → (xs : List (List ℕ × Option TypeTree)) × AreParts mark IsCase xs ts m × AreNew names (map (λ f. f.0) xs)
 cases_of_fill n mark names x ts l m new is (inl e) = (x ∷ [], (l, is, inl e), (new, tt))
 cases_of_fill n mark names x ts l m new is (inr (u, e, inl f)) = (x ∷ [], (l, is, inr (e ∙ ap (λ z. codes "," ∷ z) f)), (new, tt))
 cases_of_fill n mark names x ts l m new is (inr (u, e, inr (xs, h, d))) = (x ∷ xs, behind_comma mark IsCase x xs ts u m (subst (IsCase x ts) e is) h, (new, d))
 
-names_of_fill : (mark : List ℕ) (names : List (List ℕ)) (x : List ℕ) (ts l m : Tokens) → is_one_of names x ≡ false → IsNamed x ts l → Fills (close_due mark (more_names (names ++ x ∷ []))) l m → (xs : List (List ℕ)) × AreParts mark IsNamed xs ts m × AreNew names xs
+names_of_fill : (mark : List ℕ) (names : List (List ℕ)) (x : List ℕ) (ts l m : Tokens) → is_one_of names x ≡ false → IsNamed x ts l → Fills (close_expected mark (more_names (names ++ x ∷ []))) l m → (xs : List (List ℕ)) × AreParts mark IsNamed xs ts m × AreNew names xs
 names_of_fill mark names x ts l m new is (inl e) = (x ∷ [], (l, is, inl e), (new, tt))
 names_of_fill mark names x ts l m new is (inr (u, e, inl f)) = (x ∷ [], (l, is, inr (e ∙ ap (λ z. codes "," ∷ z) f)), (new, tt))
 names_of_fill mark names x ts l m new is (inr (u, e, inr (xs, h, d))) = (x ∷ xs, behind_comma mark IsNamed x xs ts u m (subst (IsNamed x ts) e is) h, (new, d))
@@ -212,11 +212,11 @@ distinct_of names [] d h = subst AreDistinct (sym (append-nil names)) d
 distinct_of names (x ∷ xs) d h = subst AreDistinct (append_assoc names (x ∷ []) xs) (distinct_of (names ++ x ∷ []) xs (distinct_more names x d h.0) h.1)
 
 -- what stands after the word of a kind
-kind_fill : (n : ℕ) (k : WasmTypeKind) (us m : Tokens) → kind_of_word (kind_word k) ≡ Some k → FillsAll (due_behind n k) us m → (T : TypeTree) × Spells T (kind_word k ∷ us) m
-kind_fill n kinds.List us m w (k, a, (l, (E, s), (r, c, e))) = list_of us k l m E a s (subst (Fills (close_due (codes ">") a_length) l) e c)
-kind_fill n kinds.Option us m w (k, a, (l, (P, s), (r, c, e))) = (type.option P, (k, l, ap (λ z. codes "option" ∷ z) a, s, closes_of (codes ">") l m (subst (Fills (close_due (codes ">") no_more) l) e c)))
+kind_fill : (n : ℕ) (k : WasmTypeKind) (us m : Tokens) → kind_of_word (kind_word k) ≡ Some k → FillsAll (expected_behind n k) us m → (T : TypeTree) × Spells T (kind_word k ∷ us) m
+kind_fill n kinds.List us m w (k, a, (l, (E, s), (r, c, e))) = list_of us k l m E a s (subst (Fills (close_expected (codes ">") a_length) l) e c)
+kind_fill n kinds.Option us m w (k, a, (l, (P, s), (r, c, e))) = (type.option P, (k, l, ap (λ z. codes "option" ∷ z) a, s, closes_of (codes ">") l m (subst (Fills (close_expected (codes ">") no_more) l) e c)))
 kind_fill n kinds.Map us m w (k, a, (j, (K, b), (i, d, (l, (V, s), (r, c, e))))) =
-    (type.map K V, (i, l, ap (λ z. codes "map" ∷ z) (a ∙ ap (λ z. codes "<" ∷ z) (b ∙ ap (λ z. kind_word (simple_kind K) ∷ z) d)), s, closes_of (codes ">") l m (subst (Fills (close_due (codes ">") no_more) l) e c)))
+    (type.map K V, (i, l, ap (λ z. codes "map" ∷ z) (a ∙ ap (λ z. codes "<" ∷ z) (b ∙ ap (λ z. kind_word (simple_kind K) ∷ z) d)), s, closes_of (codes ">") l m (subst (Fills (close_expected (codes ">") no_more) l) e c)))
 kind_fill n kinds.Result us m w (k, (T, s), e) = (T, subst (Spells T (codes "result" ∷ us)) e s)
 kind_fill n kinds.Tuple us m w (k, a, (l, (xs, h), e)) = (type.tuple (types_of xs), (k, ap (λ z. codes "tuple" ∷ z) a, types_spelled xs k m (subst (AreParts (codes ">") Spells xs k) e h)))
 kind_fill n kinds.Record us m w (k, a, (l, (xs, h, d), e)) =
@@ -248,14 +248,14 @@ word_fill n None t more us m w e h = absurd (cc)
 word_fill zero (Some k) t more us m w e h = absurd (cc)
 word_fill (suc n) (Some k) t more us m w e h =
     let is : t ≡ kind_word k = word_back t k w in
-    let same : due_behind n k ≡ more = cc e in
+    let same : expected_behind n k ≡ more = cc e in
     let q = kind_fill n k us m (ap kind_of_word (sym is) ∙ w) (subst (λ ds. FillsAll ds us m) (sym same) h) in
     (q.0, subst (λ z. Spells q.0 (z ∷ us) m) (sym is) q.1)
 
 type_fill : (n : ℕ) (t : List ℕ) (more : List Expectation) (us m : Tokens) → type_step n t ≡ takes more → FillsAll more us m → (T : TypeTree) × Spells T (t ∷ us) m
 type_fill n t more us m e h = word_fill n (kind_of_word t) t more us m refl e h
 
--- the word of a type, and what is due after the type
+-- the word of a type, and what is expected after the type
 before_fill : (s : Step) (behind more : List Expectation) → before s behind ≡ takes more → (some : List Expectation) × (s ≡ takes some) × (some ++ behind ≡ more)
 before_fill (takes some) behind more e = (some, refl, (cc))
 before_fill passes behind more e = absurd (cc)
@@ -268,7 +268,7 @@ then_fill n t behind more us m e h =
     let f = type_fill n t b.0 us q.0 b.1 q.1 in
     (f.0, q.0, f.1, q.2)
 
--- a name, and what is due after it
+-- a name, and what is expected after it
 name_fill : (names : List (List ℕ)) (o : Option (List ℕ)) (t : List ℕ) (next : List (List ℕ) → List Expectation) (more : List Expectation) → name_of_token t ≡ o → name_step names o next ≡ takes more → (x : List ℕ) × Names t x × (is_one_of names x ≡ false) × (next (names ++ x ∷ []) ≡ more)
 name_fill names None t next more w e = absurd (cc)
 name_fill names (Some x) t next more w e = let q = new (is_one_of names x) refl e in (x, name_back t x w, q.0, q.1)
@@ -281,60 +281,60 @@ part_fill : (mark : List ℕ) (part : Part) (t : List ℕ) (more : List Expectat
 part_fill mark no_more t more us m e h = absurd (cc)
 part_fill mark a_length t more us m e h = count (count_of_token t) refl e
   where
-    count : (o : Option ℕ) → count_of_token t ≡ o → only_step o InvalidCount t (close_due mark no_more ∷ []) ≡ takes more → FillsPart mark a_length (t ∷ us) m
+    count : (o : Option ℕ) → count_of_token t ≡ o → only_step o InvalidCount t (close_expected mark no_more ∷ []) ≡ takes more → FillsPart mark a_length (t ∷ us) m
     count None w e = absurd (cc)
     count (Some n) w e =
         let q = count_back t n w in
-        let same : close_due mark no_more ∷ [] ≡ more = cc e in
+        let same : close_expected mark no_more ∷ [] ≡ more = cc e in
         let f = subst (λ ds. FillsAll ds us m) (sym same) h in
-        (n, us, ap (λ z. z ∷ us) q.0, q.1, closes_of mark us m (subst (Fills (close_due mark no_more) us) f.2 f.1))
+        (n, us, ap (λ z. z ∷ us) q.0, q.1, closes_of mark us m (subst (Fills (close_expected mark no_more) us) f.2 f.1))
 part_fill mark (err_type n) t more us m e h =
-    let q = then_fill n t (close_due mark no_more ∷ []) more us m e h in
-    (q.0, q.1, q.2, closes_of mark q.1 m (subst (Fills (close_due mark no_more) q.1) q.3.2 q.3.1))
+    let q = then_fill n t (close_expected mark no_more ∷ []) more us m e h in
+    (q.0, q.1, q.2, closes_of mark q.1 m (subst (Fills (close_expected mark no_more) q.1) q.3.2 q.3.1))
 part_fill mark (more_types n) t more us m e h =
-    let q = then_fill n t (close_due mark (more_types n) ∷ []) more us m e h in
-    types_of_fill n mark (t ∷ us) q.1 m q.0 q.2 (subst (Fills (close_due mark (more_types n)) q.1) q.3.2 q.3.1)
+    let q = then_fill n t (close_expected mark (more_types n) ∷ []) more us m e h in
+    types_of_fill n mark (t ∷ us) q.1 m q.0 q.2 (subst (Fills (close_expected mark (more_types n)) q.1) q.3.2 q.3.1)
 part_fill mark (more_fields n names) t more us m e h =
-    let q = name_fill names (name_of_token t) t (λ names. mark_due (codes ":") ∷ type_due n ∷ close_due mark (more_fields n names) ∷ []) more refl e in
+    let q = name_fill names (name_of_token t) t (λ names. mark_expected (codes ":") ∷ type_expected n ∷ close_expected mark (more_fields n names) ∷ []) more refl e in
     let (k, a, (l, (T, s), (r, c, z))) = subst (λ ds. FillsAll ds us m) (sym q.3) h in
-    fields_of_fill n mark names (q.0, T) (t ∷ us) l m q.2 (t, k, ap (λ z. t ∷ z) a, q.1, s) (subst (Fills (close_due mark (more_fields n (names ++ q.0 ∷ []))) l) z c)
+    fields_of_fill n mark names (q.0, T) (t ∷ us) l m q.2 (t, k, ap (λ z. t ∷ z) a, q.1, s) (subst (Fills (close_expected mark (more_fields n (names ++ q.0 ∷ []))) l) z c)
 part_fill mark (more_cases n names) t more us m e h =
-    let q = name_fill names (name_of_token t) t (λ names. payload_due n ∷ close_due mark (more_cases n names) ∷ []) more refl e in
+    let q = name_fill names (name_of_token t) t (λ names. payload_expected n ∷ close_expected mark (more_cases n names) ∷ []) more refl e in
     let (l, (p, s), (r, c, z)) = subst (λ ds. FillsAll ds us m) (sym q.3) h in
-    cases_of_fill n mark names (q.0, p) (t ∷ us) l m q.2 (t, us, refl, q.1, s) (subst (Fills (close_due mark (more_cases n (names ++ q.0 ∷ []))) l) z c)
+    cases_of_fill n mark names (q.0, p) (t ∷ us) l m q.2 (t, us, refl, q.1, s) (subst (Fills (close_expected mark (more_cases n (names ++ q.0 ∷ []))) l) z c)
 part_fill mark (more_names names) t more us m e h =
-    let q = name_fill names (name_of_token t) t (λ names. close_due mark (more_names names) ∷ []) more refl e in
+    let q = name_fill names (name_of_token t) t (λ names. close_expected mark (more_names names) ∷ []) more refl e in
     let (r, c, z) = subst (λ ds. FillsAll ds us m) (sym q.3) h in
-    names_of_fill mark names q.0 (t ∷ us) us m q.2 (t, refl, q.1) (subst (Fills (close_due mark (more_names (names ++ q.0 ∷ []))) us) z c)
+    names_of_fill mark names q.0 (t ∷ us) us m q.2 (t, refl, q.1) (subst (Fills (close_expected mark (more_names (names ++ q.0 ∷ []))) us) z c)
 
 mark_is : (t mark : List ℕ) → bytes_eq t mark ≡ true → t ≡ mark
 mark_is t mark e = (bytes_eq-Decides t mark).0 e
 
--- what is due is what was taken, and what fills what is due then
-due_fill : (due : Expectation) (t : List ℕ) (more : List Expectation) (us m : Tokens) → step due t ≡ takes more → FillsAll more us m → Fills due (t ∷ us) m
-due_fill (mark_due mark) t more us m e h = elim (taken_if (bytes_eq t mark) [] more (refuses UnexpectedToken) e) as (λ _. t ∷ us ≡ mark ∷ m) [
+-- what is expected is what was taken, and what fills what is expected then
+expected_fill : (expected : Expectation) (t : List ℕ) (more : List Expectation) (us m : Tokens) → step expected t ≡ takes more → FillsAll more us m → Fills expected (t ∷ us) m
+expected_fill (mark_expected mark) t more us m e h = elim (taken_if (bytes_eq t mark) [] more (refuses UnexpectedToken) e) as (λ _. t ∷ us ≡ mark ∷ m) [
   | inl p ↦ let end : us ≡ m = subst (λ ds. FillsAll ds us m) (sym p.1) h in λ i. mark_is t mark p.0 i ∷ end i
   | inr p ↦ let wrong : refuses UnexpectedToken ≡ takes more = p.1 in absurd (cc)
 ]
-due_fill (type_due n) t more us m e h = type_fill n t more us m e h
-due_fill key_due t more us m e h = key (key_of_word t) refl e
+expected_fill (type_expected n) t more us m e h = type_fill n t more us m e h
+expected_fill key_expected t more us m e h = key (key_of_word t) refl e
   where
     key : (o : Option TypeTree) → key_of_word t ≡ o → only_step o InvalidKeyType t [] ≡ takes more → (K : Simple) × (t ∷ us ≡ kind_word (simple_kind K) ∷ m)
     key None w e = absurd (cc)
     key (Some K) w e =
         let none : [] ≡ more = cc e in
         let end : us ≡ m = subst (λ ds. FillsAll ds us m) (sym none) h in
-        let q = key_back (t ∷ us) (K, us) (ap (λ o. made o us) w) in
+        let q = key_back (t ∷ us) (K, us) (ap (λ o. built o us) w) in
         (q.kind, q.next ∙ ap (λ z. kind_word (simple_kind q.kind) ∷ z) end)
-due_fill (ok_due n) t more us m e h = elim (taken_if (bytes_eq t (codes "_")) (mark_due (codes ",") ∷ type_due n ∷ close_due (codes ">") no_more ∷ []) more (before (type_step n t) (close_due (codes ">") (err_type n) ∷ [])) e) as (λ _. (T : TypeTree) × Spells T (codes "result" ∷ codes "<" ∷ t ∷ us) m) [
+expected_fill (ok_expected n) t more us m e h = elim (taken_if (bytes_eq t (codes "_")) (mark_expected (codes ",") ∷ type_expected n ∷ close_expected (codes ">") no_more ∷ []) more (before (type_step n t) (close_expected (codes ">") (err_type n) ∷ [])) e) as (λ _. (T : TypeTree) × Spells T (codes "result" ∷ codes "<" ∷ t ∷ us) m) [
   | inl p ↦
       let (k, a, (l, (E, s), (r, c, z))) = subst (λ ds. FillsAll ds us m) (sym p.1) h in
-      (type.result no_type (a_type E), (k, l, (λ i. codes "result" ∷ codes "<" ∷ mark_is t (codes "_") p.0 i ∷ a i), s, closes_of (codes ">") l m (subst (Fills (close_due (codes ">") no_more) l) z c)))
+      (type.result no_type (a_type E), (k, l, (λ i. codes "result" ∷ codes "<" ∷ mark_is t (codes "_") p.0 i ∷ a i), s, closes_of (codes ">") l m (subst (Fills (close_expected (codes ">") no_more) l) z c)))
   | inr p ↦
-      let q = then_fill n t (close_due (codes ">") (err_type n) ∷ []) more us m p.1 h in
-      ok_of n (t ∷ us) q.1 m q.0 q.2 (subst (Fills (close_due (codes ">") (err_type n)) q.1) q.3.2 q.3.1)
+      let q = then_fill n t (close_expected (codes ">") (err_type n) ∷ []) more us m p.1 h in
+      ok_of n (t ∷ us) q.1 m q.0 q.2 (subst (Fills (close_expected (codes ">") (err_type n)) q.1) q.3.2 q.3.1)
 ]
-due_fill (part_due mark part) t more us m e h = first_fill part (part_fill mark part t more us m e h)
+expected_fill (part_expected mark part) t more us m e h = first_fill part (part_fill mark part t more us m e h)
   where
     first_fill : (part : Part) → FillsPart mark part (t ∷ us) m → FillsFirst mark part (t ∷ us) m
     first_fill no_more f = tt
@@ -344,38 +344,38 @@ due_fill (part_due mark part) t more us m e h = first_fill part (part_fill mark 
     first_fill (more_fields n names) f = f
     first_fill (more_cases n names) f = f
     first_fill (more_names names) f = f
-due_fill (close_due mark part) t more us m e h = elim (taken_if (bytes_eq t mark) [] more (if bytes_eq t (codes ",") then takes (last_due mark part ∷ []) else refuses UnexpectedToken) e) as (λ _. Fills (close_due mark part) (t ∷ us) m) [
+expected_fill (close_expected mark part) t more us m e h = elim (taken_if (bytes_eq t mark) [] more (if bytes_eq t (codes ",") then takes (last_expected mark part ∷ []) else refuses UnexpectedToken) e) as (λ _. Fills (close_expected mark part) (t ∷ us) m) [
   | inl p ↦ let end : us ≡ m = subst (λ ds. FillsAll ds us m) (sym p.1) h in inl (λ i. mark_is t mark p.0 i ∷ end i)
-  | inr p ↦ elim (taken_if (bytes_eq t (codes ",")) (last_due mark part ∷ []) more (refuses UnexpectedToken) p.1) as (λ _. Fills (close_due mark part) (t ∷ us) m) [
+  | inr p ↦ elim (taken_if (bytes_eq t (codes ",")) (last_expected mark part ∷ []) more (refuses UnexpectedToken) p.1) as (λ _. Fills (close_expected mark part) (t ∷ us) m) [
     | inl q ↦
         let (r, f, z) = subst (λ ds. FillsAll ds us m) (sym q.1) h in
-        inr (us, ap (λ z. z ∷ us) (mark_is t (codes ",") q.0), subst (Fills (last_due mark part) us) z f)
+        inr (us, ap (λ z. z ∷ us) (mark_is t (codes ",") q.0), subst (Fills (last_expected mark part) us) z f)
     | inr q ↦ let wrong : refuses UnexpectedToken ≡ takes more = q.1 in absurd (cc)
   ]
 ]
-due_fill (last_due mark part) t more us m e h = elim (taken_if (bytes_eq t mark) [] more (part_step mark part t) e) as (λ _. Fills (last_due mark part) (t ∷ us) m) [
+expected_fill (last_expected mark part) t more us m e h = elim (taken_if (bytes_eq t mark) [] more (part_step mark part t) e) as (λ _. Fills (last_expected mark part) (t ∷ us) m) [
   | inl p ↦ let end : us ≡ m = subst (λ ds. FillsAll ds us m) (sym p.1) h in inl (λ i. mark_is t mark p.0 i ∷ end i)
   | inr p ↦ inr (part_fill mark part t more us m p.1 h)
 ]
-due_fill (payloads_due n) t more us m e h = elim (taken_if (bytes_eq t (codes "<")) (ok_due n ∷ []) more passes e) as (λ _. (T : TypeTree) × Spells T (codes "result" ∷ t ∷ us) m) [
+expected_fill (payloads_expected n) t more us m e h = elim (taken_if (bytes_eq t (codes "<")) (ok_expected n ∷ []) more passes e) as (λ _. (T : TypeTree) × Spells T (codes "result" ∷ t ∷ us) m) [
   | inl p ↦
       let (r, (T, s), z) = subst (λ ds. FillsAll ds us m) (sym p.1) h in
       (T, subst (λ w. Spells T (codes "result" ∷ w ∷ us) m) (sym (mark_is t (codes "<") p.0)) (subst (Spells T (codes "result" ∷ codes "<" ∷ us)) z s))
   | inr p ↦ let wrong : passes ≡ takes more = p.1 in absurd (cc)
 ]
-due_fill (payload_due n) t more us m e h = elim (taken_if (bytes_eq t (codes "(")) (type_due n ∷ mark_due (codes ")") ∷ []) more passes e) as (λ _. (p : Option TypeTree) × SpellsPayload (maybe_type p) (t ∷ us) m) [
+expected_fill (payload_expected n) t more us m e h = elim (taken_if (bytes_eq t (codes "(")) (type_expected n ∷ mark_expected (codes ")") ∷ []) more passes e) as (λ _. (p : Option TypeTree) × SpellsPayload (maybe_type p) (t ∷ us) m) [
   | inl p ↦
       let (l, (T, s), (r, a, z)) = subst (λ ds. FillsAll ds us m) (sym p.1) h in
       (Some T, (us, ap (λ w. w ∷ us) (mark_is t (codes "(") p.0), subst (Spells T us) (a ∙ ap (λ w. codes ")" ∷ w) z) s))
   | inr p ↦ let wrong : passes ≡ takes more = p.1 in absurd (cc)
 ]
-due_fill (results_due n) t more us m e h = elim (taken_if (bytes_eq t (codes "-")) (mark_due (codes ">") ∷ result_due n ∷ []) more passes e) as (λ _. Fills (results_due n) (t ∷ us) m) [
+expected_fill (results_expected n) t more us m e h = elim (taken_if (bytes_eq t (codes "-")) (mark_expected (codes ">") ∷ result_expected n ∷ []) more passes e) as (λ _. Fills (results_expected n) (t ∷ us) m) [
   | inl p ↦
       let (k, a, (r, f, z)) = subst (λ ds. FillsAll ds us m) (sym p.1) h in
       inr (k, (λ i. mark_is t (codes "-") p.0 i ∷ a i), subst (FillsResult k) z f)
   | inr p ↦ let wrong : passes ≡ takes more = p.1 in absurd (cc)
 ]
-due_fill (result_due n) t more us m e h = elim (taken_if (bytes_eq t (codes "(")) (part_due (codes ")") (more_fields n []) ∷ []) more (type_step n t) e) as (λ _. FillsResult (t ∷ us) m) [
+expected_fill (result_expected n) t more us m e h = elim (taken_if (bytes_eq t (codes "(")) (part_expected (codes ")") (more_fields n []) ∷ []) more (type_step n t) e) as (λ _. FillsResult (t ∷ us) m) [
   | inl p ↦
       let (r, (xs, f, d), z) = subst (λ ds. FillsAll ds us m) (sym p.1) h in
       inr (xs, us, ap (λ w. w ∷ us) (mark_is t (codes "(") p.0), subst (AreParts (codes ")") IsField xs us) z f, d)
@@ -400,7 +400,7 @@ word_no_pass zero (Some kind) = tt
 word_no_pass (suc n) (Some kind) = tt
 
 before_no_pass : (s : Step) (more : List Expectation) → NotPass s → NotPass (before s more)
-before_no_pass (takes dues) more h = tt
+before_no_pass (takes expectations) more h = tt
 before_no_pass passes more h = h
 before_no_pass (refuses k) more h = tt
 
@@ -414,75 +414,75 @@ name_no_pass names (Some x) next = if_no_pass (is_one_of names x) (refuses Dupli
 
 part_no_pass : (mark : List ℕ) (part : Part) (t : List ℕ) → NotPass (part_step mark part t)
 part_no_pass mark no_more t = tt
-part_no_pass mark a_length t = only_no_pass (count_of_token t) InvalidCount t (close_due mark no_more ∷ [])
-part_no_pass mark (err_type n) t = before_no_pass (type_step n t) (close_due mark no_more ∷ []) (word_no_pass n (kind_of_word t))
-part_no_pass mark (more_types n) t = before_no_pass (type_step n t) (close_due mark (more_types n) ∷ []) (word_no_pass n (kind_of_word t))
-part_no_pass mark (more_fields n names) t = name_no_pass names (name_of_token t) (λ names. mark_due (codes ":") ∷ type_due n ∷ close_due mark (more_fields n names) ∷ [])
-part_no_pass mark (more_cases n names) t = name_no_pass names (name_of_token t) (λ names. payload_due n ∷ close_due mark (more_cases n names) ∷ [])
-part_no_pass mark (more_names names) t = name_no_pass names (name_of_token t) (λ names. close_due mark (more_names names) ∷ [])
+part_no_pass mark a_length t = only_no_pass (count_of_token t) InvalidCount t (close_expected mark no_more ∷ [])
+part_no_pass mark (err_type n) t = before_no_pass (type_step n t) (close_expected mark no_more ∷ []) (word_no_pass n (kind_of_word t))
+part_no_pass mark (more_types n) t = before_no_pass (type_step n t) (close_expected mark (more_types n) ∷ []) (word_no_pass n (kind_of_word t))
+part_no_pass mark (more_fields n names) t = name_no_pass names (name_of_token t) (λ names. mark_expected (codes ":") ∷ type_expected n ∷ close_expected mark (more_fields n names) ∷ [])
+part_no_pass mark (more_cases n names) t = name_no_pass names (name_of_token t) (λ names. payload_expected n ∷ close_expected mark (more_cases n names) ∷ [])
+part_no_pass mark (more_names names) t = name_no_pass names (name_of_token t) (λ names. close_expected mark (more_names names) ∷ [])
 
 alone_if : (t : List ℕ) (us : Tokens) (b : Bool) (more : List Expectation) → bytes_eq t (codes "<") ≡ b → (if b then takes more else passes) ≡ passes → StandsAlone (t ∷ us)
 alone_if t us true more h e = absurd (cc)
 alone_if t us false more h e = λ same. let wrong : true ≡ false = sym ((bytes_eq-Decides t (codes "<")).1 same) ∙ h in cc
 
-step_no_pass : (due : Expectation) (t : List ℕ) → NotPass (step due t) ⊎ ((us : Tokens) → step due t ≡ passes → Fills due (t ∷ us) (t ∷ us))
-step_no_pass (mark_due mark) t = inl (if_no_pass (bytes_eq t mark) (takes []) (refuses UnexpectedToken) tt tt)
-step_no_pass (type_due n) t = inl (word_no_pass n (kind_of_word t))
-step_no_pass key_due t = inl (only_no_pass (key_of_word t) InvalidKeyType t [])
-step_no_pass (ok_due n) t =
-    inl (if_no_pass (bytes_eq t (codes "_")) (takes (mark_due (codes ",") ∷ type_due n ∷ close_due (codes ">") no_more ∷ [])) (before (type_step n t) (close_due (codes ">") (err_type n) ∷ [])) tt (before_no_pass (type_step n t) (close_due (codes ">") (err_type n) ∷ []) (word_no_pass n (kind_of_word t))))
-step_no_pass (part_due mark part) t = inl (part_no_pass mark part t)
-step_no_pass (close_due mark part) t =
-    inl (if_no_pass (bytes_eq t mark) (takes []) (if bytes_eq t (codes ",") then takes (last_due mark part ∷ []) else refuses UnexpectedToken) tt (if_no_pass (bytes_eq t (codes ",")) (takes (last_due mark part ∷ [])) (refuses UnexpectedToken) tt tt))
-step_no_pass (last_due mark part) t = inl (if_no_pass (bytes_eq t mark) (takes []) (part_step mark part t) tt (part_no_pass mark part t))
-step_no_pass (payloads_due n) t = inr (λ us e. (type.result no_type no_type, (refl, alone_if t us (bytes_eq t (codes "<")) (ok_due n ∷ []) refl e)))
-step_no_pass (payload_due n) t = inr (λ us e. (None, refl))
-step_no_pass (results_due n) t = inr (λ us e. inl refl)
-step_no_pass (result_due n) t = inl (if_no_pass (bytes_eq t (codes "(")) (takes (part_due (codes ")") (more_fields n []) ∷ [])) (type_step n t) tt (word_no_pass n (kind_of_word t)))
+step_no_pass : (expected : Expectation) (t : List ℕ) → NotPass (step expected t) ⊎ ((us : Tokens) → step expected t ≡ passes → Fills expected (t ∷ us) (t ∷ us))
+step_no_pass (mark_expected mark) t = inl (if_no_pass (bytes_eq t mark) (takes []) (refuses UnexpectedToken) tt tt)
+step_no_pass (type_expected n) t = inl (word_no_pass n (kind_of_word t))
+step_no_pass key_expected t = inl (only_no_pass (key_of_word t) InvalidKeyType t [])
+step_no_pass (ok_expected n) t =
+    inl (if_no_pass (bytes_eq t (codes "_")) (takes (mark_expected (codes ",") ∷ type_expected n ∷ close_expected (codes ">") no_more ∷ [])) (before (type_step n t) (close_expected (codes ">") (err_type n) ∷ [])) tt (before_no_pass (type_step n t) (close_expected (codes ">") (err_type n) ∷ []) (word_no_pass n (kind_of_word t))))
+step_no_pass (part_expected mark part) t = inl (part_no_pass mark part t)
+step_no_pass (close_expected mark part) t =
+    inl (if_no_pass (bytes_eq t mark) (takes []) (if bytes_eq t (codes ",") then takes (last_expected mark part ∷ []) else refuses UnexpectedToken) tt (if_no_pass (bytes_eq t (codes ",")) (takes (last_expected mark part ∷ [])) (refuses UnexpectedToken) tt tt))
+step_no_pass (last_expected mark part) t = inl (if_no_pass (bytes_eq t mark) (takes []) (part_step mark part t) tt (part_no_pass mark part t))
+step_no_pass (payloads_expected n) t = inr (λ us e. (type.result no_type no_type, (refl, alone_if t us (bytes_eq t (codes "<")) (ok_expected n ∷ []) refl e)))
+step_no_pass (payload_expected n) t = inr (λ us e. (None, refl))
+step_no_pass (results_expected n) t = inr (λ us e. inl refl)
+step_no_pass (result_expected n) t = inl (if_no_pass (bytes_eq t (codes "(")) (takes (part_expected (codes ")") (more_fields n []) ∷ [])) (type_step n t) tt (word_no_pass n (kind_of_word t)))
 
-pass_fill : (due : Expectation) (t : List ℕ) (us : Tokens) → step due t ≡ passes → Fills due (t ∷ us) (t ∷ us)
-pass_fill due t us e = elim (step_no_pass due t) as (λ _. Fills due (t ∷ us) (t ∷ us)) [ inl never ↦ absurd (subst NotPass e never) | inr fills ↦ fills us e ]
+pass_fill : (expected : Expectation) (t : List ℕ) (us : Tokens) → step expected t ≡ passes → Fills expected (t ∷ us) (t ∷ us)
+pass_fill expected t us e = elim (step_no_pass expected t) as (λ _. Fills expected (t ∷ us) (t ∷ us)) [ inl never ↦ absurd (subst NotPass e never) | inr fills ↦ fills us e ]
 
 -- ---- beginnings
 
--- what was taken before the tokens that are left, and what may follow it, are all that is due
+-- what was taken before the tokens that are left, and what may follow it, are all that is expected
 abbrev Begins : List Expectation → Tokens → Tokens → Type 0
-Begins dues ts left = (front : Tokens) × (ts ≡ front ++ left) × (more : Tokens) × FillsAll dues (front ++ more) []
+Begins expectations ts left = (prefix : Tokens) × (ts ≡ prefix ++ left) × (more : Tokens) × FillsAll expectations (prefix ++ more) []
 
-from_here : (dues : List Expectation) (ts left : Tokens) → ts ≡ left → Begins dues ts left
-from_here dues ts left e = let all = all_tokens dues in ([], e, all.0, all.1)
+from_here : (expectations : List Expectation) (ts left : Tokens) → ts ≡ left → Begins expectations ts left
+from_here expectations ts left e = let all = all_tokens expectations in ([], e, all.0, all.1)
 
-ended_begins : (dues all : List Expectation) (kind : TypeErrorKind) (left : Tokens) → refused [] dues ≡ Some (kind, left) → [] ≡ left
+ended_begins : (expectations all : List Expectation) (kind : TypeErrorKind) (left : Tokens) → refused [] expectations ≡ Some (kind, left) → [] ≡ left
 ended_begins [] all kind left e = absurd (cc)
-ended_begins (payloads_due n ∷ dues) all kind left e = ended_begins dues all kind left e
-ended_begins (payload_due n ∷ dues) all kind left e = ended_begins dues all kind left e
-ended_begins (results_due n ∷ dues) all kind left e = ended_begins dues all kind left e
-ended_begins (due ∷ dues) all kind left e = let same : ◌≡◌ {A = TypeErrorKind × Tokens} (UnexpectedEnd, []) (kind, left) = cc in λ i. (same i).1
+ended_begins (payloads_expected n ∷ expectations) all kind left e = ended_begins expectations all kind left e
+ended_begins (payload_expected n ∷ expectations) all kind left e = ended_begins expectations all kind left e
+ended_begins (results_expected n ∷ expectations) all kind left e = ended_begins expectations all kind left e
+ended_begins (expected ∷ expectations) all kind left e = let same : ◌≡◌ {A = TypeErrorKind × Tokens} (UnexpectedEnd, []) (kind, left) = cc in λ i. (same i).1
 
-module _ (t : List ℕ) (ts left : Tokens) (kind : TypeErrorKind) (below : (dues : List Expectation) → refused ts dues ≡ Some (kind, left) → Begins dues ts left) where
-  passed : (due : Expectation) (dues : List Expectation) → step due t ≡ passes → Begins dues (t ∷ ts) left → Begins (due ∷ dues) (t ∷ ts) left
-  passed due dues h ([], e, more, f) = from_here (due ∷ dues) (t ∷ ts) left e
-  passed due dues h (u ∷ front, e, more, f) =
+module _ (t : List ℕ) (ts left : Tokens) (kind : TypeErrorKind) (below : (expectations : List Expectation) → refused ts expectations ≡ Some (kind, left) → Begins expectations ts left) where
+  passed : (expected : Expectation) (expectations : List Expectation) → step expected t ≡ passes → Begins expectations (t ∷ ts) left → Begins (expected ∷ expectations) (t ∷ ts) left
+  passed expected expectations h ([], e, more, f) = from_here (expected ∷ expectations) (t ∷ ts) left e
+  passed expected expectations h (u ∷ prefix, e, more, f) =
       let same : t ≡ u = cc in
-      (u ∷ front, e, more, (u ∷ front ++ more, pass_fill due u (front ++ more) (subst (λ z. step due z ≡ passes) same h), f))
+      (u ∷ prefix, e, more, (u ∷ prefix ++ more, pass_fill expected u (prefix ++ more) (subst (λ z. step expected z ≡ passes) same h), f))
 
-  begins_at : (dues : List Expectation) → refused (t ∷ ts) dues ≡ Some (kind, left) → Begins dues (t ∷ ts) left
+  begins_at : (expectations : List Expectation) → refused (t ∷ ts) expectations ≡ Some (kind, left) → Begins expectations (t ∷ ts) left
   begins_at [] e = let same : ◌≡◌ {A = TypeErrorKind × Tokens} (UnexpectedToken, t ∷ ts) (kind, left) = cc in ([], (λ i. (same i).1), [], refl)
-  begins_at (due ∷ dues) e = by (step due t) refl (begins_at dues)
+  begins_at (expected ∷ expectations) e = by (step expected t) refl (begins_at expectations)
     where
-      by : (s : Step) → step due t ≡ s → (refused (t ∷ ts) dues ≡ Some (kind, left) → Begins dues (t ∷ ts) left) → Begins (due ∷ dues) (t ∷ ts) left
+      by : (s : Step) → step expected t ≡ s → (refused (t ∷ ts) expectations ≡ Some (kind, left) → Begins expectations (t ∷ ts) left) → Begins (expected ∷ expectations) (t ∷ ts) left
       by (takes some) h next =
-          let (front, e', more, f) = below (some ++ dues) (sym (by_step t ts due dues (takes some) h) ∙ e) in
-          let q = split some dues (front ++ more) [] f in
-          (t ∷ front, ap (λ z. t ∷ z) e', more, (q.0, due_fill due t some (front ++ more) q.0 h q.1, q.2))
-      by passes h next = passed due dues h (next (sym (by_step t ts due dues passes h) ∙ e))
+          let (prefix, e', more, f) = below (some ++ expectations) (sym (by_step t ts expected expectations (takes some) h) ∙ e) in
+          let q = split some expectations (prefix ++ more) [] f in
+          (t ∷ prefix, ap (λ z. t ∷ z) e', more, (q.0, expected_fill expected t some (prefix ++ more) q.0 h q.1, q.2))
+      by passes h next = passed expected expectations h (next (sym (by_step t ts expected expectations passes h) ∙ e))
       by (refuses k) h next =
-          let same : ◌≡◌ {A = TypeErrorKind × Tokens} (k, t ∷ ts) (kind, left) = cc (by_step t ts due dues (refuses k) h) in
-          from_here (due ∷ dues) (t ∷ ts) left (λ i. (same i).1)
+          let same : ◌≡◌ {A = TypeErrorKind × Tokens} (k, t ∷ ts) (kind, left) = cc (by_step t ts expected expectations (refuses k) h) in
+          from_here (expected ∷ expectations) (t ∷ ts) left (λ i. (same i).1)
 
-all_begin : (ts : Tokens) (dues : List Expectation) (kind : TypeErrorKind) (left : Tokens) → refused ts dues ≡ Some (kind, left) → Begins dues ts left
-all_begin [] dues kind left e = from_here dues [] left (ended_begins dues dues kind left e)
-all_begin (t ∷ ts) dues kind left e = begins_at t ts left kind (λ dues. all_begin ts dues kind left) dues e
+all_begin : (ts : Tokens) (expectations : List Expectation) (kind : TypeErrorKind) (left : Tokens) → refused ts expectations ≡ Some (kind, left) → Begins expectations ts left
+all_begin [] expectations kind left e = from_here expectations [] left (ended_begins expectations expectations kind left e)
+all_begin (t ∷ ts) expectations kind left e = begins_at t ts left kind (λ expectations. all_begin ts expectations kind left) expectations e
 
 -- ---- functions
 
@@ -490,7 +490,7 @@ all_begin (t ∷ ts) dues kind left e = begins_at t ts left kind (λ dues. all_b
 fields_fill : (xs : Parts) (ts r : Tokens) → AreParts (codes ")") IsField xs ts r → AreNew [] (map (λ f. f.0) xs) → SpellsParts xs ts r
 fields_fill xs ts r h d = parts_there xs ts r (fields_spelled (codes ")") xs ts r h) (subst AreDistinct (field_names_of xs) (distinct_of [] (map (λ f. f.0) xs) tt d))
 
-params_fill : (n : ℕ) (ts r : Tokens) → Fills (last_due (codes ")") (more_fields n [])) ts r → (ps : Parts) × SpellsParts ps ts r
+params_fill : (n : ℕ) (ts r : Tokens) → Fills (last_expected (codes ")") (more_fields n [])) ts r → (ps : Parts) × SpellsParts ps ts r
 params_fill n ts r (inl e) = ([], e)
 params_fill n ts r (inr (xs, h, d)) = (xs, fields_fill xs ts r h d)
 
@@ -500,7 +500,7 @@ named_fill (([], T) ∷ []) ts m e (l, (t, k, q, n, s), c) d = absurd (no_empty_
 named_fill (([], T) ∷ p ∷ ps) ts m e h d = (m, e, d)
 named_fill ((c ∷ cs, T) ∷ ps) ts m e h d = (m, e, d)
 
-results_fill : (n : ℕ) (ts : Tokens) → Fills (results_due n) ts [] → (rs : Parts) × SpellsResults rs ts
+results_fill : (n : ℕ) (ts : Tokens) → Fills (results_expected n) ts [] → (rs : Parts) × SpellsResults rs ts
 results_fill n ts (inl e) = ([], e)
 results_fill n ts (inr (k, a, inl (T, s))) = (([], T) ∷ [], (k, a, s))
 results_fill n ts (inr (k, a, inr (xs, j, b, h, d))) = (xs, named_fill xs ts j (a ∙ ap (λ z. codes "-" ∷ codes ">" ∷ z) b) h (fields_fill xs j [] h d))
@@ -509,11 +509,11 @@ results_fill n ts (inr (k, a, inr (xs, j, b, h, d))) = (xs, named_fill xs ts j (
 pub taken_begins : TakenBegins
 taken_begins = record {
   types = λ n ts left kind e.
-      let (front, same, more, (m, (T, s), end)) = all_begin ts (due_of_type n) kind left e in
-      (front, same, T, more, subst (Spells T (front ++ more)) end s);
+      let (prefix, same, more, (m, (T, s), end)) = all_begin ts (expected_of_type n) kind left e in
+      (prefix, same, T, more, subst (Spells T (prefix ++ more)) end s);
   functions = λ n ts left kind e.
-      let (front, same, more, (a, func, (b, paren, (c, params, (d, results, end))))) = all_begin ts (due_of_function n) kind left e in
+      let (prefix, same, more, (a, func, (b, paren, (c, params, (d, results, end))))) = all_begin ts (expected_of_function n) kind left e in
       let ps = params_fill n b c params in
-      let rs = results_fill n c (subst (Fills (results_due n) c) end results) in
-      (front, same, record { params = ps.0; results = rs.0 }, more, (b, c, func ∙ ap (λ z. codes "func" ∷ z) paren, ps.1, rs.1));
+      let rs = results_fill n c (subst (Fills (results_expected n) c) end results) in
+      (prefix, same, record { params = ps.0; results = rs.0 }, more, (b, c, func ∙ ap (λ z. codes "func" ∷ z) paren, ps.1, rs.1));
 }

@@ -1,4 +1,4 @@
--- What a token does where something is due: it is taken, and what is due after it; or it is refused.
+-- What a token does where something is expected: it is taken, and what is expected after it; or it is refused.
 use Rattle.std.proofs.Common.{◌≡◌, ℕ, zero, suc, ◌-◌, ◌<◌, Bool, true, false, List, [], ◌∷◌, ◌++◌, inl, inr, Option, Some, None, drop, refl, sym, ap, subst, ◌∙◌, arith, codes, append_assoc}
 use Rattle.std.specs.Prelude.{◌⊎◌, if◌then◌else◌}
 use Rattle.std.specs.Str.{bytes_eq}
@@ -10,25 +10,25 @@ use Rattle.wave_type.specs.declared.error.TypeErrorKind.TheVariants.{UnexpectedT
 use Rattle.wave_type.specs.TypeSpelling.{Tokens}
 use Rattle.wave_type.specs.TypeWords.{onward, kind_of_word, key_of_word, name_of_token, count_of_token, is_mark}
 use Rattle.wave_type.specs.TypeFaults.{Part, no_more, a_length, err_type, more_types, more_fields, more_cases, more_names}
-use Rattle.wave_type.specs.TypeFaults.{Expectation, mark_due, type_due, key_due, ok_due, part_due, close_due, last_due, payloads_due, payload_due, results_due, result_due}
-use Rattle.wave_type.specs.TypeFaults.{Step, takes, passes, refuses, due_behind, before, word_step, type_step, only_step, name_step, part_step, step, Fault, refused}
+use Rattle.wave_type.specs.TypeFaults.{Expectation, mark_expected, type_expected, key_expected, ok_expected, part_expected, close_expected, last_expected, payloads_expected, payload_expected, results_expected, result_expected}
+use Rattle.wave_type.specs.TypeFaults.{Step, takes, passes, refuses, expected_behind, before, word_step, type_step, only_step, name_step, part_step, step, Fault, refused}
 use Rattle.wave_type.specs.Private.TypeReading.{after, closed, or_else, first_of, kind_at, key_at, count_at, new_name}
 use Rattle.wave_type.specs.Private.TypeTokens.{misplaced, name_fault, name_refused, Fails, IsRefused, GoesOn, RefusesName}
-use Rattle.wave_type.proofs.TypeReading.Sound.{onward_back, made_back, if_back, unless_back}
+use Rattle.wave_type.proofs.TypeReading.Sound.{onward_back, built_back, if_back, unless_back}
 
 -- ---- one token
 
 -- what a step leaves of the tokens t and ts
 abbrev pub stepped : Step → List ℕ → Tokens → List Expectation → Fault
-stepped (takes more) t ts dues = refused ts (more ++ dues)
-stepped passes t ts dues = refused (t ∷ ts) dues
-stepped (refuses kind) t ts dues = Some (kind, t ∷ ts)
+stepped (takes more) t ts expectations = refused ts (more ++ expectations)
+stepped passes t ts expectations = refused (t ∷ ts) expectations
+stepped (refuses kind) t ts expectations = Some (kind, t ∷ ts)
 
-module _ (t : List ℕ) (ts : Tokens) (due : Expectation) (dues : List Expectation) where
-  pub by_step : (s : Step) → step due t ≡ s → refused (t ∷ ts) (due ∷ dues) ≡ stepped s t ts dues
-  by_step s e = subst (λ z. refused (t ∷ ts) (due ∷ dues) ≡ stepped z t ts dues) e (opened (step due t))
+module _ (t : List ℕ) (ts : Tokens) (expected : Expectation) (expectations : List Expectation) where
+  pub by_step : (s : Step) → step expected t ≡ s → refused (t ∷ ts) (expected ∷ expectations) ≡ stepped s t ts expectations
+  by_step s e = subst (λ z. refused (t ∷ ts) (expected ∷ expectations) ≡ stepped z t ts expectations) e (opened (step expected t))
     where
-      opened : (z : Step) → elim z as (λ _. Fault) [ takes more ↦ refused ts (more ++ dues) | passes ↦ refused (t ∷ ts) dues | refuses kind ↦ Some (kind, t ∷ ts) ] ≡ stepped z t ts dues
+      opened : (z : Step) → elim z as (λ _. Fault) [ takes more ↦ refused ts (more ++ expectations) | passes ↦ refused (t ∷ ts) expectations | refuses kind ↦ Some (kind, t ∷ ts) ] ≡ stepped z t ts expectations
       opened (takes more) = refl
       opened passes = refl
       opened (refuses kind) = refl
@@ -45,107 +45,107 @@ none_back false a e = refl
 after_false : (mark t : List ℕ) (ts : Tokens) → after mark (t ∷ ts) ≡ None → bytes_eq t mark ≡ false
 after_false mark t ts e = none_back (bytes_eq t mark) ts e
 
-pub mark_runs : (mark : List ℕ) (ts r : Tokens) (dues : List Expectation) → after mark ts ≡ Some r → refused ts (mark_due mark ∷ dues) ≡ refused r dues
-mark_runs mark [] r dues e = absurd (cc)
-mark_runs mark (t ∷ ts) r dues e =
+pub mark_runs : (mark : List ℕ) (ts r : Tokens) (expectations : List Expectation) → after mark ts ≡ Some r → refused ts (mark_expected mark ∷ expectations) ≡ refused r expectations
+mark_runs mark [] r expectations e = absurd (cc)
+mark_runs mark (t ∷ ts) r expectations e =
     let p = after_true mark t ts r e in
-    by_step t ts (mark_due mark) dues (takes []) (ap (λ b. if b then takes [] else refuses UnexpectedToken) p.0) ∙ ap (λ us. refused us dues) p.1
+    by_step t ts (mark_expected mark) expectations (takes []) (ap (λ b. if b then takes [] else refuses UnexpectedToken) p.0) ∙ ap (λ us. refused us expectations) p.1
 
-pub mark_fails : (mark : List ℕ) (ts : Tokens) → after mark ts ≡ None → IsRefused (mark_due mark) ts (misplaced ts) ts
-mark_fails mark [] e = λ dues. refl
-mark_fails mark (t ∷ ts) e = λ dues. by_step t ts (mark_due mark) dues (refuses UnexpectedToken) (ap (λ b. if b then takes [] else refuses UnexpectedToken) (after_false mark t ts e))
+pub mark_fails : (mark : List ℕ) (ts : Tokens) → after mark ts ≡ None → IsRefused (mark_expected mark) ts (misplaced ts) ts
+mark_fails mark [] e = λ expectations. refl
+mark_fails mark (t ∷ ts) e = λ expectations. by_step t ts (mark_expected mark) expectations (refuses UnexpectedToken) (ap (λ b. if b then takes [] else refuses UnexpectedToken) (after_false mark t ts e))
 
 -- ---- what may be left out
 
 -- a mark, or else it passes on
-module _ (due : Expectation) (mark : List ℕ) (more : List Expectation) (is : (t : List ℕ) → step due t ≡ (if bytes_eq t mark then takes more else passes)) (ended : (dues : List Expectation) → refused [] (due ∷ dues) ≡ refused [] dues) where
-  pub maybe_passes : (ts : Tokens) (dues : List Expectation) → after mark ts ≡ None → refused ts (due ∷ dues) ≡ refused ts dues
-  maybe_passes [] dues e = ended dues
-  maybe_passes (t ∷ ts) dues e = by_step t ts due dues passes (is t ∙ ap (λ b. if b then takes more else passes) (after_false mark t ts e))
+module _ (expected : Expectation) (mark : List ℕ) (more : List Expectation) (is : (t : List ℕ) → step expected t ≡ (if bytes_eq t mark then takes more else passes)) (ended : (expectations : List Expectation) → refused [] (expected ∷ expectations) ≡ refused [] expectations) where
+  pub maybe_passes : (ts : Tokens) (expectations : List Expectation) → after mark ts ≡ None → refused ts (expected ∷ expectations) ≡ refused ts expectations
+  maybe_passes [] expectations e = ended expectations
+  maybe_passes (t ∷ ts) expectations e = by_step t ts expected expectations passes (is t ∙ ap (λ b. if b then takes more else passes) (after_false mark t ts e))
 
-  pub maybe_runs : (ts r : Tokens) (dues : List Expectation) → after mark ts ≡ Some r → refused ts (due ∷ dues) ≡ refused r (more ++ dues)
-  maybe_runs [] r dues e = absurd (cc)
-  maybe_runs (t ∷ ts) r dues e =
+  pub maybe_runs : (ts r : Tokens) (expectations : List Expectation) → after mark ts ≡ Some r → refused ts (expected ∷ expectations) ≡ refused r (more ++ expectations)
+  maybe_runs [] r expectations e = absurd (cc)
+  maybe_runs (t ∷ ts) r expectations e =
       let p = after_true mark t ts r e in
-      by_step t ts due dues (takes more) (is t ∙ ap (λ b. if b then takes more else passes) p.0) ∙ ap (λ us. refused us (more ++ dues)) p.1
+      by_step t ts expected expectations (takes more) (is t ∙ ap (λ b. if b then takes more else passes) p.0) ∙ ap (λ us. refused us (more ++ expectations)) p.1
 
 module _ (n : ℕ) where
-  pub payloads_pass : (ts : Tokens) (dues : List Expectation) → after (codes "<") ts ≡ None → refused ts (payloads_due n ∷ dues) ≡ refused ts dues
-  payloads_pass = maybe_passes (payloads_due n) (codes "<") (ok_due n ∷ []) (λ t. refl) (λ dues. refl)
+  pub payloads_pass : (ts : Tokens) (expectations : List Expectation) → after (codes "<") ts ≡ None → refused ts (payloads_expected n ∷ expectations) ≡ refused ts expectations
+  payloads_pass = maybe_passes (payloads_expected n) (codes "<") (ok_expected n ∷ []) (λ t. refl) (λ expectations. refl)
 
-  pub payloads_run : (ts r : Tokens) (dues : List Expectation) → after (codes "<") ts ≡ Some r → refused ts (payloads_due n ∷ dues) ≡ refused r (ok_due n ∷ dues)
-  payloads_run = maybe_runs (payloads_due n) (codes "<") (ok_due n ∷ []) (λ t. refl) (λ dues. refl)
+  pub payloads_run : (ts r : Tokens) (expectations : List Expectation) → after (codes "<") ts ≡ Some r → refused ts (payloads_expected n ∷ expectations) ≡ refused r (ok_expected n ∷ expectations)
+  payloads_run = maybe_runs (payloads_expected n) (codes "<") (ok_expected n ∷ []) (λ t. refl) (λ expectations. refl)
 
-  pub payload_passes : (ts : Tokens) (dues : List Expectation) → after (codes "(") ts ≡ None → refused ts (payload_due n ∷ dues) ≡ refused ts dues
-  payload_passes = maybe_passes (payload_due n) (codes "(") (type_due n ∷ mark_due (codes ")") ∷ []) (λ t. refl) (λ dues. refl)
+  pub payload_passes : (ts : Tokens) (expectations : List Expectation) → after (codes "(") ts ≡ None → refused ts (payload_expected n ∷ expectations) ≡ refused ts expectations
+  payload_passes = maybe_passes (payload_expected n) (codes "(") (type_expected n ∷ mark_expected (codes ")") ∷ []) (λ t. refl) (λ expectations. refl)
 
-  pub payload_runs : (ts r : Tokens) (dues : List Expectation) → after (codes "(") ts ≡ Some r → refused ts (payload_due n ∷ dues) ≡ refused r (type_due n ∷ mark_due (codes ")") ∷ dues)
-  payload_runs = maybe_runs (payload_due n) (codes "(") (type_due n ∷ mark_due (codes ")") ∷ []) (λ t. refl) (λ dues. refl)
+  pub payload_runs : (ts r : Tokens) (expectations : List Expectation) → after (codes "(") ts ≡ Some r → refused ts (payload_expected n ∷ expectations) ≡ refused r (type_expected n ∷ mark_expected (codes ")") ∷ expectations)
+  payload_runs = maybe_runs (payload_expected n) (codes "(") (type_expected n ∷ mark_expected (codes ")") ∷ []) (λ t. refl) (λ expectations. refl)
 
-  pub results_pass : (ts : Tokens) (dues : List Expectation) → after (codes "-") ts ≡ None → refused ts (results_due n ∷ dues) ≡ refused ts dues
-  results_pass = maybe_passes (results_due n) (codes "-") (mark_due (codes ">") ∷ result_due n ∷ []) (λ t. refl) (λ dues. refl)
+  pub results_pass : (ts : Tokens) (expectations : List Expectation) → after (codes "-") ts ≡ None → refused ts (results_expected n ∷ expectations) ≡ refused ts expectations
+  results_pass = maybe_passes (results_expected n) (codes "-") (mark_expected (codes ">") ∷ result_expected n ∷ []) (λ t. refl) (λ expectations. refl)
 
-  pub results_run : (ts r : Tokens) (dues : List Expectation) → after (codes "-") ts ≡ Some r → refused ts (results_due n ∷ dues) ≡ refused r (mark_due (codes ">") ∷ result_due n ∷ dues)
-  results_run = maybe_runs (results_due n) (codes "-") (mark_due (codes ">") ∷ result_due n ∷ []) (λ t. refl) (λ dues. refl)
+  pub results_run : (ts r : Tokens) (expectations : List Expectation) → after (codes "-") ts ≡ Some r → refused ts (results_expected n ∷ expectations) ≡ refused r (mark_expected (codes ">") ∷ result_expected n ∷ expectations)
+  results_run = maybe_runs (results_expected n) (codes "-") (mark_expected (codes ">") ∷ result_expected n ∷ []) (λ t. refl) (λ expectations. refl)
 
 -- ---- types
 
--- the word of a type and then more is the word of a type, and more is due after it
-word_before : (n : ℕ) (o : Option WasmTypeKind) (more : List Expectation) (t : List ℕ) (ts : Tokens) (dues : List Expectation) → stepped (before (word_step n o) more) t ts dues ≡ stepped (word_step n o) t ts (more ++ dues)
-word_before n None more t ts dues = refl
-word_before zero (Some kind) more t ts dues = refl
-word_before (suc n) (Some kind) more t ts dues = ap (refused ts) (append_assoc (due_behind n kind) more dues)
+-- the word of a type and then more is the word of a type, and more is expected after it
+word_before : (n : ℕ) (o : Option WasmTypeKind) (more : List Expectation) (t : List ℕ) (ts : Tokens) (expectations : List Expectation) → stepped (before (word_step n o) more) t ts expectations ≡ stepped (word_step n o) t ts (more ++ expectations)
+word_before n None more t ts expectations = refl
+word_before zero (Some kind) more t ts expectations = refl
+word_before (suc n) (Some kind) more t ts expectations = ap (refused ts) (append_assoc (expected_behind n kind) more expectations)
 
--- where a type is due and then more
-module _ (n : ℕ) (more dues : List Expectation) where
-  type_before : (due : Expectation) (t : List ℕ) (ts : Tokens) → step due t ≡ before (type_step n t) more → refused (t ∷ ts) (due ∷ dues) ≡ refused (t ∷ ts) (type_due n ∷ more ++ dues)
-  type_before due t ts e =
-      by_step t ts due dues (before (type_step n t) more) e
-      ∙ (word_before n (kind_of_word t) more t ts dues ∙ sym (by_step t ts (type_due n) (more ++ dues) (type_step n t) refl))
+-- where a type is expected and then more
+module _ (n : ℕ) (more expectations : List Expectation) where
+  type_before : (expected : Expectation) (t : List ℕ) (ts : Tokens) → step expected t ≡ before (type_step n t) more → refused (t ∷ ts) (expected ∷ expectations) ≡ refused (t ∷ ts) (type_expected n ∷ more ++ expectations)
+  type_before expected t ts e =
+      by_step t ts expected expectations (before (type_step n t) more) e
+      ∙ (word_before n (kind_of_word t) more t ts expectations ∙ sym (by_step t ts (type_expected n) (more ++ expectations) (type_step n t) refl))
 
 module _ (n : ℕ) (mark : List ℕ) where
-  pub types_are_types : (ts : Tokens) (dues : List Expectation) → refused ts (part_due mark (more_types n) ∷ dues) ≡ refused ts (type_due n ∷ close_due mark (more_types n) ∷ dues)
-  types_are_types [] dues = refl
-  types_are_types (t ∷ ts) dues = type_before n (close_due mark (more_types n) ∷ []) dues (part_due mark (more_types n)) t ts refl
+  pub types_are_types : (ts : Tokens) (expectations : List Expectation) → refused ts (part_expected mark (more_types n) ∷ expectations) ≡ refused ts (type_expected n ∷ close_expected mark (more_types n) ∷ expectations)
+  types_are_types [] expectations = refl
+  types_are_types (t ∷ ts) expectations = type_before n (close_expected mark (more_types n) ∷ []) expectations (part_expected mark (more_types n)) t ts refl
 
-  pub err_is_type : (ts : Tokens) (dues : List Expectation) → refused ts (part_due mark (err_type n) ∷ dues) ≡ refused ts (type_due n ∷ close_due mark no_more ∷ dues)
-  err_is_type [] dues = refl
-  err_is_type (t ∷ ts) dues = type_before n (close_due mark no_more ∷ []) dues (part_due mark (err_type n)) t ts refl
+  pub err_is_type : (ts : Tokens) (expectations : List Expectation) → refused ts (part_expected mark (err_type n) ∷ expectations) ≡ refused ts (type_expected n ∷ close_expected mark no_more ∷ expectations)
+  err_is_type [] expectations = refl
+  err_is_type (t ∷ ts) expectations = type_before n (close_expected mark no_more ∷ []) expectations (part_expected mark (err_type n)) t ts refl
 
 module _ (n : ℕ) where
-  pub ok_is_type : (ts : Tokens) (dues : List Expectation) → after (codes "_") ts ≡ None → refused ts (ok_due n ∷ dues) ≡ refused ts (type_due n ∷ close_due (codes ">") (err_type n) ∷ dues)
-  ok_is_type [] dues e = refl
-  ok_is_type (t ∷ ts) dues e =
-      type_before n (close_due (codes ">") (err_type n) ∷ []) dues (ok_due n) t ts (ap (λ b. if b then takes (mark_due (codes ",") ∷ type_due n ∷ close_due (codes ">") no_more ∷ []) else before (type_step n t) (close_due (codes ">") (err_type n) ∷ [])) (after_false (codes "_") t ts e))
+  pub ok_is_type : (ts : Tokens) (expectations : List Expectation) → after (codes "_") ts ≡ None → refused ts (ok_expected n ∷ expectations) ≡ refused ts (type_expected n ∷ close_expected (codes ">") (err_type n) ∷ expectations)
+  ok_is_type [] expectations e = refl
+  ok_is_type (t ∷ ts) expectations e =
+      type_before n (close_expected (codes ">") (err_type n) ∷ []) expectations (ok_expected n) t ts (ap (λ b. if b then takes (mark_expected (codes ",") ∷ type_expected n ∷ close_expected (codes ">") no_more ∷ []) else before (type_step n t) (close_expected (codes ">") (err_type n) ∷ [])) (after_false (codes "_") t ts e))
 
-  pub ok_is_blank : (ts r : Tokens) (dues : List Expectation) → after (codes "_") ts ≡ Some r → refused ts (ok_due n ∷ dues) ≡ refused r (mark_due (codes ",") ∷ type_due n ∷ close_due (codes ">") no_more ∷ dues)
-  ok_is_blank [] r dues e = absurd (cc)
-  ok_is_blank (t ∷ ts) r dues e =
+  pub ok_is_blank : (ts r : Tokens) (expectations : List Expectation) → after (codes "_") ts ≡ Some r → refused ts (ok_expected n ∷ expectations) ≡ refused r (mark_expected (codes ",") ∷ type_expected n ∷ close_expected (codes ">") no_more ∷ expectations)
+  ok_is_blank [] r expectations e = absurd (cc)
+  ok_is_blank (t ∷ ts) r expectations e =
       let p = after_true (codes "_") t ts r e in
-      by_step t ts (ok_due n) dues (takes (mark_due (codes ",") ∷ type_due n ∷ close_due (codes ">") no_more ∷ [])) (ap (λ b. if b then takes (mark_due (codes ",") ∷ type_due n ∷ close_due (codes ">") no_more ∷ []) else before (type_step n t) (close_due (codes ">") (err_type n) ∷ [])) p.0) ∙ ap (λ us. refused us (mark_due (codes ",") ∷ type_due n ∷ close_due (codes ">") no_more ∷ dues)) p.1
+      by_step t ts (ok_expected n) expectations (takes (mark_expected (codes ",") ∷ type_expected n ∷ close_expected (codes ">") no_more ∷ [])) (ap (λ b. if b then takes (mark_expected (codes ",") ∷ type_expected n ∷ close_expected (codes ">") no_more ∷ []) else before (type_step n t) (close_expected (codes ">") (err_type n) ∷ [])) p.0) ∙ ap (λ us. refused us (mark_expected (codes ",") ∷ type_expected n ∷ close_expected (codes ">") no_more ∷ expectations)) p.1
 
-  result_same : (t : List ℕ) (ts : Tokens) (dues : List Expectation) → stepped (type_step n t) t ts dues ≡ refused (t ∷ ts) (type_due n ∷ dues)
-  result_same t ts dues = sym (by_step t ts (type_due n) dues (type_step n t) refl)
+  result_same : (t : List ℕ) (ts : Tokens) (expectations : List Expectation) → stepped (type_step n t) t ts expectations ≡ refused (t ∷ ts) (type_expected n ∷ expectations)
+  result_same t ts expectations = sym (by_step t ts (type_expected n) expectations (type_step n t) refl)
 
-  pub result_is_type : (ts : Tokens) (dues : List Expectation) → after (codes "(") ts ≡ None → refused ts (result_due n ∷ dues) ≡ refused ts (type_due n ∷ dues)
-  result_is_type [] dues e = refl
-  result_is_type (t ∷ ts) dues e =
-      by_step t ts (result_due n) dues (type_step n t) (ap (λ b. if b then takes (part_due (codes ")") (more_fields n []) ∷ []) else type_step n t) (after_false (codes "(") t ts e)) ∙ result_same t ts dues
+  pub result_is_type : (ts : Tokens) (expectations : List Expectation) → after (codes "(") ts ≡ None → refused ts (result_expected n ∷ expectations) ≡ refused ts (type_expected n ∷ expectations)
+  result_is_type [] expectations e = refl
+  result_is_type (t ∷ ts) expectations e =
+      by_step t ts (result_expected n) expectations (type_step n t) (ap (λ b. if b then takes (part_expected (codes ")") (more_fields n []) ∷ []) else type_step n t) (after_false (codes "(") t ts e)) ∙ result_same t ts expectations
 
-  pub result_is_named : (ts r : Tokens) (dues : List Expectation) → after (codes "(") ts ≡ Some r → refused ts (result_due n ∷ dues) ≡ refused r (part_due (codes ")") (more_fields n []) ∷ dues)
-  result_is_named [] r dues e = absurd (cc)
-  result_is_named (t ∷ ts) r dues e =
+  pub result_is_named : (ts r : Tokens) (expectations : List Expectation) → after (codes "(") ts ≡ Some r → refused ts (result_expected n ∷ expectations) ≡ refused r (part_expected (codes ")") (more_fields n []) ∷ expectations)
+  result_is_named [] r expectations e = absurd (cc)
+  result_is_named (t ∷ ts) r expectations e =
       let p = after_true (codes "(") t ts r e in
-      by_step t ts (result_due n) dues (takes (part_due (codes ")") (more_fields n []) ∷ [])) (ap (λ b. if b then takes (part_due (codes ")") (more_fields n []) ∷ []) else type_step n t) p.0) ∙ ap (λ us. refused us (part_due (codes ")") (more_fields n []) ∷ dues)) p.1
+      by_step t ts (result_expected n) expectations (takes (part_expected (codes ")") (more_fields n []) ∷ [])) (ap (λ b. if b then takes (part_expected (codes ")") (more_fields n []) ∷ []) else type_step n t) p.0) ∙ ap (λ us. refused us (part_expected (codes ")") (more_fields n []) ∷ expectations)) p.1
 
 -- the word of a kind, where a level is left
-pub kind_runs : (n : ℕ) (ts r : Tokens) (kind : WasmTypeKind) (dues : List Expectation) → 0 < n → kind_at ts ≡ Some (kind, r) → refused ts (type_due n ∷ dues) ≡ refused r (due_behind (n - 1) kind ++ dues)
-kind_runs zero ts r kind dues h e = absurd (omega arith)
-kind_runs (suc n) [] r kind dues h e = absurd (cc)
-kind_runs (suc n) (t ∷ ts) r kind dues h e =
-    let p = made_back (kind_of_word t) ts (kind, r) e in
+pub kind_runs : (n : ℕ) (ts r : Tokens) (kind : WasmTypeKind) (expectations : List Expectation) → 0 < n → kind_at ts ≡ Some (kind, r) → refused ts (type_expected n ∷ expectations) ≡ refused r (expected_behind (n - 1) kind ++ expectations)
+kind_runs zero ts r kind expectations h e = absurd (omega arith)
+kind_runs (suc n) [] r kind expectations h e = absurd (cc)
+kind_runs (suc n) (t ∷ ts) r kind expectations h e =
+    let p = built_back (kind_of_word t) ts (kind, r) e in
     let one : n ≡ suc n - 1 = omega arith in
-    by_step t ts (type_due (suc n)) dues (takes (due_behind n kind)) (ap (word_step (suc n)) p.0) ∙ (λ i. refused (p.1 i) (due_behind (one i) kind ++ dues))
+    by_step t ts (type_expected (suc n)) expectations (takes (expected_behind n kind)) (ap (word_step (suc n)) p.0) ∙ (λ i. refused (p.1 i) (expected_behind (one i) kind ++ expectations))
 
 -- ---- what stands next
 
@@ -159,41 +159,41 @@ some_next [] t e = absurd (cc)
 some_next (u ∷ ts) t e = let same : u ≡ t = cc in ap (λ z. z ∷ ts) same
 
 -- at the end, where something has to stand
-pub ended_fails : (due : Expectation) (ts : Tokens) → ts ≡ [] → ((dues : List Expectation) → refused [] (due ∷ dues) ≡ Some (UnexpectedEnd, [])) → IsRefused due ts UnexpectedEnd ts
-ended_fails due ts e h = subst (λ us. IsRefused due us UnexpectedEnd us) (sym e) h
+pub ended_fails : (expected : Expectation) (ts : Tokens) → ts ≡ [] → ((expectations : List Expectation) → refused [] (expected ∷ expectations) ≡ Some (UnexpectedEnd, [])) → IsRefused expected ts UnexpectedEnd ts
+ended_fails expected ts e h = subst (λ us. IsRefused expected us UnexpectedEnd us) (sym e) h
 
 -- a token that is refused
-pub token_fails : (due : Expectation) (ts : Tokens) (t : List ℕ) (kind : TypeErrorKind) → first_of ts ≡ Some t → step due t ≡ refuses kind → IsRefused due ts kind ts
-token_fails due ts t kind e h = subst (λ us. IsRefused due us kind us) (sym (some_next ts t e)) (λ dues. by_step t (drop 1 ts) due dues (refuses kind) h)
+pub token_fails : (expected : Expectation) (ts : Tokens) (t : List ℕ) (kind : TypeErrorKind) → first_of ts ≡ Some t → step expected t ≡ refuses kind → IsRefused expected ts kind ts
+token_fails expected ts t kind e h = subst (λ us. IsRefused expected us kind us) (sym (some_next ts t e)) (λ expectations. by_step t (drop 1 ts) expected expectations (refuses kind) h)
 
-pub word_fails : (n : ℕ) (ts : Tokens) (t : List ℕ) → first_of ts ≡ Some t → kind_of_word t ≡ None → IsRefused (type_due n) ts UnexpectedToken ts
-word_fails n ts t e h = token_fails (type_due n) ts t UnexpectedToken e (ap (word_step n) h)
+pub word_fails : (n : ℕ) (ts : Tokens) (t : List ℕ) → first_of ts ≡ Some t → kind_of_word t ≡ None → IsRefused (type_expected n) ts UnexpectedToken ts
+word_fails n ts t e h = token_fails (type_expected n) ts t UnexpectedToken e (ap (word_step n) h)
 
-pub level_fails : (n : ℕ) (ts : Tokens) (t : List ℕ) (kind : WasmTypeKind) → n ≡ 0 → first_of ts ≡ Some t → kind_of_word t ≡ Some kind → IsRefused (type_due n) ts NestingTooDeep ts
-level_fails n ts t kind none e h = token_fails (type_due n) ts t NestingTooDeep e (λ i. word_step (none i) (h i))
+pub level_fails : (n : ℕ) (ts : Tokens) (t : List ℕ) (kind : WasmTypeKind) → n ≡ 0 → first_of ts ≡ Some t → kind_of_word t ≡ Some kind → IsRefused (type_expected n) ts NestingTooDeep ts
+level_fails n ts t kind none e h = token_fails (type_expected n) ts t NestingTooDeep e (λ i. word_step (none i) (h i))
 
--- a token that isn't what is due is refused for that, marks as any token
+-- a token that isn't what is expected is refused for that, marks as any token
 module _ {A : Type 0} where
   pub only_fails : (o : Option A) (kind : TypeErrorKind) (t : List ℕ) (more : List Expectation) (mark : Bool) → o ≡ None → is_mark t ≡ mark → only_step o kind t more ≡ refuses (if mark then UnexpectedToken else kind)
   only_fails o kind t more mark e h = ap (λ p. only_step p kind t more) e ∙ ap (λ b. refuses (if b then UnexpectedToken else kind)) h
 
-pub key_fails : (ts : Tokens) (t : List ℕ) (mark : Bool) → first_of ts ≡ Some t → key_of_word t ≡ None → is_mark t ≡ mark → IsRefused key_due ts (if mark then UnexpectedToken else InvalidKeyType) ts
-key_fails ts t mark e h m = token_fails key_due ts t (if mark then UnexpectedToken else InvalidKeyType) e (only_fails (key_of_word t) InvalidKeyType t [] mark h m)
+pub key_fails : (ts : Tokens) (t : List ℕ) (mark : Bool) → first_of ts ≡ Some t → key_of_word t ≡ None → is_mark t ≡ mark → IsRefused key_expected ts (if mark then UnexpectedToken else InvalidKeyType) ts
+key_fails ts t mark e h m = token_fails key_expected ts t (if mark then UnexpectedToken else InvalidKeyType) e (only_fails (key_of_word t) InvalidKeyType t [] mark h m)
 
-pub count_fails : (close : List ℕ) (ts : Tokens) (t : List ℕ) (mark : Bool) → first_of ts ≡ Some t → count_of_token t ≡ None → is_mark t ≡ mark → IsRefused (part_due close a_length) ts (if mark then UnexpectedToken else InvalidCount) ts
-count_fails close ts t mark e h m = token_fails (part_due close a_length) ts t (if mark then UnexpectedToken else InvalidCount) e (only_fails (count_of_token t) InvalidCount t (close_due close no_more ∷ []) mark h m)
+pub count_fails : (close : List ℕ) (ts : Tokens) (t : List ℕ) (mark : Bool) → first_of ts ≡ Some t → count_of_token t ≡ None → is_mark t ≡ mark → IsRefused (part_expected close a_length) ts (if mark then UnexpectedToken else InvalidCount) ts
+count_fails close ts t mark e h m = token_fails (part_expected close a_length) ts t (if mark then UnexpectedToken else InvalidCount) e (only_fails (count_of_token t) InvalidCount t (close_expected close no_more ∷ []) mark h m)
 
-pub key_runs : (ts r : Tokens) (K : TypeTree) (dues : List Expectation) → key_at ts ≡ Some (K, r) → refused ts (key_due ∷ dues) ≡ refused r dues
-key_runs [] r K dues e = absurd (cc)
-key_runs (t ∷ ts) r K dues e =
-    let p = made_back (key_of_word t) ts (K, r) e in
-    by_step t ts key_due dues (takes []) (ap (λ o. only_step o InvalidKeyType t []) p.0) ∙ ap (λ us. refused us dues) p.1
+pub key_runs : (ts r : Tokens) (K : TypeTree) (expectations : List Expectation) → key_at ts ≡ Some (K, r) → refused ts (key_expected ∷ expectations) ≡ refused r expectations
+key_runs [] r K expectations e = absurd (cc)
+key_runs (t ∷ ts) r K expectations e =
+    let p = built_back (key_of_word t) ts (K, r) e in
+    by_step t ts key_expected expectations (takes []) (ap (λ o. only_step o InvalidKeyType t []) p.0) ∙ ap (λ us. refused us expectations) p.1
 
-pub count_runs : (mark : List ℕ) (ts r : Tokens) (n : ℕ) (dues : List Expectation) → count_at ts ≡ Some (n, r) → refused ts (part_due mark a_length ∷ dues) ≡ refused r (close_due mark no_more ∷ dues)
-count_runs mark [] r n dues e = absurd (cc)
-count_runs mark (t ∷ ts) r n dues e =
-    let p = made_back (count_of_token t) ts (n, r) e in
-    by_step t ts (part_due mark a_length) dues (takes (close_due mark no_more ∷ [])) (ap (λ o. only_step o InvalidCount t (close_due mark no_more ∷ [])) p.0) ∙ ap (λ us. refused us (close_due mark no_more ∷ dues)) p.1
+pub count_runs : (mark : List ℕ) (ts r : Tokens) (n : ℕ) (expectations : List Expectation) → count_at ts ≡ Some (n, r) → refused ts (part_expected mark a_length ∷ expectations) ≡ refused r (close_expected mark no_more ∷ expectations)
+count_runs mark [] r n expectations e = absurd (cc)
+count_runs mark (t ∷ ts) r n expectations e =
+    let p = built_back (count_of_token t) ts (n, r) e in
+    by_step t ts (part_expected mark a_length) expectations (takes (close_expected mark no_more ∷ [])) (ap (λ o. only_step o InvalidCount t (close_expected mark no_more ∷ [])) p.0) ∙ ap (λ us. refused us (close_expected mark no_more ∷ expectations)) p.1
 
 -- ---- the end of parts
 
@@ -211,31 +211,31 @@ module _ (mark t : List ℕ) (ts r : Tokens) where
       let none : None ≡ Some r = sym (ap (λ b. onward (if b then Some ts else None) (after mark)) hc) ∙ first in
       absurd (cc)
 
-close_step : (mark t : List ℕ) (part : Part) (b c : Bool) → bytes_eq t mark ≡ b → bytes_eq t (codes ",") ≡ c → step (close_due mark part) t ≡ (if b then takes [] else if c then takes (last_due mark part ∷ []) else refuses UnexpectedToken)
-close_step mark t part b c hb hc = λ i. if hb i then takes [] else if hc i then takes (last_due mark part ∷ []) else refuses UnexpectedToken
+close_step : (mark t : List ℕ) (part : Part) (b c : Bool) → bytes_eq t mark ≡ b → bytes_eq t (codes ",") ≡ c → step (close_expected mark part) t ≡ (if b then takes [] else if c then takes (last_expected mark part ∷ []) else refuses UnexpectedToken)
+close_step mark t part b c hb hc = λ i. if hb i then takes [] else if hc i then takes (last_expected mark part ∷ []) else refuses UnexpectedToken
 
-pub last_ends : (mark : List ℕ) (part : Part) (ts r : Tokens) (dues : List Expectation) → after mark ts ≡ Some r → refused ts (last_due mark part ∷ dues) ≡ refused r dues
-last_ends mark part [] r dues e = absurd (cc)
-last_ends mark part (t ∷ ts) r dues e =
+pub last_ends : (mark : List ℕ) (part : Part) (ts r : Tokens) (expectations : List Expectation) → after mark ts ≡ Some r → refused ts (last_expected mark part ∷ expectations) ≡ refused r expectations
+last_ends mark part [] r expectations e = absurd (cc)
+last_ends mark part (t ∷ ts) r expectations e =
     let p = after_true mark t ts r e in
-    by_step t ts (last_due mark part) dues (takes []) (ap (λ b. if b then takes [] else part_step mark part t) p.0) ∙ ap (λ us. refused us dues) p.1
+    by_step t ts (last_expected mark part) expectations (takes []) (ap (λ b. if b then takes [] else part_step mark part t) p.0) ∙ ap (λ us. refused us expectations) p.1
 
-pub last_goes_on : (mark : List ℕ) (part : Part) (ts : Tokens) (dues : List Expectation) → after mark ts ≡ None → refused ts (last_due mark part ∷ dues) ≡ refused ts (part_due mark part ∷ dues)
-last_goes_on mark part [] dues e = refl
-last_goes_on mark part (t ∷ ts) dues e =
-    by_step t ts (last_due mark part) dues (part_step mark part t) (ap (λ b. if b then takes [] else part_step mark part t) (after_false mark t ts e)) ∙ sym (by_step t ts (part_due mark part) dues (part_step mark part t) refl)
+pub last_goes_on : (mark : List ℕ) (part : Part) (ts : Tokens) (expectations : List Expectation) → after mark ts ≡ None → refused ts (last_expected mark part ∷ expectations) ≡ refused ts (part_expected mark part ∷ expectations)
+last_goes_on mark part [] expectations e = refl
+last_goes_on mark part (t ∷ ts) expectations e =
+    by_step t ts (last_expected mark part) expectations (part_step mark part t) (ap (λ b. if b then takes [] else part_step mark part t) (after_false mark t ts e)) ∙ sym (by_step t ts (part_expected mark part) expectations (part_step mark part t) refl)
 
-pub close_ends : (mark : List ℕ) (part : Part) (ts r : Tokens) (dues : List Expectation) → closed mark ts ≡ Some r → refused ts (close_due mark part ∷ dues) ≡ refused r dues
-close_ends mark part [] r dues e = absurd (cc)
-close_ends mark part (t ∷ ts) r dues e = elim (ends_by mark t ts r (bytes_eq t mark) (bytes_eq t (codes ",")) refl refl e) as (λ _. refused (t ∷ ts) (close_due mark part ∷ dues) ≡ refused r dues) [
-  | inl p ↦ by_step t ts (close_due mark part) dues (takes []) (close_step mark t part true (bytes_eq t (codes ",")) p.0 refl) ∙ ap (λ us. refused us dues) p.1
-  | inr p ↦ by_step t ts (close_due mark part) dues (takes (last_due mark part ∷ [])) (close_step mark t part false true p.0 p.1) ∙ last_ends mark part ts r dues p.2
+pub close_ends : (mark : List ℕ) (part : Part) (ts r : Tokens) (expectations : List Expectation) → closed mark ts ≡ Some r → refused ts (close_expected mark part ∷ expectations) ≡ refused r expectations
+close_ends mark part [] r expectations e = absurd (cc)
+close_ends mark part (t ∷ ts) r expectations e = elim (ends_by mark t ts r (bytes_eq t mark) (bytes_eq t (codes ",")) refl refl e) as (λ _. refused (t ∷ ts) (close_expected mark part ∷ expectations) ≡ refused r expectations) [
+  | inl p ↦ by_step t ts (close_expected mark part) expectations (takes []) (close_step mark t part true (bytes_eq t (codes ",")) p.0 refl) ∙ ap (λ us. refused us expectations) p.1
+  | inr p ↦ by_step t ts (close_expected mark part) expectations (takes (last_expected mark part ∷ [])) (close_step mark t part false true p.0 p.1) ∙ last_ends mark part ts r expectations p.2
 ]
 
 -- no mark, and no comma
-pub close_fails : (mark : List ℕ) (part : Part) (ts : Tokens) → after mark ts ≡ None → after (codes ",") ts ≡ None → IsRefused (close_due mark part) ts (misplaced ts) ts
-close_fails mark part [] e f = λ dues. refl
-close_fails mark part (t ∷ ts) e f = λ dues. by_step t ts (close_due mark part) dues (refuses UnexpectedToken) (close_step mark t part false false (after_false mark t ts e) (after_false (codes ",") t ts f))
+pub close_fails : (mark : List ℕ) (part : Part) (ts : Tokens) → after mark ts ≡ None → after (codes ",") ts ≡ None → IsRefused (close_expected mark part) ts (misplaced ts) ts
+close_fails mark part [] e f = λ expectations. refl
+close_fails mark part (t ∷ ts) e f = λ expectations. by_step t ts (close_expected mark part) expectations (refuses UnexpectedToken) (close_step mark t part false false (after_false mark t ts e) (after_false (codes ",") t ts f))
 
 -- where the mark isn't next, and a comma is
 pub goes_on : (mark : List ℕ) (ts r : Tokens) → after mark ts ≡ None → after (codes ",") ts ≡ Some r → after mark r ≡ None → GoesOn mark ts r
@@ -254,16 +254,16 @@ unclosed_here mark t ts true hb e =
     absurd (cc)
 unclosed_here mark t ts false hb e = refl
 
-pub comma_runs : (mark : List ℕ) (part : Part) (ts r : Tokens) (dues : List Expectation) → GoesOn mark ts r → refused ts (close_due mark part ∷ dues) ≡ refused r (part_due mark part ∷ dues)
-comma_runs mark part [] r dues g = let wrong : None ≡ Some r = g.comma in absurd (cc)
-comma_runs mark part (t ∷ ts) r dues g =
+pub comma_runs : (mark : List ℕ) (part : Part) (ts r : Tokens) (expectations : List Expectation) → GoesOn mark ts r → refused ts (close_expected mark part ∷ expectations) ≡ refused r (part_expected mark part ∷ expectations)
+comma_runs mark part [] r expectations g = let wrong : None ≡ Some r = g.comma in absurd (cc)
+comma_runs mark part (t ∷ ts) r expectations g =
     let p = after_true (codes ",") t ts r g.comma in
-    by_step t ts (close_due mark part) dues (takes (last_due mark part ∷ [])) (close_step mark t part false true (unclosed_here mark t ts (bytes_eq t mark) refl g.unclosed) p.0) ∙ (ap (λ us. refused us (last_due mark part ∷ dues)) p.1 ∙ last_goes_on mark part r dues g.more)
+    by_step t ts (close_expected mark part) expectations (takes (last_expected mark part ∷ [])) (close_step mark t part false true (unclosed_here mark t ts (bytes_eq t mark) refl g.unclosed) p.0) ∙ (ap (λ us. refused us (last_expected mark part ∷ expectations)) p.1 ∙ last_goes_on mark part r expectations g.more)
 
 -- nothing may stand where nothing more does
-pub no_more_fails : (mark : List ℕ) (ts : Tokens) → IsRefused (part_due mark no_more) ts (misplaced ts) ts
-no_more_fails mark [] = λ dues. refl
-no_more_fails mark (t ∷ ts) = λ dues. by_step t ts (part_due mark no_more) dues (refuses UnexpectedToken) refl
+pub no_more_fails : (mark : List ℕ) (ts : Tokens) → IsRefused (part_expected mark no_more) ts (misplaced ts) ts
+no_more_fails mark [] = λ expectations. refl
+no_more_fails mark (t ∷ ts) = λ expectations. by_step t ts (part_expected mark no_more) expectations (refuses UnexpectedToken) refl
 
 -- ---- names
 
@@ -278,8 +278,8 @@ module _ (names : List (List ℕ)) (t name : List ℕ) (ts r : Tokens) (e : new_
         λ i. (q.1 i).1,
       )
 
-  pub name_runs : (due : Expectation) → step due t ≡ name_step names (name_of_token t) next → (dues : List Expectation) → refused (t ∷ ts) (due ∷ dues) ≡ refused r (next (names ++ name ∷ []) ++ dues)
-  name_runs due is dues = by_step t ts due dues (takes (next (names ++ name ∷ []))) (is ∙ name_steps.0) ∙ ap (λ us. refused us (next (names ++ name ∷ []) ++ dues)) name_steps.1
+  pub name_runs : (expected : Expectation) → step expected t ≡ name_step names (name_of_token t) next → (expectations : List Expectation) → refused (t ∷ ts) (expected ∷ expectations) ≡ refused r (next (names ++ name ∷ []) ++ expectations)
+  name_runs expected is expectations = by_step t ts expected expectations (takes (next (names ++ name ∷ []))) (is ∙ name_steps.0) ∙ ap (λ us. refused us (next (names ++ name ∷ []) ++ expectations)) name_steps.1
 
 repeated_step : (names : List (List ℕ)) (name : List ℕ) (kind : TypeErrorKind) (next : List (List ℕ) → List Expectation) (b : Bool) → (if b then Some DuplicateName else None) ≡ Some kind → (if b then refuses DuplicateName else takes (next (names ++ name ∷ []))) ≡ refuses kind
 repeated_step names name kind next true e = let same : DuplicateName ≡ kind = cc in ap refuses same
@@ -290,46 +290,46 @@ name_faults names None kind next e = let same : UnexpectedToken ≡ kind = cc in
 name_faults names (Some name) kind next e = repeated_step names name kind next (is_one_of names name) e
 
 -- no new name stands next
-module _ (names : List (List ℕ)) (due : Expectation) (next : List (List ℕ) → List Expectation) (is : (t : List ℕ) → step due t ≡ name_step names (name_of_token t) next) (ended : (dues : List Expectation) → refused [] (due ∷ dues) ≡ Some (UnexpectedEnd, [])) where
-  unnamed : (ts : Tokens) (kind : TypeErrorKind) → name_refused names ts ≡ Some kind → IsRefused due ts kind ts
-  unnamed [] kind e = let same : UnexpectedEnd ≡ kind = cc in λ dues. ended dues ∙ ap (λ k. Some (k, [])) same
-  unnamed (t ∷ ts) kind e = λ dues. by_step t ts due dues (refuses kind) (is t ∙ name_faults names (name_of_token t) kind next e)
+module _ (names : List (List ℕ)) (expected : Expectation) (next : List (List ℕ) → List Expectation) (is : (t : List ℕ) → step expected t ≡ name_step names (name_of_token t) next) (ended : (expectations : List Expectation) → refused [] (expected ∷ expectations) ≡ Some (UnexpectedEnd, [])) where
+  unnamed : (ts : Tokens) (kind : TypeErrorKind) → name_refused names ts ≡ Some kind → IsRefused expected ts kind ts
+  unnamed [] kind e = let same : UnexpectedEnd ≡ kind = cc in λ expectations. ended expectations ∙ ap (λ k. Some (k, [])) same
+  unnamed (t ∷ ts) kind e = λ expectations. by_step t ts expected expectations (refuses kind) (is t ∙ name_faults names (name_of_token t) kind next e)
 
-  pub name_fails : (ts r : Tokens) (kind : TypeErrorKind) → RefusesName names ts kind r → Fails (λ dues. due ∷ dues) ts kind r
+  pub name_fails : (ts r : Tokens) (kind : TypeErrorKind) → RefusesName names ts kind r → Fails (λ expectations. expected ∷ expectations) ts kind r
   name_fails ts r kind (inl e) = inl e
-  name_fails ts r kind (inr h) = inr (subst (λ us. IsRefused due ts kind us) (sym h.0) (unnamed ts kind h.1))
+  name_fails ts r kind (inr h) = inr (subst (λ us. IsRefused expected ts kind us) (sym h.0) (unnamed ts kind h.1))
 
 module _ (n : ℕ) (mark : List ℕ) (names : List (List ℕ)) (ts r : Tokens) where
-  pub field_fails : (kind : TypeErrorKind) → RefusesName names ts kind r → Fails (λ dues. part_due mark (more_fields n names) ∷ dues) ts kind r
-  field_fails kind h = name_fails names (part_due mark (more_fields n names)) (λ names. mark_due (codes ":") ∷ type_due n ∷ close_due mark (more_fields n names) ∷ []) (λ t. refl) (λ dues. refl) ts r kind h
+  pub field_fails : (kind : TypeErrorKind) → RefusesName names ts kind r → Fails (λ expectations. part_expected mark (more_fields n names) ∷ expectations) ts kind r
+  field_fails kind h = name_fails names (part_expected mark (more_fields n names)) (λ names. mark_expected (codes ":") ∷ type_expected n ∷ close_expected mark (more_fields n names) ∷ []) (λ t. refl) (λ expectations. refl) ts r kind h
 
-  pub case_fails : (kind : TypeErrorKind) → RefusesName names ts kind r → Fails (λ dues. part_due mark (more_cases n names) ∷ dues) ts kind r
-  case_fails kind h = name_fails names (part_due mark (more_cases n names)) (λ names. payload_due n ∷ close_due mark (more_cases n names) ∷ []) (λ t. refl) (λ dues. refl) ts r kind h
+  pub case_fails : (kind : TypeErrorKind) → RefusesName names ts kind r → Fails (λ expectations. part_expected mark (more_cases n names) ∷ expectations) ts kind r
+  case_fails kind h = name_fails names (part_expected mark (more_cases n names)) (λ names. payload_expected n ∷ close_expected mark (more_cases n names) ∷ []) (λ t. refl) (λ expectations. refl) ts r kind h
 
-  pub names_fail : (kind : TypeErrorKind) → RefusesName names ts kind r → Fails (λ dues. part_due mark (more_names names) ∷ dues) ts kind r
-  names_fail kind h = name_fails names (part_due mark (more_names names)) (λ names. close_due mark (more_names names) ∷ []) (λ t. refl) (λ dues. refl) ts r kind h
+  pub names_fail : (kind : TypeErrorKind) → RefusesName names ts kind r → Fails (λ expectations. part_expected mark (more_names names) ∷ expectations) ts kind r
+  names_fail kind h = name_fails names (part_expected mark (more_names names)) (λ names. close_expected mark (more_names names) ∷ []) (λ t. refl) (λ expectations. refl) ts r kind h
 
-module _ (n : ℕ) (mark : List ℕ) (names : List (List ℕ)) (name : List ℕ) (dues : List Expectation) where
-  pub field_runs : (ts r : Tokens) → new_name names ts ≡ Some (name, r) → refused ts (part_due mark (more_fields n names) ∷ dues) ≡ refused r (mark_due (codes ":") ∷ type_due n ∷ close_due mark (more_fields n (names ++ name ∷ [])) ∷ dues)
+module _ (n : ℕ) (mark : List ℕ) (names : List (List ℕ)) (name : List ℕ) (expectations : List Expectation) where
+  pub field_runs : (ts r : Tokens) → new_name names ts ≡ Some (name, r) → refused ts (part_expected mark (more_fields n names) ∷ expectations) ≡ refused r (mark_expected (codes ":") ∷ type_expected n ∷ close_expected mark (more_fields n (names ++ name ∷ [])) ∷ expectations)
   field_runs [] r e = absurd (cc)
-  field_runs (t ∷ ts) r e = name_runs names t name ts r e (λ names. mark_due (codes ":") ∷ type_due n ∷ close_due mark (more_fields n names) ∷ []) (part_due mark (more_fields n names)) refl dues
+  field_runs (t ∷ ts) r e = name_runs names t name ts r e (λ names. mark_expected (codes ":") ∷ type_expected n ∷ close_expected mark (more_fields n names) ∷ []) (part_expected mark (more_fields n names)) refl expectations
 
-  pub case_runs : (ts r : Tokens) → new_name names ts ≡ Some (name, r) → refused ts (part_due mark (more_cases n names) ∷ dues) ≡ refused r (payload_due n ∷ close_due mark (more_cases n (names ++ name ∷ [])) ∷ dues)
+  pub case_runs : (ts r : Tokens) → new_name names ts ≡ Some (name, r) → refused ts (part_expected mark (more_cases n names) ∷ expectations) ≡ refused r (payload_expected n ∷ close_expected mark (more_cases n (names ++ name ∷ [])) ∷ expectations)
   case_runs [] r e = absurd (cc)
-  case_runs (t ∷ ts) r e = name_runs names t name ts r e (λ names. payload_due n ∷ close_due mark (more_cases n names) ∷ []) (part_due mark (more_cases n names)) refl dues
+  case_runs (t ∷ ts) r e = name_runs names t name ts r e (λ names. payload_expected n ∷ close_expected mark (more_cases n names) ∷ []) (part_expected mark (more_cases n names)) refl expectations
 
-  pub names_run : (ts r : Tokens) → new_name names ts ≡ Some (name, r) → refused ts (part_due mark (more_names names) ∷ dues) ≡ refused r (close_due mark (more_names (names ++ name ∷ [])) ∷ dues)
+  pub names_run : (ts r : Tokens) → new_name names ts ≡ Some (name, r) → refused ts (part_expected mark (more_names names) ∷ expectations) ≡ refused r (close_expected mark (more_names (names ++ name ∷ [])) ∷ expectations)
   names_run [] r e = absurd (cc)
-  names_run (t ∷ ts) r e = name_runs names t name ts r e (λ names. close_due mark (more_names names) ∷ []) (part_due mark (more_names names)) refl dues
+  names_run (t ∷ ts) r e = name_runs names t name ts r e (λ names. close_expected mark (more_names names) ∷ []) (part_expected mark (more_names names)) refl expectations
 
 -- ---- one run and then a refusal
 
--- where what is due comes down to what is refused, it is refused
-pub fails_onward : (due more : List Expectation → List Expectation) (ts m r : Tokens) (kind : TypeErrorKind) → ((dues : List Expectation) → refused ts (due dues) ≡ refused m (more dues)) → Fails more m kind r → Fails due ts kind r
-fails_onward due more ts m r kind run (inl e) = inl e
-fails_onward due more ts m r kind run (inr h) = inr (λ dues. run dues ∙ h dues)
+-- where what is expected comes down to what is refused, it is refused
+pub fails_onward : (expected more : List Expectation → List Expectation) (ts m r : Tokens) (kind : TypeErrorKind) → ((expectations : List Expectation) → refused ts (expected expectations) ≡ refused m (more expectations)) → Fails more m kind r → Fails expected ts kind r
+fails_onward expected more ts m r kind run (inl e) = inl e
+fails_onward expected more ts m r kind run (inr h) = inr (λ expectations. run expectations ∙ h expectations)
 
--- what is refused is refused whatever is due after it
-pub fails_before : (due : Expectation) (more : List Expectation → List Expectation) (ts r : Tokens) (kind : TypeErrorKind) → Fails (λ dues. due ∷ dues) ts kind r → Fails (λ dues. due ∷ more dues) ts kind r
-fails_before due more ts r kind (inl e) = inl e
-fails_before due more ts r kind (inr h) = inr (λ dues. h (more dues))
+-- what is refused is refused whatever is expected after it
+pub fails_before : (expected : Expectation) (more : List Expectation → List Expectation) (ts r : Tokens) (kind : TypeErrorKind) → Fails (λ expectations. expected ∷ expectations) ts kind r → Fails (λ expectations. expected ∷ more expectations) ts kind r
+fails_before expected more ts r kind (inl e) = inl e
+fails_before expected more ts r kind (inr h) = inr (λ expectations. h (more expectations))

@@ -11,9 +11,9 @@ use Rattle.wave_type.specs.declared.tokens.Token.{Token as Piece}
 use Rattle.wave_type.specs.FunctionSpelling.{SpellsFunction, IsNoFunction}
 use Rattle.wave_type.specs.FunctionType.{FunctionType}
 use Rattle.wave_type.specs.TypeErrors.{TypeRefusal}
-use Rattle.wave_type.specs.TypeFaults.{Expectation, payloads_due, payload_due, results_due, Step, takes, passes, refuses, step, refused, due_of_type, due_of_function}
+use Rattle.wave_type.specs.TypeFaults.{Expectation, payloads_expected, payload_expected, results_expected, Step, takes, passes, refuses, step, refused, expected_of_type, expected_of_function}
 use Rattle.wave_type.specs.TypeItems.{Item, texts_of_items, AreItems, IsFaultOf, for_memory}
-use Rattle.wave_type.specs.TypeSpelling.{Tokens, IsCutInto, Spells, IsNoType, levels_of}
+use Rattle.wave_type.specs.TypeSpelling.{Tokens, IsTokenizedTo, Spells, IsNoType, levels_of}
 use Rattle.wave_type.specs.Private.FunctionReading.{function_read}
 use Rattle.wave_type.specs.Private.TypeReading.{type_read}
 use Rattle.wave_type.specs.Private.TypeTokens.{texts_of, items_of, Fails, IsRefusal, IsRefusalAt}
@@ -28,37 +28,37 @@ use Rattle.wave_type.specs.FunctionSpelling.{levels_of_function}
 
 -- the tokens end with what is left
 abbrev pub EndsWith : Tokens → Tokens → Type 0
-EndsWith ts left = (front : Tokens) × (ts ≡ front ++ left)
+EndsWith ts left = (prefix : Tokens) × (ts ≡ prefix ++ left)
 
-ended_left : (dues : List Expectation) (kind : TypeErrorKind) (left : Tokens) → refused [] dues ≡ Some (kind, left) → EndsWith [] left
+ended_left : (expectations : List Expectation) (kind : TypeErrorKind) (left : Tokens) → refused [] expectations ≡ Some (kind, left) → EndsWith [] left
 ended_left [] kind left e = absurd (cc)
-ended_left (payloads_due n ∷ dues) kind left e = ended_left dues kind left e
-ended_left (payload_due n ∷ dues) kind left e = ended_left dues kind left e
-ended_left (results_due n ∷ dues) kind left e = ended_left dues kind left e
-ended_left (due ∷ dues) kind left e = let pair : ◌≡◌ {A = TypeErrorKind × Tokens} (UnexpectedEnd, []) (kind, left) = cc in ([], λ i. (pair i).1)
+ended_left (payloads_expected n ∷ expectations) kind left e = ended_left expectations kind left e
+ended_left (payload_expected n ∷ expectations) kind left e = ended_left expectations kind left e
+ended_left (results_expected n ∷ expectations) kind left e = ended_left expectations kind left e
+ended_left (expected ∷ expectations) kind left e = let pair : ◌≡◌ {A = TypeErrorKind × Tokens} (UnexpectedEnd, []) (kind, left) = cc in ([], λ i. (pair i).1)
 
-module _ (t : List ℕ) (ts left : Tokens) (kind : TypeErrorKind) (more : (dues : List Expectation) → refused ts dues ≡ Some (kind, left) → EndsWith ts left) where
-  left_by : (due : Expectation) (dues : List Expectation) (s : Step) → step due t ≡ s → (refused (t ∷ ts) dues ≡ Some (kind, left) → EndsWith (t ∷ ts) left) → refused (t ∷ ts) (due ∷ dues) ≡ Some (kind, left) → EndsWith (t ∷ ts) left
-  left_by due dues (takes those) h passed e =
-      let below = more (those ++ dues) (sym (by_step t ts due dues (takes those) h) ∙ e) in
+module _ (t : List ℕ) (ts left : Tokens) (kind : TypeErrorKind) (more : (expectations : List Expectation) → refused ts expectations ≡ Some (kind, left) → EndsWith ts left) where
+  left_by : (expected : Expectation) (expectations : List Expectation) (s : Step) → step expected t ≡ s → (refused (t ∷ ts) expectations ≡ Some (kind, left) → EndsWith (t ∷ ts) left) → refused (t ∷ ts) (expected ∷ expectations) ≡ Some (kind, left) → EndsWith (t ∷ ts) left
+  left_by expected expectations (takes those) h passed e =
+      let below = more (those ++ expectations) (sym (by_step t ts expected expectations (takes those) h) ∙ e) in
       (t ∷ below.0, ap (λ l. t ∷ l) below.1)
-  left_by due dues passes h passed e = passed (sym (by_step t ts due dues passes h) ∙ e)
-  left_by due dues (refuses k) h passed e =
-      let pair : ◌≡◌ {A = TypeErrorKind × Tokens} (k, t ∷ ts) (kind, left) = cc (by_step t ts due dues (refuses k) h) in
+  left_by expected expectations passes h passed e = passed (sym (by_step t ts expected expectations passes h) ∙ e)
+  left_by expected expectations (refuses k) h passed e =
+      let pair : ◌≡◌ {A = TypeErrorKind × Tokens} (k, t ∷ ts) (kind, left) = cc (by_step t ts expected expectations (refuses k) h) in
       ([], λ i. (pair i).1)
 
-  left_at : (dues : List Expectation) → refused (t ∷ ts) dues ≡ Some (kind, left) → EndsWith (t ∷ ts) left
+  left_at : (expectations : List Expectation) → refused (t ∷ ts) expectations ≡ Some (kind, left) → EndsWith (t ∷ ts) left
   left_at [] e = let pair : ◌≡◌ {A = TypeErrorKind × Tokens} (UnexpectedToken, t ∷ ts) (kind, left) = cc in ([], λ i. (pair i).1)
-  left_at (due ∷ dues) e = left_by due dues (step due t) refl (left_at dues) e
+  left_at (expected ∷ expectations) e = left_by expected expectations (step expected t) refl (left_at expectations) e
 
-pub is_left : (ts : Tokens) (dues : List Expectation) (kind : TypeErrorKind) (left : Tokens) → refused ts dues ≡ Some (kind, left) → EndsWith ts left
-is_left [] dues kind left e = ended_left dues kind left e
-is_left (t ∷ ts) dues kind left e = left_at t ts left kind (λ dues. is_left ts dues kind left) dues e
+pub is_left : (ts : Tokens) (expectations : List Expectation) (kind : TypeErrorKind) (left : Tokens) → refused ts expectations ≡ Some (kind, left) → EndsWith ts left
+is_left [] expectations kind left e = ended_left expectations kind left e
+is_left (t ∷ ts) expectations kind left e = left_at t ts left kind (λ expectations. is_left ts expectations kind left) expectations e
 
-drop_front : (front left : Tokens) → drop (length (front ++ left) - length left) (front ++ left) ≡ left
-drop_front front left =
-    let size : length (front ++ left) - length left ≡ length front = omega (arith, length-append front left) in
-    ap (λ n. drop n (front ++ left)) size ∙ drop-append_seam front left
+drop_prefix : (prefix left : Tokens) → drop (length (prefix ++ left) - length left) (prefix ++ left) ≡ left
+drop_prefix prefix left =
+    let size : length (prefix ++ left) - length left ≡ length prefix = omega (arith, length-append prefix left) in
+    ap (λ n. drop n (prefix ++ left)) size ∙ drop-append_seam prefix left
 
 -- as many tokens as texts
 kept_count : (tokens : List Piece) → length (texts_of tokens) ≡ length tokens
@@ -72,11 +72,11 @@ texts_drop (suc n) (i ∷ items) = texts_drop n items
 
 -- what is left of the tokens, and of the items
 left_of : (tokens : List Piece) (left : Tokens) → EndsWith (texts_of tokens) left → texts_of_items (drop (length tokens - length left) (items_of tokens)) ≡ left
-left_of tokens left (front, e) =
-    let size : length tokens ≡ length (front ++ left) = sym (kept_count tokens) ∙ ap length e in
+left_of tokens left (prefix, e) =
+    let size : length tokens ≡ length (prefix ++ left) = sym (kept_count tokens) ∙ ap length e in
     texts_drop (length tokens - length left) (items_of tokens)
     ∙ (ap (drop (length tokens - length left)) (texts_of_kept tokens ∙ e)
-    ∙ (ap (λ n. drop (n - length left) (front ++ left)) size ∙ drop_front front left))
+    ∙ (ap (λ n. drop (n - length left) (prefix ++ left)) size ∙ drop_prefix prefix left))
 
 memory_or : (kind : TypeErrorKind) → (kind ≡ OutOfMemory) ⊎ (kind ≡ OutOfMemory → ⊥)
 memory_or kinds.UnexpectedToken = inr (λ e. cc)
@@ -90,50 +90,50 @@ memory_or kinds.OutOfMemory = inl refl
 
 -- a text of these tokens, which are the reader's
 module _ (text : List ℕ) (tokens : List Piece) (ts : Tokens) (are : AreItems text 0 (items_of tokens)) (same : ts ≡ texts_of tokens) where
-  cut : IsCutInto text (texts_of tokens)
-  cut = subst (IsCutInto text) (texts_of_kept tokens) (items_cut text 0 (items_of tokens) are)
+  cut : IsTokenizedTo text (texts_of tokens)
+  cut = subst (IsTokenizedTo text) (texts_of_kept tokens) (items_cut text 0 (items_of tokens) are)
 
   -- it spells what they spell
-  pub text_spells : (P : Tokens → Type 0) → P ts → (us : Tokens) × IsCutInto text us × P us
+  pub text_spells : (P : Tokens → Type 0) → P ts → (us : Tokens) × IsTokenizedTo text us × P us
   text_spells P h = (texts_of tokens, cut, subst P same h)
 
   -- and nothing else
-  only_spells : (P : Tokens → Type 0) → (us : Tokens) × IsCutInto text us × P us → P ts
+  only_spells : (P : Tokens → Type 0) → (us : Tokens) × IsTokenizedTo text us × P us → P ts
   only_spells P h = subst P (one_cut h.0 (texts_of tokens) text h.1 cut ∙ sym same) h.2
 
   module _ (kind : TypeErrorKind) (left : Tokens) (n : ℕ) (e : TypeRefusal) (count : n ≡ length left) (stands : IsRefusalAt text (drop (length tokens - n) (items_of tokens)) kind e) where
-    module _ (dues : List Expectation) where
-      standing : refused ts dues ≡ Some (kind, left) → (kind ≡ OutOfMemory → ⊥) → IsFaultOf dues text e
+    module _ (expectations : List Expectation) where
+      standing : refused ts expectations ≡ Some (kind, left) → (kind ≡ OutOfMemory → ⊥) → IsFaultOf expectations text e
       standing r other =
           let items = items_of tokens in
           let whole : take (length tokens - n) items ++ drop (length tokens - n) items ≡ items = take-append-drop (length tokens - n) items in
-          let kept : refused (texts_of tokens) dues ≡ Some (kind, left) = ap (λ us. refused us dues) (sym same) ∙ r in
-          let rest : texts_of_items (drop (length tokens - n) items) ≡ left = ap (λ k. texts_of_items (drop (length tokens - k) items)) count ∙ left_of tokens left (is_left (texts_of tokens) dues kind left kept) in (
+          let kept : refused (texts_of tokens) expectations ≡ Some (kind, left) = ap (λ us. refused us expectations) (sym same) ∙ r in
+          let rest : texts_of_items (drop (length tokens - n) items) ≡ left = ap (λ k. texts_of_items (drop (length tokens - k) items)) count ∙ left_of tokens left (is_left (texts_of tokens) expectations kind left kept) in (
             take (length tokens - n) items,
             drop (length tokens - n) items,
             kind,
             subst (AreItems text 0) (sym whole) are,
-            ap (λ l. refused (texts_of_items l) dues) whole ∙ (ap (λ us. refused us dues) (texts_of_kept tokens) ∙ (kept ∙ ap (λ us. Some (kind, us)) (sym rest))),
+            ap (λ l. refused (texts_of_items l) expectations) whole ∙ (ap (λ us. refused us expectations) (texts_of_kept tokens) ∙ (kept ∙ ap (λ us. Some (kind, us)) (sym rest))),
             stands.stands other,
           )
 
       -- it is refused as they are
-      pub text_fault : IsRefusal dues ts kind left → (e ≡ for_memory) ⊎ IsFaultOf dues text e
+      pub text_fault : IsRefusal expectations ts kind left → (e ≡ for_memory) ⊎ IsFaultOf expectations text e
       text_fault (inl memory) = inl (stands.memory memory)
-      text_fault (inr r) = elim (memory_or kind) as (λ _. (e ≡ for_memory) ⊎ IsFaultOf dues text e) [ inl memory ↦ inl (stands.memory memory) | inr other ↦ inr (standing r other) ]
+      text_fault (inr r) = elim (memory_or kind) as (λ _. (e ≡ for_memory) ⊎ IsFaultOf expectations text e) [ inl memory ↦ inl (stands.memory memory) | inr other ↦ inr (standing r other) ]
 
     -- so it spells nothing within a hundred levels that isn't refused
-    module _ {A : Type 0} (P : A → Tokens → Type 0) (levels : A → ℕ) (dues : List Expectation) (runs : (a : A) (us : Tokens) → levels a ≤ 100 → P a us → refused us dues ≡ None) where
-      none_spelled : IsRefusal dues ts kind left → (e.kind ≡ OutOfMemory) ⊎ ((a : A) → (us : Tokens) × IsCutInto text us × P a us → 100 < levels a)
+    module _ {A : Type 0} (P : A → Tokens → Type 0) (levels : A → ℕ) (expectations : List Expectation) (runs : (a : A) (us : Tokens) → levels a ≤ 100 → P a us → refused us expectations ≡ None) where
+      none_spelled : IsRefusal expectations ts kind left → (e.kind ≡ OutOfMemory) ⊎ ((a : A) → (us : Tokens) × IsTokenizedTo text us × P a us → 100 < levels a)
       none_spelled (inl memory) = inl (ap (λ z. z.kind) (stands.memory memory))
       none_spelled (inr r) =
           inr (λ a h. low 100 (levels a) (nat_lt 100 (levels a)) refl (λ le. let wrong : None ≡ Some (kind, left) = sym (runs a ts le (only_spells (P a) h)) ∙ r in cc))
 
-    pub no_type_of : IsRefusal (due_of_type 100) ts kind left → IsNoType text e.kind
-    no_type_of = none_spelled (λ T us. Spells T us []) levels_of (due_of_type 100) (λ T us le h. type_runs 100 T us [] le h [])
+    pub no_type_of : IsRefusal (expected_of_type 100) ts kind left → IsNoType text e.kind
+    no_type_of = none_spelled (λ T us. Spells T us []) levels_of (expected_of_type 100) (λ T us le h. type_runs 100 T us [] le h [])
 
-    pub no_function_of : IsRefusal (due_of_function 100) ts kind left → IsNoFunction text e.kind
-    no_function_of = none_spelled SpellsFunction levels_of_function (due_of_function 100) (function_runs 100)
+    pub no_function_of : IsRefusal (expected_of_function 100) ts kind left → IsNoFunction text e.kind
+    no_function_of = none_spelled SpellsFunction levels_of_function (expected_of_function 100) (function_runs 100)
 
 -- ---- the tokens as a whole
 
@@ -141,18 +141,18 @@ module _ (text : List ℕ) (tokens : List Piece) (ts : Tokens) (are : AreItems t
 pub err_if : {A E : Type 0} (P : E → Type 0) (r : Result A E) (e : E) → r ≡ Err e → P e → IfErr r P
 err_if P r e same h = subst (λ z. IfErr z P) (sym same) h
 
--- what fails whatever is due after it fails where nothing is
-pub fails_alone : (due : List Expectation → List Expectation) (ts left : Tokens) (kind : TypeErrorKind) → Fails due ts kind left → IsRefusal (due []) ts kind left
-fails_alone due ts left kind (inl e) = inl e
-fails_alone due ts left kind (inr h) = inr (h [])
+-- what fails whatever is expected after it fails where nothing is
+pub fails_alone : (expected : List Expectation → List Expectation) (ts left : Tokens) (kind : TypeErrorKind) → Fails expected ts kind left → IsRefusal (expected []) ts kind left
+fails_alone expected ts left kind (inl e) = inl e
+fails_alone expected ts left kind (inr h) = inr (h [])
 
 -- tokens that are left are refused
 rest_refused : (r : Tokens) → (length r ≡ 0 → ⊥) → refused r [] ≡ Some (UnexpectedToken, r)
 rest_refused [] some = absurd (some refl)
 rest_refused (t ∷ r) some = refl
 
-pub type_left : (n : ℕ) (ts r : Tokens) (T : TypeTree) → type_read n ts ≡ Some (T, r) → (length r ≡ 0 → ⊥) → IsRefusal (due_of_type n) ts UnexpectedToken r
+pub type_left : (n : ℕ) (ts r : Tokens) (T : TypeTree) → type_read n ts ≡ Some (T, r) → (length r ≡ 0 → ⊥) → IsRefusal (expected_of_type n) ts UnexpectedToken r
 type_left n ts r T e some = inr (read_runs n ts r T e [] ∙ rest_refused r some)
 
-pub function_is_left : (n : ℕ) (ts r : Tokens) (f : FunctionType) → function_read (type_read n) ts ≡ Some (f, r) → (length r ≡ 0 → ⊥) → IsRefusal (due_of_function n) ts UnexpectedToken r
+pub function_is_left : (n : ℕ) (ts r : Tokens) (f : FunctionType) → function_read (type_read n) ts ≡ Some (f, r) → (length r ≡ 0 → ⊥) → IsRefusal (expected_of_function n) ts UnexpectedToken r
 function_is_left n ts r f e some = inr (function_read_runs n ts r f e ∙ rest_refused r some)

@@ -14,10 +14,10 @@ use Rattle.wave_wasm.specs.TypeText.{kind_word}
 use Rattle.wave_lex.specs.Labels.{IsLabel}
 use Rattle.wave_lex.specs.Tokens.{label}
 use Rattle.wave_lex.proofs.RegularShapes.Derivatives.{matches_into}
-use Rattle.wave_type.specs.TypeMade.{tuple_type, variant_type, enum_type, flags_type, map_type}
-use Rattle.wave_type.specs.TypeMade as maker
+use Rattle.wave_type.specs.TypeConstructors.{tuple_type, variant_type, enum_type, flags_type, map_type}
+use Rattle.wave_type.specs.TypeConstructors as maker
 use Rattle.wave_type.specs.TypeSpelling.{Tokens, Names, Closes, StandsAlone, Spells, SpellsNames, SpellsTypes, SpellsFields, SpellsCases, SpellsPayload, levels_of, levels_of_payload, levels_of_types, levels_of_fields, levels_of_cases}
-use Rattle.wave_type.specs.Private.TypeReading.{or_else, with, made, after, closed, kind_at, new_name, count_at, parts, names_read, Reads, key_at, types_read, field_part, fields_read, payload_read, case_part, cases_read, payloads_read, result_read, kind_read, type_read}
+use Rattle.wave_type.specs.Private.TypeReading.{or_else, with, built, after, closed, kind_at, new_name, count_at, parts, names_read, Reads, key_at, types_read, field_part, fields_read, payload_read, case_part, cases_read, payloads_read, result_read, kind_read, type_read}
 use Rattle.wave_type.proofs.TypeReading.CountTokens.{same_count}
 use Rattle.wave_type.proofs.TypeTexts.Prefixes.{label_goes_on, number_goes_on, has_no_stop, is_stop}
 use Rattle.wave_type.proofs.TypeReading.Sound.{AreParts, IsNamed, IsField, IsCase, map_more}
@@ -109,7 +109,7 @@ new_there seen t name m n new =
     onward_there (name_of_token t) (λ z. if is_one_of seen z then None else Some (z, m)) name (Some (name, m)) (name_there t name n) (ap (λ b. if b then None else Some (name, m)) new)
 
 pub count_there : (n : ℕ) (m : Tokens) → n < 2 ^ 32 → count_at (decimal n ∷ m) ≡ Some (n, m)
-count_there n m h = ap (λ o. made o m) (sym (same_count (decimal n) n h ((bytes_eq-Decides (decimal n) (decimal n)).1 refl)))
+count_there n m h = ap (λ o. built o m) (sym (same_count (decimal n) n h ((bytes_eq-Decides (decimal n) (decimal n)).1 refl)))
 
 -- ---- parts
 
@@ -459,7 +459,7 @@ module _ (n : ℕ) (read : Reads) (complete : IsComplete n read) where
   one_there (option P) ts r le (m, l, e, s, c) =
       ap (λ us. onward (kind_at us) (λ kind. kind_read read kind.0 kind.1)) e ∙ onward_there (read m) _ (P, l) _ (complete P m l (omega arith) s) (with_there (option P) (closed (codes ">") l) r (closes_angle l r c))
   one_there (map_tree K V) ts r le (m, l, e, s, c) =
-      ap (λ us. onward (kind_at us) (λ kind. kind_read read kind.0 kind.1)) e ∙ onward_there (key_at (kind_word (simple_kind K) ∷ codes "," ∷ m)) _ (simple K, codes "," ∷ m) _ (ap (λ o. made o (codes "," ∷ m)) (key_there K)) (onward_there (read m) _ (V, l) _ (complete V m l (omega arith) s) (onward_there (closed (codes ">") l) _ r _ (closes_angle l r c) refl))
+      ap (λ us. onward (kind_at us) (λ kind. kind_read read kind.0 kind.1)) e ∙ onward_there (key_at (kind_word (simple_kind K) ∷ codes "," ∷ m)) _ (simple K, codes "," ∷ m) _ (ap (λ o. built o (codes "," ∷ m)) (key_there K)) (onward_there (read m) _ (V, l) _ (complete V m l (omega arith) s) (onward_there (closed (codes ">") l) _ r _ (closes_angle l r c) refl))
   one_there (result no_type no_type) ts r le (e, a) =
       ap (λ us. onward (kind_at us) (λ kind. kind_read read kind.0 kind.1)) e ∙ ap (result_read read r) (alone_there r a)
   one_there (result (a_type T) no_type) ts r le (m, l, e, s, c) =
@@ -469,15 +469,15 @@ module _ (n : ℕ) (read : Reads) (complete : IsComplete n read) where
   one_there (result (a_type T) (a_type E)) ts r le (m, k, l, e, s, u, c) =
       ap (λ us. onward (kind_at us) (λ kind. kind_read read kind.0 kind.1)) e ∙ (ap (payloads_read read m) (type_is_no_blank T m (codes "," ∷ k) s) ∙ onward_there (read m) _ (T, codes "," ∷ k) _ (complete T m (codes "," ∷ k) (omega arith) s) (or_second _ _ _ (with_none (result (a_type T) no_type) (closed (codes ">") (codes "," ∷ k)) (angle_not k (type_starts E k l u))) (onward_there (read k) _ (E, l) _ (complete E k l (omega arith) u) (with_there (result (a_type T) (a_type E)) (closed (codes ">") l) r (closes_angle l r c)))))
   one_there (tuple Ts) ts r le (m, e, s) =
-      ap (λ us. onward (kind_at us) (λ kind. kind_read read kind.0 kind.1)) e ∙ onward_there (types_read read m) _ (type_list Ts, r) _ (types_all Ts m r (omega arith) s) (ap (λ o. made o r) (tuple_there Ts m r s))
+      ap (λ us. onward (kind_at us) (λ kind. kind_read read kind.0 kind.1)) e ∙ onward_there (types_read read m) _ (type_list Ts, r) _ (types_all Ts m r (omega arith) s) (ap (λ o. built o r) (tuple_there Ts m r s))
   one_there (record_type fs) ts r le (m, e, s, d) =
-      ap (λ us. onward (kind_at us) (λ kind. kind_read read kind.0 kind.1)) e ∙ onward_there (fields_read read (codes "}") m) _ (field_list fs, r) _ (fields_all (codes "}") brace fs m r (omega arith) s d) (ap (λ o. made o r) (record_there fs m r s))
+      ap (λ us. onward (kind_at us) (λ kind. kind_read read kind.0 kind.1)) e ∙ onward_there (fields_read read (codes "}") m) _ (field_list fs, r) _ (fields_all (codes "}") brace fs m r (omega arith) s d) (ap (λ o. built o r) (record_there fs m r s))
   one_there (variant cs) ts r le (m, e, s, d) =
-      ap (λ us. onward (kind_at us) (λ kind. kind_read read kind.0 kind.1)) e ∙ onward_there (cases_read read m) _ (case_list cs, r) _ (cases_all cs m r (omega arith) s d) (ap (λ o. made o r) (variant_there cs m r s))
+      ap (λ us. onward (kind_at us) (λ kind. kind_read read kind.0 kind.1)) e ∙ onward_there (cases_read read m) _ (case_list cs, r) _ (cases_all cs m r (omega arith) s d) (ap (λ o. built o r) (variant_there cs m r s))
   one_there (enum names) ts r le (m, e, s, d) =
-      ap (λ us. onward (kind_at us) (λ kind. kind_read read kind.0 kind.1)) e ∙ onward_there (names_read (codes "}") m) _ (names, r) _ (names_all (codes "}") brace names m r s d) (ap (λ o. made o r) (enum_there names m r s))
+      ap (λ us. onward (kind_at us) (λ kind. kind_read read kind.0 kind.1)) e ∙ onward_there (names_read (codes "}") m) _ (names, r) _ (names_all (codes "}") brace names m r s d) (ap (λ o. built o r) (enum_there names m r s))
   one_there (flags names) ts r le (m, e, s, d) =
-      ap (λ us. onward (kind_at us) (λ kind. kind_read read kind.0 kind.1)) e ∙ onward_there (names_read (codes "}") m) _ (names, r) _ (names_all (codes "}") brace names m r s d) (ap (λ o. made o r) (flags_there names m r s))
+      ap (λ us. onward (kind_at us) (λ kind. kind_read read kind.0 kind.1)) e ∙ onward_there (names_read (codes "}") m) _ (names, r) _ (names_all (codes "}") brace names m r s d) (ap (λ o. built o r) (flags_there names m r s))
 
 pub some_level : (T : TypeTree) → 0 < levels_of T
 some_level (list E) = omega arith

@@ -3,15 +3,15 @@ use Rattle.std.proofs.Common.{◌≡◌, ℕ, zero, suc, ◌≤◌, List, [], �
 use Rattle.wave_wasm.specs.declared.wasm.WasmTypeKind.{WasmTypeKind}
 use Rattle.wave_wasm.specs.declared.wasm.WasmTypeKind.TheVariants as kinds
 use Rattle.wave_wasm.specs.Types.{TypeTree, list, fixed, record_type, tuple, variant, enum, option, result, flags, map as map_tree, no_type, a_type, types_of, fields_of, cases_of, maybe_type}
-use Rattle.wave_type.specs.TypeMade.{tuple_type, variant_type, enum_type, flags_type, map_type}
-use Rattle.wave_type.specs.TypeMade as maker
+use Rattle.wave_type.specs.TypeConstructors.{tuple_type, variant_type, enum_type, flags_type, map_type}
+use Rattle.wave_type.specs.TypeConstructors as maker
 use Rattle.wave_type.specs.FunctionType.{FunctionType}
 use Rattle.wave_type.specs.FunctionSpelling.{levels_of_function}
 use Rattle.wave_type.specs.TypeSpelling.{Tokens, levels_of, levels_of_payload, levels_of_types, levels_of_fields, levels_of_cases}
 use Rattle.wave_type.specs.Private.FunctionReading.{params_read, result_parts_read, results_read, signature_read, function_read}
 use Rattle.wave_type.specs.Private.TypeReading.{with, after, closed, kind_at, new_name, count_at, names_read, Reads, fixed_read, key_at, types_read, field_part, fields_read, payload_read, case_part, cases_read, list_read, option_read, map_read, err_read, payloads_read, result_read, kind_read, type_read}
 use Rattle.wave_type.proofs.TypeReading.Functions.{Parts, unwrapped}
-use Rattle.wave_type.proofs.TypeReading.Sound.{onward_back, or_back, with_back, made_back, AreParts, parts_back, tuple_made, record_made, variant_made, enum_made, flags_made, key_back, map_made}
+use Rattle.wave_type.proofs.TypeReading.Sound.{onward_back, or_back, with_back, built_back, AreParts, parts_back, tuple_built, record_built, variant_built, enum_built, flags_built, key_back, map_built}
 
 -- what is read has that many levels at most
 abbrev pub IsLow : ℕ → Reads → Type 0
@@ -109,9 +109,9 @@ module _ (n : ℕ) (read : Reads) (low : IsLow n read) where
       let c = onward_back (after (codes ",") k.0.1) _ b k.2 in
       let v = onward_back (read c.0) _ b c.2 in
       let z = onward_back (closed (codes ">") v.0.1) _ b v.2 in
-      let w = made_back (map_type k.0.0 v.0.0) z.0 b z.2 in
+      let w = built_back (map_type k.0.0 v.0.0) z.0 b z.2 in
       let le = low c.0 v.0 v.1 in
-      at_most (map_tree key.kind v.0.0) b.0 (suc n) (map_made k.0.0 v.0.0 key.kind b.0 key.is w.0) (omega (arith, le))
+      at_most (map_tree key.kind v.0.0) b.0 (suc n) (map_built k.0.0 v.0.0 key.kind b.0 key.is w.0) (omega (arith, le))
 
   err_low : (A : Option TypeTree) (ts : Tokens) (b : TypeTree × Tokens) → levels_of_payload (maybe_type A) ≤ n → err_read read A ts ≡ Some b → levels_of b.0 ≤ suc n
   err_low A ts b first e =
@@ -145,29 +145,29 @@ module _ (n : ℕ) (read : Reads) (low : IsLow n read) where
   kind_low kinds.Tuple ts b e =
       let p = onward_back (after (codes "<") ts) _ b e in
       let h = onward_back (types_read read p.0) _ b p.2 in
-      let w = made_back (tuple_type h.0.0) h.0.1 b h.2 in
+      let w = built_back (tuple_type h.0.0) h.0.1 b h.2 in
       let le = types_read_low p.0 h.0 h.1 in
-      at_most (tuple (types_of h.0.0)) b.0 (suc n) (tuple_made h.0.0 b.0 w.0) (omega (arith, le))
+      at_most (tuple (types_of h.0.0)) b.0 (suc n) (tuple_built h.0.0 b.0 w.0) (omega (arith, le))
   kind_low kinds.Record ts b e =
       let p = onward_back (after (codes "{") ts) _ b e in
       let h = onward_back (fields_read read (codes "}") p.0) _ b p.2 in
-      let w = made_back (maker.record_type h.0.0) h.0.1 b h.2 in
+      let w = built_back (maker.record_type h.0.0) h.0.1 b h.2 in
       let le = fields_read_low (codes "}") p.0 h.0 h.1 in
-      at_most (record_type (fields_of h.0.0)) b.0 (suc n) (record_made h.0.0 b.0 w.0) (omega (arith, le))
+      at_most (record_type (fields_of h.0.0)) b.0 (suc n) (record_built h.0.0 b.0 w.0) (omega (arith, le))
   kind_low kinds.Variant ts b e =
       let p = onward_back (after (codes "{") ts) _ b e in
       let h = onward_back (cases_read read p.0) _ b p.2 in
-      let w = made_back (variant_type h.0.0) h.0.1 b h.2 in
+      let w = built_back (variant_type h.0.0) h.0.1 b h.2 in
       let le = cases_read_low p.0 h.0 h.1 in
-      at_most (variant (cases_of h.0.0)) b.0 (suc n) (variant_made h.0.0 b.0 w.0) (omega (arith, le))
+      at_most (variant (cases_of h.0.0)) b.0 (suc n) (variant_built h.0.0 b.0 w.0) (omega (arith, le))
   kind_low kinds.Enum ts b e =
       let p = onward_back (after (codes "{") ts) _ b e in
       let h = onward_back (names_read (codes "}") p.0) _ b p.2 in
-      at_most (enum h.0.0) b.0 (suc n) (enum_made h.0.0 b.0 (made_back (enum_type h.0.0) h.0.1 b h.2).0) (omega arith)
+      at_most (enum h.0.0) b.0 (suc n) (enum_built h.0.0 b.0 (built_back (enum_type h.0.0) h.0.1 b h.2).0) (omega arith)
   kind_low kinds.Flags ts b e =
       let p = onward_back (after (codes "{") ts) _ b e in
       let h = onward_back (names_read (codes "}") p.0) _ b p.2 in
-      at_most (flags h.0.0) b.0 (suc n) (flags_made h.0.0 b.0 (made_back (flags_type h.0.0) h.0.1 b h.2).0) (omega arith)
+      at_most (flags h.0.0) b.0 (suc n) (flags_built h.0.0 b.0 (built_back (flags_type h.0.0) h.0.1 b h.2).0) (omega arith)
   kind_low kinds.Bool ts b e = one_low _ ts b refl e
   kind_low kinds.S8 ts b e = one_low _ ts b refl e
   kind_low kinds.S16 ts b e = one_low _ ts b refl e

@@ -4,7 +4,7 @@ use Rattle.std.specs.Prelude.{MatchBool}
 use Rattle.wave_wasm.specs.Types.{TypeTree}
 use Rattle.wave_type.specs.declared.error.TypeErrorKind.{TypeErrorKind}
 use Rattle.wave_type.specs.TypeSpelling.{Tokens}
-use Rattle.wave_type.specs.TypeFaults.{Part, more_types, more_fields, more_cases, more_names, Expectation, type_due, part_due, close_due, payload_due, refused}
+use Rattle.wave_type.specs.TypeFaults.{Part, more_types, more_fields, more_cases, more_names, Expectation, type_expected, part_expected, close_expected, payload_expected, refused}
 use Rattle.wave_type.specs.Private.TypeReading.{after, closed, part_names, parts, new_name, field_part, payload_read, case_part, type_read}
 use Rattle.wave_type.specs.Private.TypeTokens.{misplaced, Fails, IsRefused, GoesOn}
 use Rattle.wave_type.proofs.TypeFaults.TokenSteps.{fails_onward, fails_before, mark_runs, types_are_types, field_runs, case_runs, names_run, comma_runs}
@@ -14,29 +14,29 @@ use Rattle.wave_type.proofs.TypeFaults.SpelledIsTaken.{read_runs, payload_read_r
 use Rattle.wave_type.proofs.TypeReading.Sound.{map_more}
 
 -- these parts of `old` were seen in i rounds, and the tokens ts are left
-pub record PartsLeft {A : Type 0} (part : List A → Tokens → Option (A × Tokens)) (mark : List ℕ) (due : List A → Part) (old : Tokens) (i : ℕ) (seen : List A) (ts : Tokens) : Type 0 where
+pub record PartsLeft {A : Type 0} (part : List A → Tokens → Option (A × Tokens)) (mark : List ℕ) (expected : List A → Part) (old : Tokens) (i : ℕ) (seen : List A) (ts : Tokens) : Type 0 where
   pub read : parts part mark (length old - i) seen ts ≡ parts part mark (length old) [] old
   pub less : length ts + i ≤ length old
-  pub runs : (dues : List Expectation) → refused old (part_due mark (due []) ∷ dues) ≡ refused ts (part_due mark (due seen) ∷ dues)
+  pub runs : (expectations : List Expectation) → refused old (part_expected mark (expected []) ∷ expectations) ≡ refused ts (part_expected mark (expected seen) ∷ expectations)
 
 -- a part stands next, and m after it
-pub record PartStands {A : Type 0} (part : List A → Tokens → Option (A × Tokens)) (mark : List ℕ) (due : List A → Part) (seen : List A) (ts : Tokens) (a : A) (m : Tokens) : Type 0 where
+pub record PartStands {A : Type 0} (part : List A → Tokens → Option (A × Tokens)) (mark : List ℕ) (expected : List A → Part) (seen : List A) (ts : Tokens) (a : A) (m : Tokens) : Type 0 where
   pub read : part seen ts ≡ Some (a, m)
   pub less : length m < length ts
-  pub runs : (dues : List Expectation) → refused ts (part_due mark (due seen) ∷ dues) ≡ refused m (close_due mark (due (seen ++ (a ∷ []))) ∷ dues)
+  pub runs : (expectations : List Expectation) → refused ts (part_expected mark (expected seen) ∷ expectations) ≡ refused m (close_expected mark (expected (seen ++ (a ∷ []))) ∷ expectations)
 
-module _ {A : Type 0} {part : List A → Tokens → Option (A × Tokens)} {mark : List ℕ} {due : List A → Part} {old : Tokens} {i : ℕ} {seen : List A} {ts : Tokens} (known : PartsLeft part mark due old i seen ts) where
+module _ {A : Type 0} {part : List A → Tokens → Option (A × Tokens)} {mark : List ℕ} {expected : List A → Part} {old : Tokens} {i : ℕ} {seen : List A} {ts : Tokens} (known : PartsLeft part mark expected old i seen ts) where
   -- where the next part is refused, all are
-  pub part_fails : (r : Tokens) (kind : TypeErrorKind) → Fails (λ dues. part_due mark (due seen) ∷ dues) ts kind r → Fails (λ dues. part_due mark (due []) ∷ dues) old kind r
-  part_fails r kind h = fails_onward (λ dues. part_due mark (due []) ∷ dues) (λ dues. part_due mark (due seen) ∷ dues) old ts r kind known.runs h
+  pub part_fails : (r : Tokens) (kind : TypeErrorKind) → Fails (λ expectations. part_expected mark (expected seen) ∷ expectations) ts kind r → Fails (λ expectations. part_expected mark (expected []) ∷ expectations) old kind r
+  part_fails r kind h = fails_onward (λ expectations. part_expected mark (expected []) ∷ expectations) (λ expectations. part_expected mark (expected seen) ∷ expectations) old ts r kind known.runs h
 
-  module _ {a : A} {m : Tokens} (next : PartStands part mark due seen ts a m) where
+  module _ {a : A} {m : Tokens} (next : PartStands part mark expected seen ts a m) where
     fits : i < length old
     fits = omega (arith, known.less, next.less)
 
     -- neither the mark nor a comma stands after it
-    pub end_fails : (r : Tokens) (kind : TypeErrorKind) → ((after : Part) → IsRefused (close_due mark after) m kind r) → Fails (λ dues. part_due mark (due []) ∷ dues) old kind r
-    end_fails r kind h = inr (λ dues. known.runs dues ∙ (next.runs dues ∙ h (due (seen ++ (a ∷ []))) dues))
+    pub end_fails : (r : Tokens) (kind : TypeErrorKind) → ((after : Part) → IsRefused (close_expected mark after) m kind r) → Fails (λ expectations. part_expected mark (expected []) ∷ expectations) old kind r
+    end_fails r kind h = inr (λ expectations. known.runs expectations ∙ (next.runs expectations ∙ h (expected (seen ++ (a ∷ []))) expectations))
 
     module _ (r : Tokens) (all : List A) (is : all ≡ seen ++ (a ∷ [])) (b : Bool) (ends : MatchBool b (closed mark m ≡ Some r) (GoesOn mark m r)) where
       -- it was the last part
@@ -45,73 +45,73 @@ module _ {A : Type 0} {part : List A → Tokens → Option (A × Tokens)} {mark 
           part_ends part mark (length old) i seen ts (parts part mark (length old) [] old) fits known.read a m r next.read (ends_so mark m r b ends e) ∙ ap (λ l. Some (l, r)) (sym is)
 
       -- more are left
-      pub more_left : b ≡ false → PartsLeft part mark due old (i + 1) all r
+      pub more_left : b ≡ false → PartsLeft part mark expected old (i + 1) all r
       more_left e =
           let more = goes_so mark m r b ends e in
           record {
             read = ap (λ l. parts part mark (length old - (i + 1)) l r) is ∙ part_behind part mark (length old) i seen ts (parts part mark (length old) [] old) fits known.read a m r next.read more.unclosed more.comma;
             less = omega (arith, known.less, next.less, after_less (codes ",") m r more.comma);
-            runs = λ dues. known.runs dues ∙ (next.runs dues ∙ (comma_runs mark (due (seen ++ (a ∷ []))) m r dues more ∙ ap (λ l. refused r (part_due mark (due l) ∷ dues)) (sym is)));
+            runs = λ expectations. known.runs expectations ∙ (next.runs expectations ∙ (comma_runs mark (expected (seen ++ (a ∷ []))) m r expectations more ∙ ap (λ l. refused r (part_expected mark (expected l) ∷ expectations)) (sym is)));
           }
 
 -- ---- types and names
 
 module _ (n : ℕ) (mark : List ℕ) (ts r : Tokens) where
-  pub type_fails : (kind : TypeErrorKind) → Fails (λ dues. type_due n ∷ dues) ts kind r → Fails (λ dues. part_due mark (more_types n) ∷ dues) ts kind r
+  pub type_fails : (kind : TypeErrorKind) → Fails (λ expectations. type_expected n ∷ expectations) ts kind r → Fails (λ expectations. part_expected mark (more_types n) ∷ expectations) ts kind r
   type_fails kind h =
-      let more = λ (dues : List Expectation). close_due mark (more_types n) ∷ dues in
-      fails_onward (λ dues. part_due mark (more_types n) ∷ dues) (λ dues. type_due n ∷ more dues) ts ts r kind (types_are_types n mark ts) (fails_before (type_due n) more ts r kind h)
+      let more = λ (expectations : List Expectation). close_expected mark (more_types n) ∷ expectations in
+      fails_onward (λ expectations. part_expected mark (more_types n) ∷ expectations) (λ expectations. type_expected n ∷ more expectations) ts ts r kind (types_are_types n mark ts) (fails_before (type_expected n) more ts r kind h)
 
   pub type_next : (seen : List TypeTree) (T : TypeTree) → type_read n ts ≡ Some (T, r) → PartStands (λ seen. type_read n) mark (λ seen. more_types n) seen ts T r
   type_next seen T e = record {
     read = e;
     less = read_less n ts r T e;
-    runs = λ dues. types_are_types n mark ts dues ∙ read_runs n ts r T e (close_due mark (more_types n) ∷ dues);
+    runs = λ expectations. types_are_types n mark ts expectations ∙ read_runs n ts r T e (close_expected mark (more_types n) ∷ expectations);
   }
 
 pub name_next : (mark name : List ℕ) (seen : List (List ℕ)) (ts r : Tokens) → new_name seen ts ≡ Some (name, r) → PartStands new_name mark more_names seen ts name r
-name_next mark name seen ts r e = record { read = e; less = new_less seen ts r name e; runs = λ dues. names_run 0 mark seen name dues ts r e }
+name_next mark name seen ts r e = record { read = e; less = new_less seen ts r name e; runs = λ expectations. names_run 0 mark seen name expectations ts r e }
 
 -- ---- fields
 
 module _ (n : ℕ) (mark name : List ℕ) (seen : List (List ℕ × TypeTree)) (ts m : Tokens) (e : new_name (part_names seen) ts ≡ Some (name, m)) where
-  -- what is due after the type of this field
+  -- what is expected after the type of this field
   abbrev behind_field : List Expectation → List Expectation
-  behind_field dues = close_due mark (more_fields n (part_names seen ++ name ∷ [])) ∷ dues
+  behind_field expectations = close_expected mark (more_fields n (part_names seen ++ name ∷ [])) ∷ expectations
 
-  pub colon_fails : (r : Tokens) (kind : TypeErrorKind) → (after (codes ":") m ≡ None) × (kind ≡ misplaced m) × (r ≡ m) → Fails (λ dues. part_due mark (more_fields n (part_names seen)) ∷ dues) ts kind r
+  pub colon_fails : (r : Tokens) (kind : TypeErrorKind) → (after (codes ":") m ≡ None) × (kind ≡ misplaced m) × (r ≡ m) → Fails (λ expectations. part_expected mark (more_fields n (part_names seen)) ∷ expectations) ts kind r
   colon_fails r kind h =
-      inr (λ dues. field_runs n mark (part_names seen) name dues ts m e ∙ mark_refused (codes ":") m r kind h (type_due n ∷ behind_field dues))
+      inr (λ expectations. field_runs n mark (part_names seen) name expectations ts m e ∙ mark_refused (codes ":") m r kind h (type_expected n ∷ behind_field expectations))
 
   module _ (l : Tokens) (colon : after (codes ":") m ≡ Some l) where
-    named_runs : (dues : List Expectation) → refused ts (part_due mark (more_fields n (part_names seen)) ∷ dues) ≡ refused l (type_due n ∷ behind_field dues)
-    named_runs dues = field_runs n mark (part_names seen) name dues ts m e ∙ mark_runs (codes ":") m l (type_due n ∷ behind_field dues) colon
+    named_runs : (expectations : List Expectation) → refused ts (part_expected mark (more_fields n (part_names seen)) ∷ expectations) ≡ refused l (type_expected n ∷ behind_field expectations)
+    named_runs expectations = field_runs n mark (part_names seen) name expectations ts m e ∙ mark_runs (codes ":") m l (type_expected n ∷ behind_field expectations) colon
 
-    pub field_type_fails : (r : Tokens) (kind : TypeErrorKind) → Fails (λ dues. type_due n ∷ dues) l kind r → Fails (λ dues. part_due mark (more_fields n (part_names seen)) ∷ dues) ts kind r
+    pub field_type_fails : (r : Tokens) (kind : TypeErrorKind) → Fails (λ expectations. type_expected n ∷ expectations) l kind r → Fails (λ expectations. part_expected mark (more_fields n (part_names seen)) ∷ expectations) ts kind r
     field_type_fails r kind h =
-        fails_onward (λ dues. part_due mark (more_fields n (part_names seen)) ∷ dues) (λ dues. type_due n ∷ behind_field dues) ts l r kind named_runs (fails_before (type_due n) behind_field l r kind h)
+        fails_onward (λ expectations. part_expected mark (more_fields n (part_names seen)) ∷ expectations) (λ expectations. type_expected n ∷ behind_field expectations) ts l r kind named_runs (fails_before (type_expected n) behind_field l r kind h)
 
     pub field_next : (r : Tokens) (T : TypeTree) → type_read n l ≡ Some (T, r) → PartStands (field_part (type_read n)) mark (λ seen. more_fields n (part_names seen)) seen ts (name, T) r
     field_next r T typed = record {
       read = field_read (type_read n) seen ts name m l r T e colon typed;
       less = omega (arith, new_less (part_names seen) ts m name e, after_less (codes ":") m l colon, read_less n l r T typed);
-      runs = λ dues. named_runs dues ∙ (read_runs n l r T typed (behind_field dues) ∙ ap (λ names. refused r (close_due mark (more_fields n names) ∷ dues)) (sym (map_more (λ p. p.0) seen (name, T))));
+      runs = λ expectations. named_runs expectations ∙ (read_runs n l r T typed (behind_field expectations) ∙ ap (λ names. refused r (close_expected mark (more_fields n names) ∷ expectations)) (sym (map_more (λ p. p.0) seen (name, T))));
     }
 
 -- ---- cases
 
 module _ (n : ℕ) (mark name : List ℕ) (seen : List (List ℕ × Option TypeTree)) (ts m : Tokens) (e : new_name (part_names seen) ts ≡ Some (name, m)) where
-  -- what is due after the payload of this case
+  -- what is expected after the payload of this case
   abbrev behind_case : List Expectation → List Expectation
-  behind_case dues = close_due mark (more_cases n (part_names seen ++ name ∷ [])) ∷ dues
+  behind_case expectations = close_expected mark (more_cases n (part_names seen ++ name ∷ [])) ∷ expectations
 
-  pub payload_fails : (r : Tokens) (kind : TypeErrorKind) → Fails (λ dues. payload_due n ∷ dues) m kind r → Fails (λ dues. part_due mark (more_cases n (part_names seen)) ∷ dues) ts kind r
+  pub payload_fails : (r : Tokens) (kind : TypeErrorKind) → Fails (λ expectations. payload_expected n ∷ expectations) m kind r → Fails (λ expectations. part_expected mark (more_cases n (part_names seen)) ∷ expectations) ts kind r
   payload_fails r kind h =
-      fails_onward (λ dues. part_due mark (more_cases n (part_names seen)) ∷ dues) (λ dues. payload_due n ∷ behind_case dues) ts m r kind (λ dues. case_runs n mark (part_names seen) name dues ts m e) (fails_before (payload_due n) behind_case m r kind h)
+      fails_onward (λ expectations. part_expected mark (more_cases n (part_names seen)) ∷ expectations) (λ expectations. payload_expected n ∷ behind_case expectations) ts m r kind (λ expectations. case_runs n mark (part_names seen) name expectations ts m e) (fails_before (payload_expected n) behind_case m r kind h)
 
   pub case_next : (r : Tokens) (P : Option TypeTree) → payload_read (type_read n) m (after (codes "(") m) ≡ Some (P, r) → PartStands (case_part (type_read n)) mark (λ seen. more_cases n (part_names seen)) seen ts (name, P) r
   case_next r P paid = record {
     read = case_read (type_read n) seen ts name m r P e paid;
     less = omega (arith, new_less (part_names seen) ts m name e, payload_less n m r P paid);
-    runs = λ dues. case_runs n mark (part_names seen) name dues ts m e ∙ (payload_read_runs n m r P paid (behind_case dues) ∙ ap (λ names. refused r (close_due mark (more_cases n names) ∷ dues)) (sym (map_more (λ p. p.0) seen (name, P))));
+    runs = λ expectations. case_runs n mark (part_names seen) name expectations ts m e ∙ (payload_read_runs n m r P paid (behind_case expectations) ∙ ap (λ names. refused r (close_expected mark (more_cases n names) ∷ expectations)) (sym (map_more (λ p. p.0) seen (name, P))));
   }

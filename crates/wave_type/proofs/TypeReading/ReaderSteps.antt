@@ -6,10 +6,10 @@ use Rattle.wave_wasm.specs.Types.{TypeTree, no_type, a_type, maybe_type}
 use Rattle.wave_wasm.specs.Types as type
 use Rattle.wave_type.specs.declared.error.TypeErrorKind.{TypeErrorKind}
 use Rattle.wave_type.specs.declared.error.TypeErrorKind.TheVariants.{DuplicateName}
-use Rattle.wave_type.specs.TypeMade.{tuple_type, record_type, variant_type, enum_type, flags_type}
+use Rattle.wave_type.specs.TypeConstructors.{tuple_type, record_type, variant_type, enum_type, flags_type}
 use Rattle.wave_type.specs.TypeSpelling.{Tokens}
 use Rattle.wave_type.specs.TypeWords.{onward}
-use Rattle.wave_type.specs.TypeFaults.{Expectation, mark_due, refused}
+use Rattle.wave_type.specs.TypeFaults.{Expectation, mark_expected, refused}
 use Rattle.wave_type.specs.Private.TypeReading.{after, closed, or_else, with, parts, name_at, new_name, names_read, Reads, types_read, fields_read, cases_read, fixed_behind, list_read, err_behind, payloads_read, payload_read, case_part, field_part, type_read}
 use Rattle.wave_type.specs.Private.TypeTokens.{misplaced, name_fault, Fails, IsRefused, GoesOn, RefusesName, Answers}
 use Rattle.wave_type.proofs.TypeFaults.TokenSteps.{mark_fails, fails_onward}
@@ -34,19 +34,19 @@ module _ (mark : List ℕ) (ts r : Tokens) (b : Bool) (h : MatchBool b (closed m
   goes_so e = other (closed mark ts ≡ Some r) (GoesOn mark ts r) b h e
 
 -- a mark that isn't there
-pub mark_refused : (mark : List ℕ) (ts r : Tokens) (kind : TypeErrorKind) → (after mark ts ≡ None) × (kind ≡ misplaced ts) × (r ≡ ts) → IsRefused (mark_due mark) ts kind r
+pub mark_refused : (mark : List ℕ) (ts r : Tokens) (kind : TypeErrorKind) → (after mark ts ≡ None) × (kind ≡ misplaced ts) × (r ≡ ts) → IsRefused (mark_expected mark) ts kind r
 mark_refused mark ts r kind (none, is, end) =
-    subst (λ k. IsRefused (mark_due mark) ts k r) (sym is) (subst (λ us. IsRefused (mark_due mark) ts (misplaced ts) us) (sym end) (mark_fails mark ts none))
+    subst (λ k. IsRefused (mark_expected mark) ts k r) (sym is) (subst (λ us. IsRefused (mark_expected mark) ts (misplaced ts) us) (sym end) (mark_fails mark ts none))
 
 module _ {A B : Type 0} (view : A → B) where
   -- a refusal is the answer
-  pub answers_err : (result : Result A TypeErrorKind) (kind : TypeErrorKind) (ts r : Tokens) (read : Option (B × Tokens)) (due : List Expectation → List Expectation) → result ≡ Err kind → Fails due ts kind r → Answers view result ts r read due
-  answers_err result kind ts r read due e h = subst (λ z. Answers view z ts r read due) (sym e) h
+  pub answers_err : (result : Result A TypeErrorKind) (kind : TypeErrorKind) (ts r : Tokens) (read : Option (B × Tokens)) (expected : List Expectation → List Expectation) → result ≡ Err kind → Fails expected ts kind r → Answers view result ts r read expected
+  answers_err result kind ts r read expected e h = subst (λ z. Answers view z ts r read expected) (sym e) h
 
   -- what the last call answers is the answer
-  pub answers_onward : (result : Result A TypeErrorKind) (ts m r : Tokens) (read more : Option (B × Tokens)) (due behind : List Expectation → List Expectation) → read ≡ more → ((dues : List Expectation) → refused ts (due dues) ≡ refused m (behind dues)) → Answers view result m r more behind → Answers view result ts r read due
-  answers_onward (Ok a) ts m r read more due behind same run h = same ∙ h
-  answers_onward (Err kind) ts m r read more due behind same run h = fails_onward due behind ts m r kind run h
+  pub answers_onward : (result : Result A TypeErrorKind) (ts m r : Tokens) (read more : Option (B × Tokens)) (expected behind : List Expectation → List Expectation) → read ≡ more → ((expectations : List Expectation) → refused ts (expected expectations) ≡ refused m (behind expectations)) → Answers view result m r more behind → Answers view result ts r read expected
+  answers_onward (Ok a) ts m r read more expected behind same run h = same ∙ h
+  answers_onward (Err kind) ts m r read more expected behind same run h = fails_onward expected behind ts m r kind run h
 
 pub after_less : (mark : List ℕ) (ts r : Tokens) → after mark ts ≡ Some r → length r < length ts
 after_less mark ts r e = omega (arith, ap length (after_back mark ts r e))

@@ -15,10 +15,10 @@ use Rattle.wave_wasm.specs.Types.{Simple, bool, whole, char, string, s8, s16, s3
 use Rattle.wave_wasm.specs.TypeText.{kind_word}
 use Rattle.wave_lex.specs.Tokens.{label}
 use Rattle.wave_lex.proofs.RegularShapes.Derivatives.{matches_from}
-use Rattle.wave_type.specs.TypeMade.{simple_type, tuple_type, variant_type, enum_type, flags_type, map_type}
-use Rattle.wave_type.specs.TypeMade as maker
+use Rattle.wave_type.specs.TypeConstructors.{simple_type, tuple_type, variant_type, enum_type, flags_type, map_type}
+use Rattle.wave_type.specs.TypeConstructors as maker
 use Rattle.wave_type.specs.TypeSpelling.{Tokens, Names, Closes, Spells, SpellsNames, SpellsTypes, SpellsFields, SpellsCases, SpellsPayload, StandsAlone}
-use Rattle.wave_type.specs.Private.TypeReading.{or_else, with, made, after, closed, kind_at, new_name, count_at, parts, names_read, Reads, fixed_read, key_at, types_read, field_part, fields_read, payload_read, case_part, cases_read, list_read, option_read, map_read, err_read, payloads_read, result_read, kind_read, type_read}
+use Rattle.wave_type.specs.Private.TypeReading.{or_else, with, built, after, closed, kind_at, new_name, count_at, parts, names_read, Reads, fixed_read, key_at, types_read, field_part, fields_read, payload_read, case_part, cases_read, list_read, option_read, map_read, err_read, payloads_read, result_read, kind_read, type_read}
 use Rattle.wave_type.specs.TypeWords.{count_of_token, is_label, key_of_word, kind_of_word, name_of_token, only_simple, onward, readable_kinds, without_percent}
 
 -- ---- one step and then another, backwards
@@ -37,9 +37,9 @@ module _ {A : Type 0} where
   with_back a None b e = absurd (cc)
   with_back a (Some r) b e = let same : (a, r) ≡ b = cc in ((λ i. Some (same i).1), (λ i. (sym same i).0))
 
-  pub made_back : (o : Option A) (r : Tokens) (b : A × Tokens) → made o r ≡ Some b → (o ≡ Some b.0) × (r ≡ b.1)
-  made_back None r b e = absurd (cc)
-  made_back (Some a) r b e = let same : (a, r) ≡ b = cc in ((λ i. Some (same i).0), (λ i. (same i).1))
+  pub built_back : (o : Option A) (r : Tokens) (b : A × Tokens) → built o r ≡ Some b → (o ≡ Some b.0) × (r ≡ b.1)
+  built_back None r b e = absurd (cc)
+  built_back (Some a) r b e = let same : (a, r) ≡ b = cc in ((λ i. Some (same i).0), (λ i. (same i).1))
 
 -- ---- one token
 
@@ -74,7 +74,7 @@ word_back word k e = (bytes_eq-Decides word (kind_word k)).0 (find_back (λ j. b
 kind_at_back : (ts : Tokens) (b : WasmTypeKind × Tokens) → kind_at ts ≡ Some b → ts ≡ kind_word b.0 ∷ b.1
 kind_at_back [] b e = absurd (cc)
 kind_at_back (t ∷ ts) b e =
-    let p = made_back (kind_of_word t) ts b e in
+    let p = built_back (kind_of_word t) ts b e in
     let q = word_back t b.0 p.0 in
     λ i. q i ∷ p.1 i
 
@@ -104,7 +104,7 @@ count_back t n e =
 count_at_back : (ts : Tokens) (b : ℕ × Tokens) → count_at ts ≡ Some b → (ts ≡ decimal b.0 ∷ b.1) × (b.0 < 2 ^ 32)
 count_at_back [] b e = absurd (cc)
 count_at_back (t ∷ ts) b e =
-    let p = made_back (count_of_token t) ts b e in
+    let p = built_back (count_of_token t) ts b e in
     let q = count_back t b.0 p.0 in
     ((λ i. q.0 i ∷ p.1 i), q.1)
 
@@ -269,25 +269,25 @@ names_back mark ts b e =
 
 -- ---- what the constructors make
 
-pub tuple_made : (Ts : List TypeTree) (T : TypeTree) → tuple_type Ts ≡ Some T → T ≡ tuple (types_of Ts)
-tuple_made [] T e = absurd (cc)
-tuple_made (U ∷ Us) T e = cc
+pub tuple_built : (Ts : List TypeTree) (T : TypeTree) → tuple_type Ts ≡ Some T → T ≡ tuple (types_of Ts)
+tuple_built [] T e = absurd (cc)
+tuple_built (U ∷ Us) T e = cc
 
-pub record_made : (fs : List (List ℕ × TypeTree)) (T : TypeTree) → maker.record_type fs ≡ Some T → T ≡ record_type (fields_of fs)
-record_made [] T e = absurd (cc)
-record_made (f ∷ fs) T e = cc
+pub record_built : (fs : List (List ℕ × TypeTree)) (T : TypeTree) → maker.record_type fs ≡ Some T → T ≡ record_type (fields_of fs)
+record_built [] T e = absurd (cc)
+record_built (f ∷ fs) T e = cc
 
-pub variant_made : (cs : List (List ℕ × Option TypeTree)) (T : TypeTree) → variant_type cs ≡ Some T → T ≡ variant (cases_of cs)
-variant_made [] T e = absurd (cc)
-variant_made (c ∷ cs) T e = cc
+pub variant_built : (cs : List (List ℕ × Option TypeTree)) (T : TypeTree) → variant_type cs ≡ Some T → T ≡ variant (cases_of cs)
+variant_built [] T e = absurd (cc)
+variant_built (c ∷ cs) T e = cc
 
-pub enum_made : (ns : List (List ℕ)) (T : TypeTree) → enum_type ns ≡ Some T → T ≡ enum ns
-enum_made [] T e = absurd (cc)
-enum_made (n ∷ ns) T e = cc
+pub enum_built : (ns : List (List ℕ)) (T : TypeTree) → enum_type ns ≡ Some T → T ≡ enum ns
+enum_built [] T e = absurd (cc)
+enum_built (n ∷ ns) T e = cc
 
-pub flags_made : (ns : List (List ℕ)) (T : TypeTree) → flags_type ns ≡ Some T → T ≡ flags ns
-flags_made [] T e = absurd (cc)
-flags_made (n ∷ ns) T e = cc
+pub flags_built : (ns : List (List ℕ)) (T : TypeTree) → flags_type ns ≡ Some T → T ≡ flags ns
+flags_built [] T e = absurd (cc)
+flags_built (n ∷ ns) T e = cc
 
 -- a key was read
 pub record KeyRead (ts : Tokens) (b : TypeTree × Tokens) : Type 0 where
@@ -312,14 +312,14 @@ only_back _ K e = absurd (cc)
 pub key_back : (ts : Tokens) (b : TypeTree × Tokens) → key_at ts ≡ Some b → KeyRead ts b
 key_back [] b e = absurd (cc)
 key_back (t ∷ ts) b e =
-    let p = made_back (key_of_word t) ts b e in
+    let p = built_back (key_of_word t) ts b e in
     let k = onward_back (kind_of_word t) _ b.0 p.0 in
     let s = only_back k.0 b.0 k.2 in
     let is : t ≡ kind_word (simple_kind s.0) = word_back t k.0 k.1 ∙ ap kind_word s.2 in
     record { kind = s.0; is = s.1; next = λ i. is i ∷ p.1 i }
 
-pub map_made : (K V : TypeTree) (S : Simple) (T : TypeTree) → K ≡ simple S → map_type K V ≡ Some T → T ≡ map_tree S V
-map_made K V S T is e = let there : map_type (simple S) V ≡ Some T = sym (ap (λ z. map_type z V) is) ∙ e in cc
+pub map_built : (K V : TypeTree) (S : Simple) (T : TypeTree) → K ≡ simple S → map_type K V ≡ Some T → T ≡ map_tree S V
+map_built K V S T is e = let there : map_type (simple S) V ≡ Some T = sym (ap (λ z. map_type z V) is) ∙ e in cc
 
 -- ---- types, where those inside are read
 
@@ -433,11 +433,11 @@ module _ (read : Reads) (sound : IsSound read) where
       let c = onward_back (after (codes ",") k.0.1) _ b k.2 in
       let v = onward_back (read c.0) _ b c.2 in
       let z = onward_back (closed (codes ">") v.0.1) _ b v.2 in
-      let w = made_back (map_type k.0.0 v.0.0) z.0 b z.2 in
+      let w = built_back (map_type k.0.0 v.0.0) z.0 b z.2 in
       let there : codes "map" ∷ ts ≡ codes "map" ∷ codes "<" ∷ kind_word (simple_kind key.kind) ∷ codes "," ∷ c.0 =
       behind (codes "map") (codes "<") ts p.0 p.1 ∙ ap (λ l. codes "map" ∷ codes "<" ∷ l) (key.next ∙ ap (λ l. kind_word (simple_kind key.kind) ∷ l) (after_back (codes ",") k.0.1 c.0 c.1))
       in
-      of_tree (map_tree key.kind v.0.0) b.0 (codes "map" ∷ ts) b.1 (map_made k.0.0 v.0.0 key.kind b.0 key.is w.0) (c.0, v.0.1, there, sound c.0 v.0 v.1, subst (Closes (codes ">") v.0.1) w.1 (closed_back (codes ">") v.0.1 z.0 z.1))
+      of_tree (map_tree key.kind v.0.0) b.0 (codes "map" ∷ ts) b.1 (map_built k.0.0 v.0.0 key.kind b.0 key.is w.0) (c.0, v.0.1, there, sound c.0 v.0 v.1, subst (Closes (codes ">") v.0.1) w.1 (closed_back (codes ">") v.0.1 z.0 z.1))
 
   err_back : (A : Option TypeTree) (ts : Tokens) (b : TypeTree × Tokens) → err_read read A ts ≡ Some b → (m : Tokens) × (E : TypeTree) × (l : Tokens) × (ts ≡ codes "," ∷ m) × Spells E m l × Closes (codes ">") l b.1 × (b.0 ≡ result (maybe_type A) (a_type E))
   err_back A ts b e =
@@ -487,33 +487,33 @@ module _ (read : Reads) (sound : IsSound read) where
   kind_back kinds.Tuple ts b e =
       let p = onward_back (after (codes "<") ts) _ b e in
       let h = onward_back (types_read read p.0) _ b p.2 in
-      let w = made_back (tuple_type h.0.0) h.0.1 b h.2 in
-      let same = tuple_made h.0.0 b.0 w.0 in
+      let w = built_back (tuple_type h.0.0) h.0.1 b h.2 in
+      let same = tuple_built h.0.0 b.0 w.0 in
       of_tree (tuple (types_of h.0.0)) b.0 (codes "tuple" ∷ ts) b.1 same (p.0, behind (codes "tuple") (codes "<") ts p.0 p.1, subst (SpellsTypes (types_of h.0.0) p.0) w.1 (types_back p.0 h.0 h.1))
   kind_back kinds.Record ts b e =
       let p = onward_back (after (codes "{") ts) _ b e in
       let h = onward_back (fields_read read (codes "}") p.0) _ b p.2 in
-      let w = made_back (maker.record_type h.0.0) h.0.1 b h.2 in
+      let w = built_back (maker.record_type h.0.0) h.0.1 b h.2 in
       let q = fields_back (codes "}") p.0 h.0 h.1 in
-      of_tree (record_type (fields_of h.0.0)) b.0 (codes "record" ∷ ts) b.1 (record_made h.0.0 b.0 w.0) (p.0, behind (codes "record") (codes "{") ts p.0 p.1, subst (SpellsFields (codes "}") (fields_of h.0.0) p.0) w.1 q.0, q.1)
+      of_tree (record_type (fields_of h.0.0)) b.0 (codes "record" ∷ ts) b.1 (record_built h.0.0 b.0 w.0) (p.0, behind (codes "record") (codes "{") ts p.0 p.1, subst (SpellsFields (codes "}") (fields_of h.0.0) p.0) w.1 q.0, q.1)
   kind_back kinds.Variant ts b e =
       let p = onward_back (after (codes "{") ts) _ b e in
       let h = onward_back (cases_read read p.0) _ b p.2 in
-      let w = made_back (variant_type h.0.0) h.0.1 b h.2 in
+      let w = built_back (variant_type h.0.0) h.0.1 b h.2 in
       let q = cases_back p.0 h.0 h.1 in
-      of_tree (variant (cases_of h.0.0)) b.0 (codes "variant" ∷ ts) b.1 (variant_made h.0.0 b.0 w.0) (p.0, behind (codes "variant") (codes "{") ts p.0 p.1, subst (SpellsCases (cases_of h.0.0) p.0) w.1 q.0, q.1)
+      of_tree (variant (cases_of h.0.0)) b.0 (codes "variant" ∷ ts) b.1 (variant_built h.0.0 b.0 w.0) (p.0, behind (codes "variant") (codes "{") ts p.0 p.1, subst (SpellsCases (cases_of h.0.0) p.0) w.1 q.0, q.1)
   kind_back kinds.Enum ts b e =
       let p = onward_back (after (codes "{") ts) _ b e in
       let h = onward_back (names_read (codes "}") p.0) _ b p.2 in
-      let w = made_back (enum_type h.0.0) h.0.1 b h.2 in
+      let w = built_back (enum_type h.0.0) h.0.1 b h.2 in
       let q = names_back (codes "}") p.0 h.0 h.1 in
-      of_tree (enum h.0.0) b.0 (codes "enum" ∷ ts) b.1 (enum_made h.0.0 b.0 w.0) (p.0, behind (codes "enum") (codes "{") ts p.0 p.1, subst (SpellsNames (codes "}") h.0.0 p.0) w.1 q.spelled, q.distinct)
+      of_tree (enum h.0.0) b.0 (codes "enum" ∷ ts) b.1 (enum_built h.0.0 b.0 w.0) (p.0, behind (codes "enum") (codes "{") ts p.0 p.1, subst (SpellsNames (codes "}") h.0.0 p.0) w.1 q.spelled, q.distinct)
   kind_back kinds.Flags ts b e =
       let p = onward_back (after (codes "{") ts) _ b e in
       let h = onward_back (names_read (codes "}") p.0) _ b p.2 in
-      let w = made_back (flags_type h.0.0) h.0.1 b h.2 in
+      let w = built_back (flags_type h.0.0) h.0.1 b h.2 in
       let q = names_back (codes "}") p.0 h.0 h.1 in
-      of_tree (flags h.0.0) b.0 (codes "flags" ∷ ts) b.1 (flags_made h.0.0 b.0 w.0) (p.0, behind (codes "flags") (codes "{") ts p.0 p.1, subst (SpellsNames (codes "}") h.0.0 p.0) w.1 q.spelled, q.distinct)
+      of_tree (flags h.0.0) b.0 (codes "flags" ∷ ts) b.1 (flags_built h.0.0 b.0 w.0) (p.0, behind (codes "flags") (codes "{") ts p.0 p.1, subst (SpellsNames (codes "}") h.0.0 p.0) w.1 q.spelled, q.distinct)
   kind_back kinds.Bool ts b e = simple_back _ _ ts b refl e
   kind_back kinds.S8 ts b e = simple_back _ _ ts b refl e
   kind_back kinds.S16 ts b e = simple_back _ _ ts b refl e

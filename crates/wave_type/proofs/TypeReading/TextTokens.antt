@@ -6,13 +6,13 @@ use Rattle.std.proofs.lemmas.List.{length-take}
 use Rattle.wave_lex.specs.declared.lex.Token.{Token}
 use Rattle.wave_lex.specs.Tokens.{invalid, shape}
 use Rattle.wave_wasm.specs.Names.{is_one_of}
-use Rattle.wave_lex.specs.Tokenization.{IsGap, IsLongestToken, IsInvalid, Lexed, Passes, NextIs, remainder_of}
+use Rattle.wave_lex.specs.Tokenization.{IsWhitespace, IsLongestToken, IsInvalid, Lexed, Passes, NextIs, remainder_of}
 use Rattle.wave_lex.proofs.Tokenization.Classes.{shape_not_empty}
-use Rattle.wave_lex.proofs.Tokenization.OneCut.{same_gap, no_token_left}
+use Rattle.wave_lex.proofs.Tokenization.OneTokenization.{same_whitespace, no_token_left}
 use Rattle.wave_lex.proofs.Tokenization.LexerRuns.{passed_text, passed_rest}
-use Rattle.wave_lex.proofs.LongestPrefix.ByComputing.{front_positive}
+use Rattle.wave_lex.proofs.LongestPrefix.ByComputing.{prefix_positive}
 use Rattle.wave_type.specs.declared.tokens.Token.{Token as Piece}
-use Rattle.wave_type.specs.TypeSpelling.{Tokens, IsItem, IsCutInto}
+use Rattle.wave_type.specs.TypeSpelling.{Tokens, IsItem, IsTokenizedTo}
 use Rattle.wave_type.specs.Private.TypeTokens.{texts_of, item_of, items_of, IsKnownAs}
 use Rattle.wave_type.specs.TypeItems.{Item, texts_of_items, StandsAs, AreItems}
 use Rattle.wave_type.specs.TypeWords.{marks_of_types}
@@ -25,27 +25,27 @@ one_item s k j (inr t) (inr u) = let x : j ≤ k = t.1.1 j u.1.0 in let y : k �
 
 -- an invalid token takes bytes
 invalid_some : (s : List ℕ) (k : ℕ) → IsInvalid s k → 0 < k
-invalid_some s k h = front_positive invalid s k refl h.1.0
+invalid_some s k h = prefix_positive invalid s k refl h.1.0
 
-no_item_left : (s : List ℕ) (g k : ℕ) → IsGap s (length s) → IsGap s g → IsItem (drop g s) k → ⊥
+no_item_left : (s : List ℕ) (g k : ℕ) → IsWhitespace s (length s) → IsWhitespace s g → IsItem (drop g s) k → ⊥
 no_item_left s g k a b (inl (c, t)) = no_token_left s g k c a b t
 no_item_left s g k a b (inr t) =
-    let all : g ≡ length s = same_gap s g (length s) b a in
+    let all : g ≡ length s = same_whitespace s g (length s) b a in
     let some : 0 < k = invalid_some (drop g s) k t in
     let fits : k ≤ length (drop g s) = t.1.0.fits in
     omega (arith, length-drop g s)
 
 -- a text is tokenized in one way
-pub one_cut : (ts us : Tokens) (s : List ℕ) → IsCutInto s ts → IsCutInto s us → ts ≡ us
+pub one_cut : (ts us : Tokens) (s : List ℕ) → IsTokenizedTo s ts → IsTokenizedTo s us → ts ≡ us
 one_cut [] [] s a b = refl
-one_cut [] (u ∷ us) s a (g, k, gap, item, e, more) = absurd (no_item_left s g k a gap item)
-one_cut (t ∷ ts) [] s (g, k, gap, item, e, more) b = absurd (no_item_left s g k b gap item)
-one_cut (t ∷ ts) (u ∷ us) s (g, k, gap, item, e, more) (h, j, gap', item', e', more') =
-    let gaps : h ≡ g = same_gap s h g gap' gap in
-    let there : IsItem (drop g s) j = subst (λ z. IsItem (drop z s) j) gaps item' in
+one_cut [] (u ∷ us) s a (g, k, whitespace, item, e, more) = absurd (no_item_left s g k a whitespace item)
+one_cut (t ∷ ts) [] s (g, k, whitespace, item, e, more) b = absurd (no_item_left s g k b whitespace item)
+one_cut (t ∷ ts) (u ∷ us) s (g, k, whitespace, item, e, more) (h, j, whitespace', item', e', more') =
+    let whitespaces : h ≡ g = same_whitespace s h g whitespace' whitespace in
+    let there : IsItem (drop g s) j = subst (λ z. IsItem (drop z s) j) whitespaces item' in
     let sizes : j ≡ k = one_item (drop g s) j k there item in
-    let text : t ≡ u = e ∙ sym (e' ∙ (ap (λ z. take j (drop z s)) gaps ∙ ap (λ z. take z (drop g s)) sizes)) in
-    let rest : IsCutInto (drop (g + k) s) us = subst (λ z. IsCutInto (drop (g + z) s) us) sizes (subst (λ z. IsCutInto (drop (z + j) s) us) gaps more') in
+    let text : t ≡ u = e ∙ sym (e' ∙ (ap (λ z. take j (drop z s)) whitespaces ∙ ap (λ z. take z (drop g s)) sizes)) in
+    let rest : IsTokenizedTo (drop (g + k) s) us = subst (λ z. IsTokenizedTo (drop (g + z) s) us) sizes (subst (λ z. IsTokenizedTo (drop (z + j) s) us) whitespaces more') in
     let tail : ts ≡ us = one_cut ts us (drop (g + k) s) more rest in
     λ i. text i ∷ tail i
 
@@ -56,7 +56,7 @@ less_left l m g k p some fits = omega (arith, ap length (passed_rest l m g k p),
 
 -- each item leaves less
 pub next_less : (l m : Lexed) (item : Result Token (Range ℕ)) → NextIs l m (Some item) → length (remainder_of m) < length (remainder_of l)
-next_less l m (Ok c) (g, k, p, is) = less_left l m g k p (front_positive (shape c) (drop g (remainder_of l)) k (shape_not_empty c) is.is.0) is.is.0.fits
+next_less l m (Ok c) (g, k, p, is) = less_left l m g k p (prefix_positive (shape c) (drop g (remainder_of l)) k (shape_not_empty c) is.is.0) is.is.0.fits
 next_less l m (Err bad) (g, k, p, is, at) = less_left l m g k p (invalid_some (drop g (remainder_of l)) k is) is.1.0.fits
 
 -- and they come from one source
@@ -73,9 +73,9 @@ item_stands s k true (inr h) = inr h.0
 item_stands s k false h = inr h.0
 
 -- the texts of items cut the text
-pub items_cut : (s : List ℕ) (at : ℕ) (items : List Item) → AreItems s at items → IsCutInto s (texts_of_items items)
-items_cut s at [] gap = gap
-items_cut s at (i ∷ items) (g, k, gap, stands, text, start, more) = (g, k, gap, item_stands (drop g s) k i.known stands, text, items_cut (drop (g + k) s) (at + (g + k)) items more)
+pub items_cut : (s : List ℕ) (at : ℕ) (items : List Item) → AreItems s at items → IsTokenizedTo s (texts_of_items items)
+items_cut s at [] whitespace = whitespace
+items_cut s at (i ∷ items) (g, k, whitespace, stands, text, start, more) = (g, k, whitespace, item_stands (drop g s) k i.known stands, text, items_cut (drop (g + k) s) (at + (g + k)) items more)
 
 pub texts_of_kept : (tokens : List Piece) → texts_of_items (items_of tokens) ≡ texts_of tokens
 texts_of_kept [] = refl
@@ -88,13 +88,13 @@ item_fits s k (inr h) = h.1.0.fits
 -- an item lies in the text
 pub items_within : (s : List ℕ) (at n : ℕ) (tokens : List Piece) (t : Piece) → AreItems s at (items_of tokens) → n < length tokens → t ≡ get_or tokens n t → t.start + length t.text.now ≤ at + length s
 items_within s at n [] t h lt is = absurd (omega arith)
-items_within s at zero (u ∷ tokens) t (g, k, gap, stands, text, start, more) lt is =
+items_within s at zero (u ∷ tokens) t (g, k, whitespace, stands, text, start, more) lt is =
     let fits : k ≤ length (drop g s) = item_fits (drop g s) k (item_stands (drop g s) k u.known stands) in
     let size : length u.text.now ≡ min k (length (drop g s)) = ap length text ∙ length-take k (drop g s) in
-    subst (λ (z : Piece). z.start + length z.text.now ≤ at + length s) (sym is) (omega (arith, size, fits, start, gap.0.fits, length-drop g s))
-items_within s at (suc n) (u ∷ tokens) t (g, k, gap, stands, text, start, more) lt is =
+    subst (λ (z : Piece). z.start + length z.text.now ≤ at + length s) (sym is) (omega (arith, size, fits, start, whitespace.0.fits, length-drop g s))
+items_within s at (suc n) (u ∷ tokens) t (g, k, whitespace, stands, text, start, more) lt is =
     let fits : k ≤ length (drop g s) = item_fits (drop g s) k (item_stands (drop g s) k u.known stands) in
-    omega (arith, items_within (drop (g + k) s) (at + (g + k)) n tokens t more (omega arith) is, length-drop (g + k) s, length-drop g s, gap.0.fits, fits)
+    omega (arith, items_within (drop (g + k) s) (at + (g + k)) n tokens t more (omega arith) is, length-drop (g + k) s, length-drop g s, whitespace.0.fits, fits)
 
 -- the item at a place among those that are kept
 pub drop_kept : (tokens : List Piece) (n : ℕ) (t : Piece) → n < length tokens → t ≡ get_or tokens n t → drop n (items_of tokens) ≡ item_of t ∷ drop (suc n) (items_of tokens)

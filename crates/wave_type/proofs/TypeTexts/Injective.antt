@@ -10,13 +10,13 @@ use Rattle.wave_wasm.specs.Lists.{AllOf}
 use Rattle.wave_wasm.specs.declared.wasm.WasmTypeKind.{WasmTypeKind}
 use Rattle.wave_wasm.specs.declared.wasm.WasmTypeKind.TheVariants as kinds
 use Rattle.wave_wasm.specs.Types as type
-use Rattle.wave_wasm.specs.Types.{Simple, Unreadable, TypeTree, MaybeType, Types, Fields, Cases, no_type, a_type, no_types, type_and, no_fields, field, no_cases, case_of, simple_kind, unreadable_kind, kind_of, field_names, case_names, EachNamesOfMaybe, EachNamesOfTypes, EachNamesOfFields, EachNamesOfCases, every_maybe, every_type, every_field, every_case, can_be_made, has_names, IsRepresentable}
+use Rattle.wave_wasm.specs.Types.{Simple, Unreadable, TypeTree, MaybeType, Types, Fields, Cases, no_type, a_type, no_types, type_and, no_fields, field, no_cases, case_of, simple_kind, unreadable_kind, kind_of, field_names, case_names, EachNamesOfMaybe, EachNamesOfTypes, EachNamesOfFields, EachNamesOfCases, every_maybe, every_type, every_field, every_case, can_be_built, has_names, IsRepresentable}
 use Rattle.wave_wasm.specs.Commas.{joined, followed}
 use Rattle.wave_wasm.specs.TypeText.{kind_word, type_text, type_texts, field_texts, case_texts, payload_text}
 use Rattle.wave_lex.specs.Labels.{IsLabel, HasLabels}
 use Rattle.wave_wasm.proofs.TypesOfValues.TypeOfKind.{simple_is}
 use Rattle.wave_type.specs.TypeTexts.{TypeTextTells}
-use Rattle.wave_type.proofs.TypeTexts.Prefixes.{is_stop, has_no_stop, StopsFirst, first_of, one_front, regroup, label_goes_on, number_goes_on, one_kind, has_word}
+use Rattle.wave_type.proofs.TypeTexts.Prefixes.{is_stop, has_no_stop, StopsFirst, first_of, one_prefix, regroup, label_goes_on, number_goes_on, one_kind, has_word}
 
 -- ---- what is asked of a type and of its parts
 
@@ -24,46 +24,46 @@ short : (n : ℕ) → nat_lt n (2 ^ 32) ≡ true → n < 2 ^ 64
 short n h = omega (arith, ltb-true n (2 ^ 32) h)
 
 -- a type of `Type` whose names are labels
-abbrev pub IsTold : TypeTree → Type 0
-IsTold T = IsRepresentable T × HasLabels T
+abbrev pub IsReported : TypeTree → Type 0
+IsReported T = IsRepresentable T × HasLabels T
 
-abbrev pub IsToldMaybe : MaybeType → Type 0
-IsToldMaybe P = (every_maybe can_be_made P ≡ true) × EachNamesOfMaybe (AllOf IsLabel) P
+abbrev pub IsReportedMaybe : MaybeType → Type 0
+IsReportedMaybe P = (every_maybe can_be_built P ≡ true) × EachNamesOfMaybe (AllOf IsLabel) P
 
-abbrev pub AreToldTypes : Types → Type 0
-AreToldTypes Ts = (every_type can_be_made Ts ≡ true) × EachNamesOfTypes (AllOf IsLabel) Ts
+abbrev pub AreReportedTypes : Types → Type 0
+AreReportedTypes Ts = (every_type can_be_built Ts ≡ true) × EachNamesOfTypes (AllOf IsLabel) Ts
 
-abbrev pub AreToldFields : Fields → Type 0
-AreToldFields fs = (every_field can_be_made fs ≡ true) × (AllOf IsLabel (field_names fs) × EachNamesOfFields (AllOf IsLabel) fs)
+abbrev pub AreReportedFields : Fields → Type 0
+AreReportedFields fs = (every_field can_be_built fs ≡ true) × (AllOf IsLabel (field_names fs) × EachNamesOfFields (AllOf IsLabel) fs)
 
-abbrev pub AreToldCases : Cases → Type 0
-AreToldCases cs = (every_case can_be_made cs ≡ true) × (AllOf IsLabel (case_names cs) × EachNamesOfCases (AllOf IsLabel) cs)
+abbrev pub AreReportedCases : Cases → Type 0
+AreReportedCases cs = (every_case can_be_built cs ≡ true) × (AllOf IsLabel (case_names cs) × EachNamesOfCases (AllOf IsLabel) cs)
 
-pub first_type : (T : TypeTree) (more : Types) → AreToldTypes (type_and T more) → IsTold T × AreToldTypes more
+pub first_type : (T : TypeTree) (more : Types) → AreReportedTypes (type_and T more) → IsReported T × AreReportedTypes more
 first_type T more h = let p = and_parts _ _ h.0 in ((p.0, h.1.0), (p.1, h.1.1))
 
-pub first_field : (name : List ℕ) (T : TypeTree) (more : Fields) → AreToldFields (field name T more) → IsLabel name × (IsTold T × AreToldFields more)
+pub first_field : (name : List ℕ) (T : TypeTree) (more : Fields) → AreReportedFields (field name T more) → IsLabel name × (IsReported T × AreReportedFields more)
 first_field name T more h = let p = and_parts _ _ h.0 in (h.1.0.0, ((p.0, h.1.1.0), (p.1, (h.1.0.1, h.1.1.1))))
 
-pub first_case : (name : List ℕ) (P : MaybeType) (more : Cases) → AreToldCases (case_of name P more) → IsLabel name × (IsToldMaybe P × AreToldCases more)
+pub first_case : (name : List ℕ) (P : MaybeType) (more : Cases) → AreReportedCases (case_of name P more) → IsLabel name × (IsReportedMaybe P × AreReportedCases more)
 first_case name P more h = let p = and_parts _ _ h.0 in (h.1.0.0, ((p.0, h.1.1.0), (p.1, (h.1.0.1, h.1.1.1))))
 
-pub element_of_fixed : (E : TypeTree) (n : ℕ) → IsTold (type.fixed E n) → IsTold E × (n < 2 ^ 64)
+pub element_of_fixed : (E : TypeTree) (n : ℕ) → IsReported (type.fixed E n) → IsReported E × (n < 2 ^ 64)
 element_of_fixed E n h = let p = and_parts _ _ h.0 in ((p.1, h.1), short n p.0)
 
-pub types_of_tuple : (Ts : Types) → IsTold (type.tuple Ts) → AreToldTypes Ts × (has_names (type_texts Ts) ≡ true)
+pub types_of_tuple : (Ts : Types) → IsReported (type.tuple Ts) → AreReportedTypes Ts × (has_names (type_texts Ts) ≡ true)
 types_of_tuple no_types h = absurd (false≢true h.0)
 types_of_tuple (type_and T more) h = (h, refl)
 
-pub fields_of_record : (fs : Fields) → IsTold (type.record_type fs) → AreToldFields fs × (has_names (field_texts fs) ≡ true)
+pub fields_of_record : (fs : Fields) → IsReported (type.record_type fs) → AreReportedFields fs × (has_names (field_texts fs) ≡ true)
 fields_of_record no_fields h = absurd (false≢true h.0)
 fields_of_record (field name T more) h = (h, refl)
 
-pub cases_of_variant : (cs : Cases) → IsTold (type.variant cs) → AreToldCases cs × (has_names (case_texts cs) ≡ true)
+pub cases_of_variant : (cs : Cases) → IsReported (type.variant cs) → AreReportedCases cs × (has_names (case_texts cs) ≡ true)
 cases_of_variant no_cases h = absurd (false≢true h.0)
 cases_of_variant (case_of name P more) h = (h, refl)
 
-pub payloads_of_result : (A B : MaybeType) → IsTold (type.result A B) → IsToldMaybe A × IsToldMaybe B
+pub payloads_of_result : (A B : MaybeType) → IsReported (type.result A B) → IsReportedMaybe A × IsReportedMaybe B
 payloads_of_result A B h =
     let p = and_parts _ _ h.0 in
     ((p.0, h.1.0), (p.1, h.1.1))
@@ -96,9 +96,9 @@ not_end c r x other h e = false≢true (sym other ∙ subst Ends e h)
 -- ---- the first word of a type's text
 
 -- the kind whose word the text begins with: its own, but for a fixed-length list
-abbrev front_kind : TypeTree → WasmTypeKind
-front_kind (type.fixed E n) = kinds.List
-front_kind T = kind_of T
+abbrev prefix_kind : TypeTree → WasmTypeKind
+prefix_kind (type.fixed E n) = kinds.List
+prefix_kind T = kind_of T
 
 simple_word : (S : Simple) → has_no_stop (kind_word (simple_kind S)) ≡ true
 simple_word type.bool = refl
@@ -114,43 +114,43 @@ simple_word type.char = refl
 simple_word type.string = refl
 
 -- the text of the type, with what follows it, as its first word and what follows that
-record Fronted (T : TypeTree) (whole : List ℕ) : Type 0 where
+record Prefixed (T : TypeTree) (whole : List ℕ) : Type 0 where
   rest : List ℕ
-  is : whole ≡ kind_word (front_kind T) ++ rest
-  word : has_no_stop (kind_word (front_kind T)) ≡ true
+  is : whole ≡ kind_word (prefix_kind T) ++ rest
+  word : has_no_stop (kind_word (prefix_kind T)) ≡ true
   stops : StopsFirst rest
 
-fronted : (T : TypeTree) (r : List ℕ) → IsTold T → Ends r → Fronted T (type_text T ++ r)
-fronted (type.simple S) r h ends = record { rest = r; is = refl; word = simple_word S; stops = ends_stop r ends }
-fronted (type.unreadable type.f32) r h ends = record { rest = r; is = refl; word = refl; stops = ends_stop r ends }
-fronted (type.unreadable type.f64) r h ends = record { rest = r; is = refl; word = refl; stops = ends_stop r ends }
-fronted (type.unreadable type.unsupported) r h ends = absurd (false≢true h.0)
-fronted (type.list E) r h ends = record { rest = drop 4 (type_text (type.list E) ++ r); is = refl; word = refl; stops = refl }
-fronted (type.fixed E n) r h ends = record { rest = drop 4 (type_text (type.fixed E n) ++ r); is = refl; word = refl; stops = refl }
-fronted (type.record_type fs) r h ends = record { rest = drop 6 (type_text (type.record_type fs) ++ r); is = refl; word = refl; stops = refl }
-fronted (type.tuple Ts) r h ends = record { rest = drop 5 (type_text (type.tuple Ts) ++ r); is = refl; word = refl; stops = refl }
-fronted (type.variant cs) r h ends = record { rest = drop 7 (type_text (type.variant cs) ++ r); is = refl; word = refl; stops = refl }
-fronted (type.enum names) r h ends = record { rest = drop 4 (type_text (type.enum names) ++ r); is = refl; word = refl; stops = refl }
-fronted (type.option P) r h ends = record { rest = drop 6 (type_text (type.option P) ++ r); is = refl; word = refl; stops = refl }
-fronted (type.result no_type no_type) r h ends = record { rest = r; is = refl; word = refl; stops = ends_stop r ends }
-fronted (type.result no_type (a_type B)) r h ends = record { rest = drop 6 (type_text (type.result no_type (a_type B)) ++ r); is = refl; word = refl; stops = refl }
-fronted (type.result (a_type A) no_type) r h ends = record { rest = drop 6 (type_text (type.result (a_type A) no_type) ++ r); is = refl; word = refl; stops = refl }
-fronted (type.result (a_type A) (a_type B)) r h ends = record { rest = drop 6 (type_text (type.result (a_type A) (a_type B)) ++ r); is = refl; word = refl; stops = refl }
-fronted (type.flags names) r h ends = record { rest = drop 5 (type_text (type.flags names) ++ r); is = refl; word = refl; stops = refl }
-fronted (type.map K V) r h ends = record { rest = drop 3 (type_text (type.map K V) ++ r); is = refl; word = refl; stops = refl }
+prefixed : (T : TypeTree) (r : List ℕ) → IsReported T → Ends r → Prefixed T (type_text T ++ r)
+prefixed (type.simple S) r h ends = record { rest = r; is = refl; word = simple_word S; stops = ends_stop r ends }
+prefixed (type.unreadable type.f32) r h ends = record { rest = r; is = refl; word = refl; stops = ends_stop r ends }
+prefixed (type.unreadable type.f64) r h ends = record { rest = r; is = refl; word = refl; stops = ends_stop r ends }
+prefixed (type.unreadable type.unsupported) r h ends = absurd (false≢true h.0)
+prefixed (type.list E) r h ends = record { rest = drop 4 (type_text (type.list E) ++ r); is = refl; word = refl; stops = refl }
+prefixed (type.fixed E n) r h ends = record { rest = drop 4 (type_text (type.fixed E n) ++ r); is = refl; word = refl; stops = refl }
+prefixed (type.record_type fs) r h ends = record { rest = drop 6 (type_text (type.record_type fs) ++ r); is = refl; word = refl; stops = refl }
+prefixed (type.tuple Ts) r h ends = record { rest = drop 5 (type_text (type.tuple Ts) ++ r); is = refl; word = refl; stops = refl }
+prefixed (type.variant cs) r h ends = record { rest = drop 7 (type_text (type.variant cs) ++ r); is = refl; word = refl; stops = refl }
+prefixed (type.enum names) r h ends = record { rest = drop 4 (type_text (type.enum names) ++ r); is = refl; word = refl; stops = refl }
+prefixed (type.option P) r h ends = record { rest = drop 6 (type_text (type.option P) ++ r); is = refl; word = refl; stops = refl }
+prefixed (type.result no_type no_type) r h ends = record { rest = r; is = refl; word = refl; stops = ends_stop r ends }
+prefixed (type.result no_type (a_type B)) r h ends = record { rest = drop 6 (type_text (type.result no_type (a_type B)) ++ r); is = refl; word = refl; stops = refl }
+prefixed (type.result (a_type A) no_type) r h ends = record { rest = drop 6 (type_text (type.result (a_type A) no_type) ++ r); is = refl; word = refl; stops = refl }
+prefixed (type.result (a_type A) (a_type B)) r h ends = record { rest = drop 6 (type_text (type.result (a_type A) (a_type B)) ++ r); is = refl; word = refl; stops = refl }
+prefixed (type.flags names) r h ends = record { rest = drop 5 (type_text (type.flags names) ++ r); is = refl; word = refl; stops = refl }
+prefixed (type.map K V) r h ends = record { rest = drop 3 (type_text (type.map K V) ++ r); is = refl; word = refl; stops = refl }
 
 -- types with one text begin with the word of one kind
-same_front : (T U : TypeTree) (r s : List ℕ) → IsTold T → IsTold U → Ends r → Ends s → type_text T ++ r ≡ type_text U ++ s → front_kind T ≡ front_kind U
-same_front T U r s h k a b e =
-    let f = fronted T r h a in
-    let g = fronted U s k b in
-    one_kind _ _ (one_front (kind_word (front_kind T)) (kind_word (front_kind U)) f.rest g.rest f.word g.word f.stops g.stops (sym f.is ∙ (e ∙ g.is))).0
+same_prefix : (T U : TypeTree) (r s : List ℕ) → IsReported T → IsReported U → Ends r → Ends s → type_text T ++ r ≡ type_text U ++ s → prefix_kind T ≡ prefix_kind U
+same_prefix T U r s h k a b e =
+    let f = prefixed T r h a in
+    let g = prefixed U s k b in
+    one_kind _ _ (one_prefix (kind_word (prefix_kind T)) (kind_word (prefix_kind U)) f.rest g.rest f.word g.word f.stops g.stops (sym f.is ∙ (e ∙ g.is))).0
 
 -- no type's text begins with `_`
-no_underscore : (T : TypeTree) (r x : List ℕ) → IsTold T → Ends r → 95 ∷ x ≡ type_text T ++ r → ⊥
+no_underscore : (T : TypeTree) (r x : List ℕ) → IsReported T → Ends r → 95 ∷ x ≡ type_text T ++ r → ⊥
 no_underscore T r x h ends e =
-    let f = fronted T r h ends in
-    has_word (front_kind T) (one_front [] (kind_word (front_kind T)) (95 ∷ x) f.rest refl f.word refl f.stops (e ∙ f.is)).0
+    let f = prefixed T r h ends in
+    has_word (prefix_kind T) (one_prefix [] (kind_word (prefix_kind T)) (95 ∷ x) f.rest refl f.word refl f.stops (e ∙ f.is)).0
 
 -- ---- which of eleven forms a type has, by its first word
 
@@ -196,7 +196,7 @@ simple_form (type.whole type.u64) = refl
 simple_form type.char = refl
 simple_form type.string = refl
 
-form_is : (T : TypeTree) → form T ≡ form_of_kind (front_kind T)
+form_is : (T : TypeTree) → form T ≡ form_of_kind (prefix_kind T)
 form_is (type.simple S) = simple_form S
 form_is (type.unreadable type.f32) = refl
 form_is (type.unreadable type.f64) = refl
@@ -213,8 +213,8 @@ form_is (type.flags names) = refl
 form_is (type.map K V) = refl
 
 -- types with one text have one form
-same_form : (T U : TypeTree) (r s : List ℕ) → IsTold T → IsTold U → Ends r → Ends s → type_text T ++ r ≡ type_text U ++ s → (form T == form U) ≡ true
-same_form T U r s h k a b e = eq-eqb _ _ (form_is T ∙ (ap form_of_kind (same_front T U r s h k a b e) ∙ sym (form_is U)))
+same_form : (T U : TypeTree) (r s : List ℕ) → IsReported T → IsReported U → Ends r → Ends s → type_text T ++ r ≡ type_text U ++ s → (form T == form U) ≡ true
+same_form T U r s h k a b e = eq-eqb _ _ (form_is T ∙ (ap form_of_kind (same_prefix T U r s h k a b e) ∙ sym (form_is U)))
 
 one_simple : (S R : Simple) → simple_kind S ≡ simple_kind R → S ≡ R
 one_simple S R e = let same : type.simple R ≡ type.simple S = simple_is S (type.simple R) e in cc
@@ -252,7 +252,7 @@ names_tell [] (n ∷ ns) r s h k e = absurd (omega (arith, first_of e))
 names_tell (m ∷ ms) [] r s h k e = absurd (omega (arith, first_of e))
 names_tell (m ∷ ms) (n ∷ ns) r s h k e =
     let apart = regroup m (followed ms) (32 ∷ r) n (followed ns) (32 ∷ s) (ap (drop 2) e) in
-    let first = one_front m n _ _ (label_goes_on m h.0) (label_goes_on n k.0) (ends_stop _ (ends_row ms 32 r refl)) (ends_stop _ (ends_row ns 32 s refl)) apart in
+    let first = one_prefix m n _ _ (label_goes_on m h.0) (label_goes_on n k.0) (ends_stop _ (ends_row ms 32 r refl)) (ends_stop _ (ends_row ns 32 s refl)) apart in
     let others = names_tell ms ns r s h.1 k.1 first.1 in
     ((λ i. first.0 i ∷ others.0 i), others.1)
 
@@ -267,7 +267,7 @@ braced_tell ms ns r s h k l m e =
 -- the text of the payload's type determines it, where there is one
 abbrev MaybeTells : MaybeType → Type 0
 MaybeTells no_type = Unit {0}
-MaybeTells (a_type T) = (U : TypeTree) (r s : List ℕ) → IsTold T → IsTold U → Ends r → Ends s → type_text T ++ r ≡ type_text U ++ s → (T ≡ U) × (r ≡ s)
+MaybeTells (a_type T) = (U : TypeTree) (r s : List ℕ) → IsReported T → IsReported U → Ends r → Ends s → type_text T ++ r ≡ type_text U ++ s → (T ≡ U) × (r ≡ s)
 
 -- what stands after the word `result`, and what follows that
 abbrev behind_result : MaybeType → MaybeType → List ℕ → List ℕ
@@ -285,7 +285,7 @@ behind_is (a_type A) (a_type B) r =
     (append_assoc (type_text A ++ (codes ", " ++ type_text B)) (codes ">") r
     ∙ (append_assoc (type_text A) (codes ", " ++ type_text B) (codes ">" ++ r) ∙ ap (λ z. type_text A ++ z) refl))
 
-behind_tells : (A B C D : MaybeType) (r s : List ℕ) → MaybeTells A → MaybeTells B → IsToldMaybe A → IsToldMaybe B → IsToldMaybe C → IsToldMaybe D → Ends r → Ends s
+behind_tells : (A B C D : MaybeType) (r s : List ℕ) → MaybeTells A → MaybeTells B → IsReportedMaybe A → IsReportedMaybe B → IsReportedMaybe C → IsReportedMaybe D → Ends r → Ends s
     → behind_result A B r ≡ behind_result C D s → ((A ≡ C) × (B ≡ D)) × (r ≡ s)
 behind_tells no_type no_type no_type no_type r s t u h k l m a b e = ((refl, refl), e)
 behind_tells no_type no_type (a_type C) no_type r s t u h k l m a b e = absurd (not_end 60 r _ refl a e)
@@ -321,12 +321,12 @@ in_angles x y r s e = regroup x (codes ">") r y (codes ">") s e
 
 mutual
   -- a type's text determines the type and what follows it
-  tells : (T U : TypeTree) (r s : List ℕ) → IsTold T → IsTold U → Ends r → Ends s → type_text T ++ r ≡ type_text U ++ s → (T ≡ U) × (r ≡ s)
+  tells : (T U : TypeTree) (r s : List ℕ) → IsReported T → IsReported U → Ends r → Ends s → type_text T ++ r ≡ type_text U ++ s → (T ≡ U) × (r ≡ s)
   tells (type.simple S) (type.simple R) r s h k a b e =
-      let p = one_front (kind_word (simple_kind S)) (kind_word (simple_kind R)) r s (simple_word S) (simple_word R) (ends_stop r a) (ends_stop s b) e in
+      let p = one_prefix (kind_word (simple_kind S)) (kind_word (simple_kind R)) r s (simple_word S) (simple_word R) (ends_stop r a) (ends_stop s b) e in
       (ap type.simple (one_simple S R (one_kind _ _ p.0)), p.1)
   tells (type.unreadable u) (type.unreadable v) r s h k a b e =
-      let p = one_unreadable u v (same_front (type.unreadable u) (type.unreadable v) r s h k a b e) in
+      let p = one_unreadable u v (same_prefix (type.unreadable u) (type.unreadable v) r s h k a b e) in
       (ap type.unreadable p, append_cancel_left (kind_word (unreadable_kind u)) r s (e ∙ ap (λ z. kind_word (unreadable_kind z) ++ s) (sym p)))
   tells (type.list E) (type.list F) r s h k a b e =
       let p = tells E F (62 ∷ r) (62 ∷ s) h k refl refl (in_angles (type_text E) (type_text F) r s (ap (drop 5) e)) in
@@ -344,7 +344,7 @@ mutual
       let g = element_of_fixed F m k in
       let apart = regroup (type_text E) x (62 ∷ r) (type_text F) y (62 ∷ s) (in_angles (type_text E ++ x) (type_text F ++ y) r s (ap (drop 5) e)) in
       let p = tells E F (x ++ (62 ∷ r)) (y ++ (62 ∷ s)) f.0 g.0 refl refl apart in
-      let q = one_front (decimal n) (decimal m) (62 ∷ r) (62 ∷ s) (number_goes_on n f.1) (number_goes_on m g.1) refl refl (ap (drop 2) p.1) in
+      let q = one_prefix (decimal n) (decimal m) (62 ∷ r) (62 ∷ s) (number_goes_on n f.1) (number_goes_on m g.1) refl refl (ap (drop 2) p.1) in
       ((λ i. type.fixed (p.0 i) (decimal_injective n m f.1 g.1 q.0 i)), ap (drop 1) q.1)
   tells (type.record_type fs) (type.record_type gs) r s h k a b e =
       let f = fields_of_record fs h in
@@ -382,7 +382,7 @@ mutual
       let key = kind_word (simple_kind K) in
       let other = kind_word (simple_kind L) in
       let inner = in_angles (key ++ (codes ", " ++ type_text V)) (other ++ (codes ", " ++ type_text W)) r s (ap (drop 4) e) in
-      let p = one_front key other _ _ (simple_word K) (simple_word L) refl refl (regroup key (codes ", " ++ type_text V) (62 ∷ r) other (codes ", " ++ type_text W) (62 ∷ s) inner) in
+      let p = one_prefix key other _ _ (simple_word K) (simple_word L) refl refl (regroup key (codes ", " ++ type_text V) (62 ∷ r) other (codes ", " ++ type_text W) (62 ∷ s) inner) in
       let q = tells V W (62 ∷ r) (62 ∷ s) h k refl refl (ap (drop 2) p.1) in
       ((λ i. type.map (one_simple K L (one_kind _ _ p.0) i) (q.0 i)), ap (drop 1) q.1)
   tells T U r s h k a b e = absurd (false≢true (same_form T U r s h k a b e))
@@ -392,7 +392,7 @@ mutual
   maybe_tells (a_type T) = λ U r s h k a b e. tells T U r s h k a b e
 
   -- a payload in parentheses, or none
-  payload_tells : (P Q : MaybeType) (r s : List ℕ) → IsToldMaybe P → IsToldMaybe Q → Ends r → Ends s → payload_text P ++ r ≡ payload_text Q ++ s → (P ≡ Q) × (r ≡ s)
+  payload_tells : (P Q : MaybeType) (r s : List ℕ) → IsReportedMaybe P → IsReportedMaybe Q → Ends r → Ends s → payload_text P ++ r ≡ payload_text Q ++ s → (P ≡ Q) × (r ≡ s)
   payload_tells no_type no_type r s h k a b e = (refl, e)
   payload_tells no_type (a_type U) r s h k a b e = absurd (not_end 40 r _ refl a e)
   payload_tells (a_type T) no_type r s h k a b e = absurd (not_end 40 s _ refl b (sym e))
@@ -401,7 +401,7 @@ mutual
       (ap a_type p.0, ap (drop 1) p.1)
 
   -- types after commas, up to `>`
-  types_tell : (Ts Us : Types) (r s : List ℕ) → AreToldTypes Ts → AreToldTypes Us → followed (type_texts Ts) ++ (62 ∷ r) ≡ followed (type_texts Us) ++ (62 ∷ s) → (Ts ≡ Us) × (r ≡ s)
+  types_tell : (Ts Us : Types) (r s : List ℕ) → AreReportedTypes Ts → AreReportedTypes Us → followed (type_texts Ts) ++ (62 ∷ r) ≡ followed (type_texts Us) ++ (62 ∷ s) → (Ts ≡ Us) × (r ≡ s)
   types_tell no_types no_types r s h k e = (refl, ap (drop 1) e)
   types_tell no_types (type_and U Us) r s h k e = absurd (omega (arith, first_of e))
   types_tell (type_and T Ts) no_types r s h k e = absurd (omega (arith, first_of e))
@@ -414,7 +414,7 @@ mutual
       ((λ i. type_and (p.0 i) (q.0 i)), q.1)
 
   -- fields after commas, up to a space
-  fields_tell : (fs gs : Fields) (r s : List ℕ) → AreToldFields fs → AreToldFields gs → followed (field_texts fs) ++ (32 ∷ r) ≡ followed (field_texts gs) ++ (32 ∷ s) → (fs ≡ gs) × (r ≡ s)
+  fields_tell : (fs gs : Fields) (r s : List ℕ) → AreReportedFields fs → AreReportedFields gs → followed (field_texts fs) ++ (32 ∷ r) ≡ followed (field_texts gs) ++ (32 ∷ s) → (fs ≡ gs) × (r ≡ s)
   fields_tell no_fields no_fields r s h k e = (refl, ap (drop 1) e)
   fields_tell no_fields (field m U gs) r s h k e = absurd (omega (arith, first_of e))
   fields_tell (field n T fs) no_fields r s h k e = absurd (omega (arith, first_of e))
@@ -424,13 +424,13 @@ mutual
       let x = codes ": " ++ type_text T in
       let y = codes ": " ++ type_text U in
       let apart = regroup (n ++ x) (followed (field_texts fs)) (32 ∷ r) (m ++ y) (followed (field_texts gs)) (32 ∷ s) (ap (drop 2) e) in
-      let o = one_front n m _ _ (label_goes_on n f.0) (label_goes_on m g.0) refl refl (regroup n x _ m y _ apart) in
+      let o = one_prefix n m _ _ (label_goes_on n f.0) (label_goes_on m g.0) refl refl (regroup n x _ m y _ apart) in
       let p = tells T U _ _ f.1.0 g.1.0 (ends_row (field_texts fs) 32 r refl) (ends_row (field_texts gs) 32 s refl) (ap (drop 2) o.1) in
       let q = fields_tell fs gs r s f.1.1 g.1.1 p.1 in
       ((λ i. field (o.0 i) (p.0 i) (q.0 i)), q.1)
 
   -- cases after commas, up to a space
-  cases_tell : (cs ds : Cases) (r s : List ℕ) → AreToldCases cs → AreToldCases ds → followed (case_texts cs) ++ (32 ∷ r) ≡ followed (case_texts ds) ++ (32 ∷ s) → (cs ≡ ds) × (r ≡ s)
+  cases_tell : (cs ds : Cases) (r s : List ℕ) → AreReportedCases cs → AreReportedCases ds → followed (case_texts cs) ++ (32 ∷ r) ≡ followed (case_texts ds) ++ (32 ∷ s) → (cs ≡ ds) × (r ≡ s)
   cases_tell no_cases no_cases r s h k e = (refl, ap (drop 1) e)
   cases_tell no_cases (case_of m Q ds) r s h k e = absurd (omega (arith, first_of e))
   cases_tell (case_of n P cs) no_cases r s h k e = absurd (omega (arith, first_of e))
@@ -444,7 +444,7 @@ mutual
       let a = ends_row (case_texts cs) 32 r refl in
       let b = ends_row (case_texts ds) 32 s refl in
       let apart = regroup (n ++ x) (followed (case_texts cs)) (32 ∷ r) (m ++ y) (followed (case_texts ds)) (32 ∷ s) (ap (drop 2) e) in
-      let o = one_front n m (x ++ v) (y ++ w) (label_goes_on n f.0) (label_goes_on m g.0) (payload_stops P v a) (payload_stops Q w b) (regroup n x v m y w apart) in
+      let o = one_prefix n m (x ++ v) (y ++ w) (label_goes_on n f.0) (label_goes_on m g.0) (payload_stops P v a) (payload_stops Q w b) (regroup n x v m y w apart) in
       let p = payload_tells P Q v w f.1.0 g.1.0 a b o.1 in
       let q = cases_tell cs ds r s f.1.1 g.1.1 p.1 in
       ((λ i. case_of (o.0 i) (p.0 i) (q.0 i)), q.1)

@@ -48,8 +48,8 @@ pub turn_written : {W : Type 0} (took : W → List ℕ → W → Type 0) {A : Ty
 turn_written took text xs i s x less at sep f g h k before comma part = put_three took f g h k _ _ _ _ before comma part (joined_turn text xs i s x less sep at)
 
 -- two texts in angle brackets, as they are written one after the other
-pub pair_text : (front a b all : List ℕ) → front ++ ((a ++ (codes ", " ++ b)) ++ codes ">") ≡ all → front ++ (a ++ (codes ", " ++ (b ++ codes ">"))) ≡ all
-pair_text front a b all e = ap (λ z. front ++ z) (sym (append_assoc a (codes ", " ++ b) (codes ">"))) ∙ e
+pub pair_text : (prefix a b all : List ℕ) → prefix ++ ((a ++ (codes ", " ++ b)) ++ codes ">") ≡ all → prefix ++ (a ++ (codes ", " ++ (b ++ codes ">"))) ≡ all
+pair_text prefix a b all e = ap (λ z. prefix ++ z) (sym (append_assoc a (codes ", " ++ b) (codes ">"))) ∙ e
 
 -- the text of a list of fixed length, likewise
 pub fixed_text : (E : TypeTree) (n : ℕ) (T : TypeTree) → fixed E n ≡ T → codes "list<" ++ (type_text E ++ (codes ", " ++ (decimal n ++ codes ">"))) ≡ type_text T

@@ -38,15 +38,15 @@ pub first_of : {c d : ℕ} {r s : List ℕ} → c ∷ r ≡ d ∷ s → c ≡ d
 first_of e = ap (λ l. get_or l 0 0) e
 
 -- what stands before the first stop is one word or name, and what follows is one
-pub one_front : (x y r s : List ℕ) → has_no_stop x ≡ true → has_no_stop y ≡ true → StopsFirst r → StopsFirst s → x ++ r ≡ y ++ s → (x ≡ y) × (r ≡ s)
-one_front [] [] r s h k a b e = (refl, e)
-one_front [] (d ∷ y) [] s h k a b e = absurd (cc)
-one_front [] (d ∷ y) (c ∷ r) s h k a b e = absurd (stop_differs c d a (and_parts _ _ k).0 (first_of e))
-one_front (c ∷ x) [] r [] h k a b e = absurd (cc)
-one_front (c ∷ x) [] r (d ∷ s) h k a b e = absurd (stop_differs d c b (and_parts _ _ h).0 (sym (first_of e)))
-one_front (c ∷ x) (d ∷ y) r s h k a b e =
+pub one_prefix : (x y r s : List ℕ) → has_no_stop x ≡ true → has_no_stop y ≡ true → StopsFirst r → StopsFirst s → x ++ r ≡ y ++ s → (x ≡ y) × (r ≡ s)
+one_prefix [] [] r s h k a b e = (refl, e)
+one_prefix [] (d ∷ y) [] s h k a b e = absurd (cc)
+one_prefix [] (d ∷ y) (c ∷ r) s h k a b e = absurd (stop_differs c d a (and_parts _ _ k).0 (first_of e))
+one_prefix (c ∷ x) [] r [] h k a b e = absurd (cc)
+one_prefix (c ∷ x) [] r (d ∷ s) h k a b e = absurd (stop_differs d c b (and_parts _ _ h).0 (sym (first_of e)))
+one_prefix (c ∷ x) (d ∷ y) r s h k a b e =
     let p : c ≡ d = first_of e in
-    let q = one_front x y r s (and_parts _ _ h).1 (and_parts _ _ k).1 a b (ap (drop 1) e) in
+    let q = one_prefix x y r s (and_parts _ _ h).1 (and_parts _ _ k).1 a b (ap (drop 1) e) in
     ((λ i. p i ∷ q.0 i), q.1)
 
 -- the parts of two texts, the other way in parentheses

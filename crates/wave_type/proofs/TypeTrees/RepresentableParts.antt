@@ -5,22 +5,22 @@ use Rattle.std.specs.Cmp.Derive.{both_true}
 use Rattle.std.specs.declared.alloc.Global.{Global}
 use Rattle.wave_wasm.specs.Lists.{AllOf}
 use Rattle.wave_wasm.specs.Borrowed.{named}
-use Rattle.wave_wasm.specs.Types.{TypeTree, types_of, fields_of, cases_of, maybe_type, IsRepresentable, every_type, every_field, every_case, every_maybe, can_be_made, record_type, tuple, variant}
+use Rattle.wave_wasm.specs.Types.{TypeTree, types_of, fields_of, cases_of, maybe_type, IsRepresentable, every_type, every_field, every_case, every_maybe, can_be_built, record_type, tuple, variant}
 use Rattle.wave_type.specs.TypeModel.{by_bytes}
 
 -- the payload's type, where there is one, is a tree of `Type`
 abbrev pub IsOwnPayload : Option TypeTree → Type 0
-IsOwnPayload payload = every_maybe can_be_made (maybe_type payload) ≡ true
+IsOwnPayload payload = every_maybe can_be_built (maybe_type payload) ≡ true
 
-types_own : (Ts : List TypeTree) → AllOf IsRepresentable Ts → every_type can_be_made (types_of Ts) ≡ true
+types_own : (Ts : List TypeTree) → AllOf IsRepresentable Ts → every_type can_be_built (types_of Ts) ≡ true
 types_own [] h = refl
 types_own (T ∷ Ts) h = both_true h.0 (types_own Ts h.1)
 
-fields_own : (fs : List (String Global × TypeTree)) → AllOf (λ f. IsRepresentable f.1) fs → every_field can_be_made (fields_of (map by_bytes fs)) ≡ true
+fields_own : (fs : List (String Global × TypeTree)) → AllOf (λ f. IsRepresentable f.1) fs → every_field can_be_built (fields_of (map by_bytes fs)) ≡ true
 fields_own [] h = refl
 fields_own (f ∷ fs) h = both_true h.0 (fields_own fs h.1)
 
-cases_own : (cs : List (String Global × Option TypeTree)) → AllOf (λ c. IsOwnPayload c.1) cs → every_case can_be_made (cases_of (map by_bytes cs)) ≡ true
+cases_own : (cs : List (String Global × Option TypeTree)) → AllOf (λ c. IsOwnPayload c.1) cs → every_case can_be_built (cases_of (map by_bytes cs)) ≡ true
 cases_own [] h = refl
 cases_own (c ∷ cs) h = both_true h.0 (cases_own cs h.1)
 

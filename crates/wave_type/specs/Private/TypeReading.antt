@@ -11,7 +11,7 @@ use Rattle.wave_wasm.specs.declared.wasm.WasmTypeKind.TheVariants as kinds
 use Rattle.wave_wasm.specs.Names.{is_one_of}
 use Rattle.wave_wasm.specs.Types as type
 use Rattle.wave_wasm.specs.Types.{TypeTree, maybe_type}
-use Rattle.wave_type.specs.TypeMade.{simple_type, record_type, tuple_type, variant_type, enum_type, flags_type, map_type}
+use Rattle.wave_type.specs.TypeConstructors.{simple_type, record_type, tuple_type, variant_type, enum_type, flags_type, map_type}
 use Rattle.wave_type.specs.TypeSpelling.{Tokens}
 use Rattle.wave_type.specs.TypeWords.{onward, kind_of_word, key_of_word, name_of_token, count_of_token}
 
@@ -29,9 +29,9 @@ module _ {A : Type 0} where
   with a (Some rest) = Some (a, rest)
 
   -- what was made is read, where it was made
-  abbrev pub made : Option A → Tokens → Option (A × Tokens)
-  made None rest = None
-  made (Some a) rest = Some (a, rest)
+  abbrev pub built : Option A → Tokens → Option (A × Tokens)
+  built None rest = None
+  built (Some a) rest = Some (a, rest)
 
 -- ---- one token
 
@@ -52,7 +52,7 @@ first_of (t ∷ ts) = Some t
 -- the kind whose word stands next, and what follows
 abbrev pub kind_at : Tokens → Option (WasmTypeKind × Tokens)
 kind_at [] = None
-kind_at (t ∷ ts) = made (kind_of_word t) ts
+kind_at (t ∷ ts) = built (kind_of_word t) ts
 
 -- the name that stands next
 abbrev pub name_at : Tokens → Option (List ℕ)
@@ -70,7 +70,7 @@ new_name seen ts = onward (name_at ts) (λ name. if is_one_of seen name then Non
 -- the count that stands next, and what follows
 abbrev pub count_at : Tokens → Option (ℕ × Tokens)
 count_at [] = None
-count_at (t ∷ ts) = made (count_of_token t) ts
+count_at (t ∷ ts) = built (count_of_token t) ts
 
 -- ---- parts with commas between
 
@@ -87,11 +87,11 @@ names_read mark ts = parts new_name mark (length ts) [] ts
 
 -- what stands after `enum`
 abbrev pub enum_read : Tokens → Option (TypeTree × Tokens)
-enum_read ts = onward (after (codes "{") ts) (λ m. onward (names_read (codes "}") m) (λ names. made (enum_type names.0) names.1))
+enum_read ts = onward (after (codes "{") ts) (λ m. onward (names_read (codes "}") m) (λ names. built (enum_type names.0) names.1))
 
 -- what stands after `flags`
 abbrev pub flags_read : Tokens → Option (TypeTree × Tokens)
-flags_read ts = onward (after (codes "{") ts) (λ m. onward (names_read (codes "}") m) (λ names. made (flags_type names.0) names.1))
+flags_read ts = onward (after (codes "{") ts) (λ m. onward (names_read (codes "}") m) (λ names. built (flags_type names.0) names.1))
 
 -- ---- types
 
@@ -110,7 +110,7 @@ fixed_read E ts = onward (after (codes ",") ts) (fixed_behind E)
 -- the key type that stands next
 abbrev pub key_at : Tokens → Option (TypeTree × Tokens)
 key_at [] = None
-key_at (t ∷ ts) = made (key_of_word t) ts
+key_at (t ∷ ts) = built (key_of_word t) ts
 
 module _ {A : Type 0} where
   -- the names of fields or of cases
@@ -156,7 +156,7 @@ module _ (read : Reads) where
 
   -- the type of a map's values through `>`, after the key type
   abbrev pub map_behind : TypeTree → Reads
-  map_behind K ts = onward (read ts) (λ V. onward (closed (codes ">") V.1) (made (map_type K V.0)))
+  map_behind K ts = onward (read ts) (λ V. onward (closed (codes ">") V.1) (built (map_type K V.0)))
 
   -- what stands after `map`
   abbrev pub map_read : Reads
@@ -188,26 +188,26 @@ module _ (read : Reads) where
   kind_read kinds.Option ts = option_read ts
   kind_read kinds.Map ts = map_read ts
   kind_read kinds.Result ts = result_read ts (after (codes "<") ts)
-  kind_read kinds.Tuple ts = onward (after (codes "<") ts) (λ m. onward (types_read m) (λ Ts. made (tuple_type Ts.0) Ts.1))
-  kind_read kinds.Record ts = onward (after (codes "{") ts) (λ m. onward (fields_read (codes "}") m) (λ fs. made (record_type fs.0) fs.1))
-  kind_read kinds.Variant ts = onward (after (codes "{") ts) (λ m. onward (cases_read m) (λ cs. made (variant_type cs.0) cs.1))
+  kind_read kinds.Tuple ts = onward (after (codes "<") ts) (λ m. onward (types_read m) (λ Ts. built (tuple_type Ts.0) Ts.1))
+  kind_read kinds.Record ts = onward (after (codes "{") ts) (λ m. onward (fields_read (codes "}") m) (λ fs. built (record_type fs.0) fs.1))
+  kind_read kinds.Variant ts = onward (after (codes "{") ts) (λ m. onward (cases_read m) (λ cs. built (variant_type cs.0) cs.1))
   kind_read kinds.Enum ts = enum_read ts
   kind_read kinds.Flags ts = flags_read ts
-  kind_read kinds.Bool ts = made (simple_type kinds.Bool) ts
-  kind_read kinds.S8 ts = made (simple_type kinds.S8) ts
-  kind_read kinds.S16 ts = made (simple_type kinds.S16) ts
-  kind_read kinds.S32 ts = made (simple_type kinds.S32) ts
-  kind_read kinds.S64 ts = made (simple_type kinds.S64) ts
-  kind_read kinds.U8 ts = made (simple_type kinds.U8) ts
-  kind_read kinds.U16 ts = made (simple_type kinds.U16) ts
-  kind_read kinds.U32 ts = made (simple_type kinds.U32) ts
-  kind_read kinds.U64 ts = made (simple_type kinds.U64) ts
-  kind_read kinds.F32 ts = made (simple_type kinds.F32) ts
-  kind_read kinds.F64 ts = made (simple_type kinds.F64) ts
-  kind_read kinds.Char ts = made (simple_type kinds.Char) ts
-  kind_read kinds.String ts = made (simple_type kinds.String) ts
-  kind_read kinds.FixedLengthList ts = made (simple_type kinds.FixedLengthList) ts
-  kind_read kinds.Unsupported ts = made (simple_type kinds.Unsupported) ts
+  kind_read kinds.Bool ts = built (simple_type kinds.Bool) ts
+  kind_read kinds.S8 ts = built (simple_type kinds.S8) ts
+  kind_read kinds.S16 ts = built (simple_type kinds.S16) ts
+  kind_read kinds.S32 ts = built (simple_type kinds.S32) ts
+  kind_read kinds.S64 ts = built (simple_type kinds.S64) ts
+  kind_read kinds.U8 ts = built (simple_type kinds.U8) ts
+  kind_read kinds.U16 ts = built (simple_type kinds.U16) ts
+  kind_read kinds.U32 ts = built (simple_type kinds.U32) ts
+  kind_read kinds.U64 ts = built (simple_type kinds.U64) ts
+  kind_read kinds.F32 ts = built (simple_type kinds.F32) ts
+  kind_read kinds.F64 ts = built (simple_type kinds.F64) ts
+  kind_read kinds.Char ts = built (simple_type kinds.Char) ts
+  kind_read kinds.String ts = built (simple_type kinds.String) ts
+  kind_read kinds.FixedLengthList ts = built (simple_type kinds.FixedLengthList) ts
+  kind_read kinds.Unsupported ts = built (simple_type kinds.Unsupported) ts
 
 -- a type, within this number of levels
 abbrev pub type_read : ℕ → Reads

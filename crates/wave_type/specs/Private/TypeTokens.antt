@@ -30,12 +30,12 @@ abbrev pub IsKnownAs : Result lex.Token (Range ℕ) → List ℕ → Bool → Ty
 IsKnownAs (Ok class) text known = known ≡ true
 IsKnownAs (Err bad) text known = known ≡ is_one_of marks_of_types text
 
--- why the next token, or the end, is refused where another is due
+-- why the next token, or the end, is refused where another is expected
 abbrev pub misplaced : Tokens → TypeErrorKind
 misplaced [] = UnexpectedEnd
 misplaced (t ∷ ts) = UnexpectedToken
 
--- why a token that is this name is refused where a name is due that is none of these
+-- why a token that is this name is refused where a name is expected that is none of these
 abbrev pub name_fault : List (List ℕ) → Option (List ℕ) → Option TypeErrorKind
 name_fault names None = Some UnexpectedToken
 name_fault names (Some name) = if is_one_of names name then Some DuplicateName else None
@@ -45,13 +45,13 @@ abbrev pub name_refused : List (List ℕ) → Tokens → Option TypeErrorKind
 name_refused names [] = Some UnexpectedEnd
 name_refused names (t ∷ ts) = name_fault names (name_of_token t)
 
--- there was no memory; or where these are due, whatever is due after them, the tokens are refused so
+-- there was no memory; or where these are expected, whatever is expected after them, the tokens are refused so
 abbrev pub Fails : (List Expectation → List Expectation) → Tokens → TypeErrorKind → Tokens → Type 0
-Fails due ts kind rest = (kind ≡ OutOfMemory) ⊎ ((dues : List Expectation) → refused ts (due dues) ≡ Some (kind, rest))
+Fails expected ts kind rest = (kind ≡ OutOfMemory) ⊎ ((expectations : List Expectation) → refused ts (expected expectations) ≡ Some (kind, rest))
 
--- where this is due, whatever is due after it, the tokens are refused so
+-- where this is expected, whatever is expected after it, the tokens are refused so
 abbrev pub IsRefused : Expectation → Tokens → TypeErrorKind → Tokens → Type 0
-IsRefused due ts kind rest = (dues : List Expectation) → refused ts (due ∷ dues) ≡ Some (kind, rest)
+IsRefused expected ts kind rest = (expectations : List Expectation) → refused ts (expected ∷ expectations) ≡ Some (kind, rest)
 
 -- a comma stands next, and not the mark after it
 pub record GoesOn (mark : List ℕ) (ts rest : Tokens) : Type 0 where
@@ -63,9 +63,9 @@ pub record GoesOn (mark : List ℕ) (ts rest : Tokens) : Type 0 where
 abbrev pub RefusesName : List (List ℕ) → Tokens → TypeErrorKind → Tokens → Type 0
 RefusesName names ts kind rest = (kind ≡ OutOfMemory) ⊎ ((rest ≡ ts) × (name_refused names ts ≡ Some kind))
 
--- there was no memory, or where these are due the tokens are refused so
+-- there was no memory, or where these are expected the tokens are refused so
 abbrev pub IsRefusal : List Expectation → Tokens → TypeErrorKind → Tokens → Type 0
-IsRefusal dues ts kind rest = (kind ≡ OutOfMemory) ⊎ (refused ts dues ≡ Some (kind, rest))
+IsRefusal expectations ts kind rest = (kind ≡ OutOfMemory) ⊎ (refused ts expectations ≡ Some (kind, rest))
 
 -- the refusal is one for memory where there was none, and else stands at the first of these items and is of this kind
 pub record IsRefusalAt (text : List ℕ) (left : List Item) (kind : TypeErrorKind) (e : TypeRefusal) : Type 0 where
@@ -73,7 +73,7 @@ pub record IsRefusalAt (text : List ℕ) (left : List Item) (kind : TypeErrorKin
   pub stands : (kind ≡ OutOfMemory → ⊥) → StandsAtFirst text left kind e
 
 module _ {A B : Type 0} (view : A → B) where
-  -- what was read, and the tokens after it; or the tokens are refused where these are due, or there was no memory
+  -- what was read, and the tokens after it; or the tokens are refused where these are expected, or there was no memory
   abbrev pub Answers : Result A TypeErrorKind → Tokens → Tokens → Option (B × Tokens) → (List Expectation → List Expectation) → Type 0
-  Answers (Ok a) old new read dues = read ≡ Some (view a, new)
-  Answers (Err kind) old new read dues = Fails dues old kind new
+  Answers (Ok a) old new read expectations = read ≡ Some (view a, new)
+  Answers (Err kind) old new read expectations = Fails expectations old kind new

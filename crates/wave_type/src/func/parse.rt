@@ -5,11 +5,11 @@ ghost use Rattle.wave_wasm.specs.Borrowed.{named};
 ghost use Rattle.wave_type.specs.declared.error.TypeErrorKind.TheVariants.{OutOfMemory};
 ghost use Rattle.wave_type.specs.FunctionSpelling.{SpellsFunction, IsFunctionOf, IsNoFunction, levels_of_function};
 ghost use Rattle.wave_type.specs.Private.FunctionType.{named_function};
-ghost use Rattle.wave_type.specs.GoodNames.{IsGoodFunction};
+ghost use Rattle.wave_type.specs.DistinctLabels.{FunctionHasDistinctLabels};
 ghost use Rattle.wave_type.specs.Private.FunctionReading.{params_read, result_parts_read, results_read, function_read};
 ghost use Rattle.wave_type.specs.Private.TypeReading.{after, type_read};
 ghost use Rattle.wave_type.specs.Private.TypeTokens.{Answers, IsRefusal};
-ghost use Rattle.wave_type.specs.TypeFaults.{due_of_function, mark_due, last_due, results_due, result_due, more_fields};
+ghost use Rattle.wave_type.specs.TypeFaults.{expected_of_function, mark_expected, last_expected, results_expected, result_expected, more_fields};
 ghost use Rattle.wave_type.specs.TypeItems.{IsFunctionFault};
 ghost use Rattle.wave_type.specs.TypeModel.{by_bytes};
 
@@ -28,7 +28,7 @@ impl FuncType {
     pub fn parse(alloc: Global, text: &str) -> Result<FuncType, TypeError>
         ensures spelled { IfOk result (λ f. IsFunctionOf text.now f) }
         ensures levels { IfOk result (λ f. levels_of_function f ≤ 100) }
-        ensures labels { IfOk result (λ f. IsGoodFunction f) }
+        ensures labels { IfOk result (λ f. FunctionHasDistinctLabels f) }
         ensures refused { IfErr result (λ e. IsNoFunction text.now e.kind) }
         ensures fault { IfErr result (λ e. IsFunctionFault text.now e) }
         ensures within { IfErr result (λ e. LiesInText text.now e.span) }
@@ -56,14 +56,14 @@ fn whole_function(
 ) -> Result<FuncType, TypeErrorKind>
     ensures spelled { IfOk result (λ f. SpellsFunction f reader.old) }
     ensures levels { IfOk result (λ f. levels_of_function f ≤ levels) }
-    ensures labels { IfOk result (λ f. IsGoodFunction f) }
-    ensures refused { IfErr result (λ kind. IsRefusal (due_of_function levels) reader.old kind reader.new) }
+    ensures labels { IfOk result (λ f. FunctionHasDistinctLabels f) }
+    ensures refused { IfErr result (λ kind. IsRefusal (expected_of_function levels) reader.old kind reader.new) }
 {
     let (params, results) = function(alloc, reader, levels)?;
     if reader.count() > 0 {
         return Err(TypeErrorKind::UnexpectedToken);
     }
-    made(alloc, params, results)
+    built(alloc, params, results)
 }
 
 /// Takes the parameters and the results of a function.
@@ -73,7 +73,7 @@ fn function<'text>(
     levels: usize,
 ) -> Result<(Parts<'text>, Parts<'text>), TypeErrorKind>
     ensures { Answers (λ p. named_function p.0.items p.1.items) result reader.old reader.new (function_read (type_read levels) reader.old)
-        (λ dues. due_of_function levels ++ dues) }
+        (λ expectations. expected_of_function levels ++ expectations) }
 {
     reader.expect("func")?;
     reader.expect("(")?;
@@ -89,7 +89,7 @@ fn params<'text>(
     levels: usize,
 ) -> Result<Parts<'text>, TypeErrorKind>
     ensures { Answers (λ v. named v.items) result reader.old reader.new (params_read (type_read levels) reader.old (after (codes ")") reader.old))
-        (λ dues. last_due (codes ")") (more_fields levels []) ∷ dues) }
+        (λ expectations. last_expected (codes ")") (more_fields levels []) ∷ expectations) }
 {
     if reader.takes(")") {
         return Ok(Vec::new(alloc));
@@ -104,7 +104,7 @@ fn results<'text>(
     levels: usize,
 ) -> Result<Parts<'text>, TypeErrorKind>
     ensures { Answers (λ v. named v.items) result reader.old reader.new (results_read (type_read levels) reader.old (after (codes "-") reader.old))
-        (λ dues. results_due levels ∷ dues) }
+        (λ expectations. results_expected levels ∷ expectations) }
 {
     if !reader.takes("-") {
         return Ok(Vec::new(alloc));
@@ -120,7 +120,7 @@ fn result_parts<'text>(
     levels: usize,
 ) -> Result<Parts<'text>, TypeErrorKind>
     ensures { Answers (λ v. named v.items) result reader.old reader.new (result_parts_read (type_read levels) reader.old (after (codes "(") reader.old))
-        (λ dues. result_due levels ∷ dues) }
+        (λ expectations. result_expected levels ∷ expectations) }
 {
     if reader.takes("(") {
         return reader.fields(alloc, levels, ")");
@@ -132,8 +132,8 @@ fn result_parts<'text>(
 }
 
 /// The type of a function of these parameters and results, which have names.
-fn made(alloc: Global, params: Parts<'_>, results: Parts<'_>) -> Result<FuncType, TypeErrorKind>
-    ensures made { IfOk result (λ f. f ≡ named_function params.entry.items results.entry.items) }
+fn built(alloc: Global, params: Parts<'_>, results: Parts<'_>) -> Result<FuncType, TypeErrorKind>
+    ensures built { IfOk result (λ f. f ≡ named_function params.entry.items results.entry.items) }
     ensures memory { IfErr result (λ kind. kind ≡ OutOfMemory) }
 {
     let params = owned_parts(alloc, params)?;

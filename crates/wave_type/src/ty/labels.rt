@@ -1,7 +1,7 @@
 //! Whether the names within a type are labels.
 ghost use Rattle.std.specs.Prelude.{◌≡◌, ◌↔◌, IsTrue, map};
 ghost use Rattle.wave_wasm.specs.Types.{IsRepresentable, types_of, fields_of, cases_of, maybe_type};
-ghost use Rattle.wave_lex.specs.Labels.{Good};
+ghost use Rattle.wave_lex.specs.Labels.{HasDistinctLabels};
 ghost use Rattle.wave_type.specs.TypeModel.{by_bytes};
 ghost use Rattle.wave_type.specs.Private.NameIndex.{AreFirstPlaces};
 ghost use Rattle.wave_type.specs.Private.LabelTest.{are_label_names, names_pass, types_pass, fields_pass, cases_pass, payload_passes};
@@ -17,7 +17,7 @@ impl Type {
     /// Whether within each record, variant, enum and flags of the type the names are labels, and
     /// no name stands twice. The type's tree is one that a type can have.
     pub fn names_are_labels(&self) -> bool
-        ensures labels { IsTrue result ↔ Good self.now }
+        ensures labels { IsTrue result ↔ HasDistinctLabels self.now }
         ensures own { IsRepresentable self.now }
     {
         let _ = &self.shape;

@@ -1,9 +1,9 @@
 //! Types from their texts.
 ghost use Rattle.std.specs.Prelude.{◌≡◌, ◌≤◌, ◌-◌, IfOk, IfErr, [], drop, length};
 ghost use Rattle.wave_lex.specs.Errors.{LiesInText};
-ghost use Rattle.wave_lex.specs.Labels.{Good};
+ghost use Rattle.wave_lex.specs.Labels.{HasDistinctLabels};
 ghost use Rattle.wave_type.specs.Private.TypeTokens.{IsRefusal, IsRefusalAt, items_of};
-ghost use Rattle.wave_type.specs.TypeFaults.{due_of_type};
+ghost use Rattle.wave_type.specs.TypeFaults.{expected_of_type};
 ghost use Rattle.wave_type.specs.TypeItems.{AreItems, IsTypeFault, kind_at};
 ghost use Rattle.wave_type.specs.TypeSpelling.{Spells, IsTypeOf, IsNoType, levels_of};
 
@@ -26,7 +26,7 @@ impl Type {
     pub fn parse(alloc: Global, text: &str) -> Result<Type, TypeError>
         ensures spelled { IfOk result (λ ty. IsTypeOf text.now ty) }
         ensures levels { IfOk result (λ ty. levels_of ty ≤ 100) }
-        ensures labels { IfOk result (λ ty. Good ty) }
+        ensures labels { IfOk result (λ ty. HasDistinctLabels ty) }
         ensures refused { IfErr result (λ e. IsNoType text.now e.kind) }
         ensures fault { IfErr result (λ e. IsTypeFault text.now e) }
         ensures within { IfErr result (λ e. LiesInText text.now e.span) }
@@ -51,8 +51,8 @@ fn whole_type(
 ) -> Result<Type, TypeErrorKind>
     ensures spelled { IfOk result (λ ty. Spells ty reader.old []) }
     ensures levels { IfOk result (λ ty. levels_of ty ≤ levels) }
-    ensures labels { IfOk result (λ ty. Good ty) }
-    ensures refused { IfErr result (λ kind. IsRefusal (due_of_type levels) reader.old kind reader.new) }
+    ensures labels { IfOk result (λ ty. HasDistinctLabels ty) }
+    ensures refused { IfErr result (λ kind. IsRefusal (expected_of_type levels) reader.old kind reader.new) }
 {
     let ty = reader.ty(alloc, levels)?;
     if reader.count() > 0 {

@@ -24,7 +24,7 @@ use Rattle.wave_wasm.proofs.TypesOfValues.TypeOfKind.{formed_as}
 use Rattle.wave_type.proofs.TypeReading.PartSteps.{eq_turn}
 use Rattle.wave_value.specs.ValueModel.{name_at}
 use Rattle.wave_value.specs.Private.ValueModel.{Grows, FlagsFit}
-use Rattle.wave_value.specs.ConstructorRules.{Made}
+use Rattle.wave_value.specs.ConstructorRules.{Built}
 use Rattle.wave_value.specs.Private.ConstructorRules.{SaysCase}
 use Rattle.wave_value.specs.Private.CaseRules.{MarksNames, MarksOneMore}
 use Rattle.wave_value.specs.Private.RecordConstructor.{held}
@@ -105,7 +105,7 @@ marks_absent m n name absent same = λ names marked h.
     pick false false c f = refl
 
 is_marked : (m : BTreeMap (Bor (List ℕ)) Bool) (names marked : List (List ℕ)) (name : List ℕ) (b : Bool) → MarksNames m names marked → b ≡ unwrap_or (held m name) false → b ≡ true → IsOneOf marked name
-is_marked m names marked name b h is told = by (is_one_of names name) (is_one_of marked name) refl (sym told ∙ (is ∙ ap (λ (o : Option Bool). unwrap_or o false) (h name)))
+is_marked m names marked name b h is reported = by (is_one_of names name) (is_one_of marked name) refl (sym reported ∙ (is ∙ ap (λ (o : Option Bool). unwrap_or o false) (h name)))
   where
     by : (b c : Bool) → is_one_of marked name ≡ c → true ≡ unwrap_or (if b then Some c else None) false → IsOneOf marked name
     by true true e t = is_one marked name e
@@ -113,7 +113,7 @@ is_marked m names marked name b h is told = by (is_one_of names name) (is_one_of
     by false c e t = absurd (cc)
 
 not_marked : (m : BTreeMap (Bor (List ℕ)) Bool) (names marked : List (List ℕ)) (name : List ℕ) (b : Bool) → MarksNames m names marked → IsOneOf names name → b ≡ unwrap_or (held m name) false → b ≡ false → IsNoneOf marked name
-not_marked m names marked name b h one is told = by (is_one_of names name) (is_one_of marked name) (passes names name one) refl (sym told ∙ (is ∙ ap (λ (o : Option Bool). unwrap_or o false) (h name)))
+not_marked m names marked name b h one is reported = by (is_one_of names name) (is_one_of marked name) (passes names name one) refl (sym reported ∙ (is ∙ ap (λ (o : Option Bool). unwrap_or o false) (h name)))
   where
     by : (b c : Bool) → b ≡ true → is_one_of marked name ≡ c → false ≡ unwrap_or (if b then Some c else None) false → IsNoneOf marked name
     by true true there e t = absurd (cc)
@@ -132,8 +132,8 @@ all_push names (m ∷ ns) n h one = (h.0, all_push names ns n h.1 one)
 -- one more name is marked
 pub marked_more : (m : BTreeMap (Bor (List ℕ)) Bool) (marked : List (List ℕ)) (xs : List (Bor (List ℕ))) (i : ℕ) (d : Bor (List ℕ)) (b : Bool) → i < length xs → MarksNames m (texts xs) marked
     → b ≡ unwrap_or (held m (get_or xs i d).now) false → b ≡ true → AreAllOf marked (texts (take i xs)) → AreAllOf marked (texts (take (i + 1) xs))
-marked_more m marked xs i d b lt marks is told h =
-    subst (AreAllOf marked) (sym (texts_more xs i d lt)) (all_push marked (texts (take i xs)) (get_or xs i d).now h (is_marked m (texts xs) marked (get_or xs i d).now b marks is told))
+marked_more m marked xs i d b lt marks is reported h =
+    subst (AreAllOf marked) (sym (texts_more xs i d lt)) (all_push marked (texts (take i xs)) (get_or xs i d).now h (is_marked m (texts xs) marked (get_or xs i d).now b marks is reported))
 
 -- each name, at the end of the loop
 pub marked_all : (marked : List (List ℕ)) (xs : List (Bor (List ℕ))) (i : ℕ) → length xs ≤ i → AreAllOf marked (texts (take i xs)) → AreAllOf marked (texts xs)
@@ -147,9 +147,9 @@ refused names handed n _ one none says = absurd says
 -- a name that isn't marked
 pub name_refused : (m : BTreeMap (Bor (List ℕ)) Bool) (marked : List (List ℕ)) (xs : List (Bor (List ℕ))) (i : ℕ) (d : Bor (List ℕ)) (b : Bool) (e : WasmValueError) → i < length xs → MarksNames m (texts xs) marked
     → b ≡ unwrap_or (held m (get_or xs i d).now) false → b ≡ false → SaysCase (get_or xs i d).now e → RefusesNames marked (texts xs) e
-name_refused m marked xs i d b e lt marks is told says =
+name_refused m marked xs i d b e lt marks is reported says =
     let among = one_at xs i d lt in
-    refused marked (texts xs) (get_or xs i d).now e among (not_marked m (texts xs) marked (get_or xs i d).now b marks among is told) says
+    refused marked (texts xs) (get_or xs i d).now e among (not_marked m (texts xs) marked (get_or xs i d).now b marks among is reported) says
 
 -- ---- the places that are found
 
@@ -202,10 +202,10 @@ places_fit T is kind h =
     subst (λ U. Grows 0 (length (flags_names U)) is → FlagsFit U is) (sym form) (λ g. g) h
 
 -- what was made are those of the type's names that were handed over
-pub flags_made : (T own : TypeTree) (handed : List (List ℕ)) (is : List ℕ) → kinds.Flags ≡ kind_of T → own ≡ T → Grows 0 (length (flags_names T)) is
+pub flags_built : (T own : TypeTree) (handed : List (List ℕ)) (is : List ℕ) → kinds.Flags ≡ kind_of T → own ≡ T → Grows 0 (length (flags_names T)) is
     → map (name_at (flags_names T)) is ≡ found_in handed (flags_names T)
-    → Made (value.flags (found_in handed (flags_names T))) T (record { own = own; tree = value.flags (map (name_at (flags_names own)) is) })
-flags_made T own handed is kind same h called =
+    → Built (value.flags (found_in handed (flags_names T))) T (record { own = own; tree = value.flags (map (name_at (flags_names own)) is) })
+flags_built T own handed is kind same h called =
     let found : map (name_at (flags_names own)) is ≡ found_in handed (flags_names T) = ap (λ U. map (name_at (flags_names U)) is) same ∙ called in
     let fit : FlagsFit own is = subst (λ U. FlagsFit U is) (sym same) (places_fit T is kind h) in
     let fits : HasType own (value.flags (map (name_at (flags_names own)) is)) = flags_value own is fit in

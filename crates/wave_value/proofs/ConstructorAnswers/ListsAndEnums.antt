@@ -26,23 +26,23 @@ use Rattle.wave_value.specs.declared.value.Content.{Content}
 use Rattle.wave_value.specs.TypedValue.{TypedValue, IsAt}
 use Rattle.wave_value.specs.ValueModel.{name_at, trees}
 use Rattle.wave_value.specs.Private.ValueModel.{content_tree, AllAt, ListFits, Fits}
-use Rattle.wave_value.specs.ConstructorRules.{Made, AllOwn, HasLength, TakesList, TakesEnum, TellsOther, TellsOne, list_stated, RefusesList, RefusesParts, RefusesEnum}
-use Rattle.wave_value.specs.Private.ConstructorRules.{Tells, SaysLength, SaysType, SaysCase}
+use Rattle.wave_value.specs.ConstructorRules.{Built, AllOwn, HasLength, TakesList, TakesEnum, TellsOther, TellsOne, list_stated, RefusesList, RefusesParts, RefusesEnum}
+use Rattle.wave_value.specs.Private.ConstructorRules.{Reports, SaysLength, SaysType, SaysCase}
 use Rattle.wave_value.proofs.ValueModel.Lists.{some_mapped}
 use Rattle.wave_value.proofs.ValueModel.ContentMeaning.{means, list_means, one_of}
 
 -- a test of the own type
-pub tells : (b : Bool) (own T : TypeTree) (c : Content) → b ≡ same_tree own T → Fits own c → Tells b T (record { own = own; tree = content_tree own c })
+pub tells : (b : Bool) (own T : TypeTree) (c : Content) → b ≡ same_tree own T → Fits own c → Reports b T (record { own = own; tree = content_tree own c })
 tells true own T c e h =
     let same : own ≡ T = one_tree own T (sym e) in
     record { own = same; fits = subst (λ U. HasType U (content_tree own c)) same (means own c h) }
 tells false own T c e h = λ same. absurd (false≢true (e ∙ subst (λ U. same_tree own U ≡ true) same (same_itself own)))
 
-pub is_at : (b : Bool) (T : TypeTree) (v : TypedValue) → b ≡ true → Tells b T v → IsAt T v
-is_at b T v e h = subst (λ b. Tells b T v) e h
+pub is_at : (b : Bool) (T : TypeTree) (v : TypedValue) → b ≡ true → Reports b T v → IsAt T v
+is_at b T v e h = subst (λ b. Reports b T v) e h
 
-pub not_at : (b : Bool) (T : TypeTree) (v : TypedValue) → b ≡ false → Tells b T v → v.own ≡ T → ⊥
-not_at b T v e h = subst (λ b. Tells b T v) e h
+pub not_at : (b : Bool) (T : TypeTree) (v : TypedValue) → b ≡ false → Reports b T v → v.own ≡ T → ⊥
+not_at b T v e h = subst (λ b. Reports b T v) e h
 
 -- ---- a component of another type than the stated one
 
@@ -74,8 +74,8 @@ list_taken (type.list E) vs h = all_own E vs h
 list_taken (type.fixed E n) vs h = (h.0, all_own E vs h.1)
 list_taken _ vs h = absurd h
 
-pub list_made : (T own : TypeTree) (vs : List TypedValue) → own ≡ T → ListFits own vs → Made (list_value T (trees vs)) T (record { own = own; tree = list_value own (trees vs) })
-list_made T own vs same h = record {
+pub list_built : (T own : TypeTree) (vs : List TypedValue) → own ≡ T → ListFits own vs → Built (list_value T (trees vs)) T (record { own = own; tree = list_value own (trees vs) })
+list_built T own vs same h = record {
   own = same;
   tree = ap (λ U. list_value U (trees vs)) same;
   fits = subst (λ U. HasType U (list_value U (trees vs))) same (list_means own vs h);
@@ -99,9 +99,9 @@ items_stated _ E vs is = absurd (cc)
 -- an item of another type
 pub list_refused : (words : TypedValue → List ℕ) (T E : TypeTree) (xs vs : List TypedValue) (i : ℕ) (v : TypedValue) (e : WasmValueError) → Some E ≡ list_part T → HasLength T vs → xs ≡ vs → i < length xs → v ≡ get_or xs i v → (v.own ≡ E → ⊥) → SaysType words E v e → RefusesList words T vs e
 list_refused words T E xs vs i v (error.WrongValueType t s) is counted same lt at other says =
-    let told : TellsOne words (string_bytes t) (string_bytes s) (map (λ w. (E, w)) xs) =
+    let reported : TellsOne words (string_bytes t) (string_bytes s) (map (λ w. (E, w)) xs) =
     some_mapped (λ w. (E, w)) (λ p. TellsOther words (string_bytes t) (string_bytes s) p.0 p.1) xs i v lt at (other, says.0, says.1) in
-    (list_kind T E is, counted, subst (TellsOne words (string_bytes t) (string_bytes s)) (ap (map (λ w. (E, w))) same ∙ items_stated T E vs is) told)
+    (list_kind T E is, counted, subst (TellsOne words (string_bytes t) (string_bytes s)) (ap (map (λ w. (E, w))) same ∙ items_stated T E vs is) reported)
 list_refused words T E xs vs i v (error.Memory r) is counted same lt at other says = tt
 list_refused words T E xs vs i v _ is counted same lt at other says = absurd says
 
@@ -118,8 +118,8 @@ enum_has : (T : TypeTree) (n : List ℕ) → TakesEnum T n → HasType T (value.
 enum_has (type.enum ns) n h = (n, h, refl)
 enum_has _ n h = absurd h
 
-pub enum_made : (T own : TypeTree) (n : List ℕ) (i : ℕ) → own ≡ T → Some i ≡ position (λ m. bytes_eq n m) (enum_names T) → Made (value.enum n) T (record { own = own; tree = value.enum (name_at (enum_names own) i) })
-enum_made T own n i same e = record {
+pub enum_built : (T own : TypeTree) (n : List ℕ) (i : ℕ) → own ≡ T → Some i ≡ position (λ m. bytes_eq n m) (enum_names T) → Built (value.enum n) T (record { own = own; tree = value.enum (name_at (enum_names own) i) })
+enum_built T own n i same e = record {
   own = same;
   tree = ap (λ U. value.enum (name_at (enum_names U) i)) same ∙ ap value.enum (name_there n (enum_names T) i e).1;
   fits = enum_has T n (enum_taken T n i e);

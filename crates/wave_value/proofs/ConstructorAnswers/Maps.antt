@@ -13,7 +13,7 @@ use Rattle.wave_value.specs.TypedValue.{TypedValue}
 use Rattle.wave_value.specs.Private.ValueModel.{entry_trees, EntriesAt, MapFits}
 use Rattle.wave_value.specs.ConstructorRules.{RefusesParts}
 use Rattle.wave_value.specs.Private.ConstructorRules.{SaysType}
-use Rattle.wave_value.specs.CaseRules.{MadeMap, EntriesOwn, TakesMap, entries_stated, map_stated}
+use Rattle.wave_value.specs.CaseRules.{BuiltMap, EntriesOwn, TakesMap, entries_stated, map_stated}
 use Rattle.wave_value.proofs.ConstructorAnswers.ListsAndEnums.{tells_so}
 use Rattle.wave_value.proofs.ValueModel.ContentMeaning.{map_value}
 use Rattle.wave_value.proofs.ValueModel.Lists.{map_back, entry_list-entries}
@@ -40,8 +40,8 @@ map_taken T A B es e h =
     subst (λ U. TakesMap U es) (sym is) (subst (λ Z. EntriesOwn Z B es) key (entries_own A B es h))
 
 -- the map has the entries as they were handed over
-pub map_made : (T own A B : TypeTree) (es : List (TypedValue × TypedValue)) → own ≡ T → Some (A, B) ≡ map_parts T → EntriesAt A B es → MadeMap es T (record { own = own; tree = value.map (entries (entry_trees es)) })
-map_made T own A B es same e h =
+pub map_built : (T own A B : TypeTree) (es : List (TypedValue × TypedValue)) → own ≡ T → Some (A, B) ≡ map_parts T → EntriesAt A B es → BuiltMap es T (record { own = own; tree = value.map (entries (entry_trees es)) })
+map_built T own A B es same e h =
     let fits = map_fits T T A B es refl e h in
     (entry_trees es, map_back T es fits ∙ ap leaf_entries (entry_list-entries (entry_trees es)), record { own = same; tree = refl; fits = map_value T es fits })
 

@@ -25,7 +25,7 @@ use Rattle.wave_wasm.specs.Values.{field_values}
 use Rattle.wave_wasm.specs.declared.wasm.WasmValueError.{WasmValueError}
 use Rattle.wave_wasm.specs.declared.wasm.WasmValueError.TheVariants as error
 use Rattle.wave_wasm.proofs.Names.NameTests.{is_one, passes, none_of, distinct_more}
-use Rattle.wave_value.specs.RecordConstructor.{last_under, HasOwn, HasOther, TakesRecord, MadeRecord, RefusesRecord, IsRepeated, RefusesFields}
+use Rattle.wave_value.specs.RecordConstructor.{last_under, HasOwn, HasOther, TakesRecord, BuiltRecord, RefusesRecord, IsRepeated, RefusesFields}
 use Rattle.wave_value.specs.Private.RecordConstructor.{held, FieldsHeld, InOrder, SaysMissingField, SaysUnknownField}
 use Rattle.wave_value.specs.ConstructorRules.{TellsOther}
 use Rattle.wave_value.specs.Private.ConstructorRules.{SaysType}
@@ -228,12 +228,12 @@ pub parts_of : (T : TypeTree) (parts : List (List ℕ × TypeTree)) → Some (fi
 parts_of T parts is = sym (field_list-fields_of parts) ∙ ap record_parts (record_is T parts is)
 
 -- one record is made of the last values
-pub record_made : (T own : TypeTree) (parts : List (List ℕ × TypeTree)) (given : List (List ℕ × TypedValue)) (vs : List TypedValue) → own ≡ T → Some (fields_of parts) ≡ record_part T → InOrder parts (last_under given) vs
-    → MadeRecord given T (record { own = own; tree = value.record_value (field_values (beside (first_names (record_parts own)) (trees vs))) })
-record_made T own parts given vs same is o = record {
+pub record_built : (T own : TypeTree) (parts : List (List ℕ × TypeTree)) (given : List (List ℕ × TypedValue)) (vs : List TypedValue) → own ≡ T → Some (fields_of parts) ≡ record_part T → InOrder parts (last_under given) vs
+    → BuiltRecord given T (record { own = own; tree = value.record_value (field_values (beside (first_names (record_parts own)) (trees vs))) })
+record_built T own parts given vs same is o = record {
   last = vs;
   are_last = subst (λ fs. map (λ f. last_under given f.0) fs ≡ map Some vs) (parts_of T parts is) (are_held (last_under given) parts vs o.held);
-  made = record {
+  built = record {
     own = same;
     tree = ap (λ U. value.record_value (field_values (beside (first_names (record_parts U)) (trees vs)))) same;
     fits = record_value T vs (record_fits T parts (last_under given) vs is o);

@@ -16,7 +16,7 @@ use Rattle.wave_type.specs.TypeModel.{tuple_part}
 use Rattle.wave_value.specs.TypedValue.{TypedValue, IsAt}
 use Rattle.wave_value.specs.ValueModel.{trees}
 use Rattle.wave_value.specs.Private.ValueModel.{EachAt, TupleFits}
-use Rattle.wave_value.specs.ConstructorRules.{Made, EachOwn, TakesTuple, TellsOther, TellsOne, each_stated, RefusesTuple}
+use Rattle.wave_value.specs.ConstructorRules.{Built, EachOwn, TakesTuple, TellsOther, TellsOne, each_stated, RefusesTuple}
 use Rattle.wave_value.specs.Private.ConstructorRules.{SaysType}
 use Rattle.wave_value.proofs.ConstructorAnswers.ListsAndEnums.{some_so}
 use Rattle.wave_type.proofs.TypeTrees.Lists.{type_list-types_of}
@@ -54,8 +54,8 @@ each_more Ts vs i T v lt lv s r at h = rw add-one (each_next Ts vs i T v lt lv s
 pub each_at : (Ts : List TypeTree) (vs : List TypedValue) (i : ℕ) → length Ts ≤ i → length vs ≤ i → EachAt (take i Ts) (take i vs) → EachAt Ts vs
 each_at Ts vs i le lv h = subst (λ us. EachAt Ts us) (take_all i vs lv) (subst (λ Us. EachAt Us (take i vs)) (take_all i Ts le) h)
 
-pub tuple_made : (T own : TypeTree) (vs : List TypedValue) → own ≡ T → TupleFits own vs → Made (value.tuple (values (trees vs))) T (record { own = own; tree = value.tuple (values (trees vs)) })
-tuple_made T own vs same h = record { own = same; tree = refl; fits = subst (λ U. HasType U (value.tuple (values (trees vs)))) same (tuple_value own vs h) }
+pub tuple_built : (T own : TypeTree) (vs : List TypedValue) → own ≡ T → TupleFits own vs → Built (value.tuple (values (trees vs))) T (record { own = own; tree = value.tuple (values (trees vs)) })
+tuple_built T own vs same h = record { own = same; tree = refl; fits = subst (λ U. HasType U (value.tuple (values (trees vs)))) same (tuple_value own vs h) }
 
 parts_are : (Us : List TypeTree) (n : ℕ) → n ≡ length Us → n ≡ length (tuple_parts (type.tuple (types_of Us)))
 parts_are Us n e = e ∙ ap length (sym (type_list-types_of Us))
@@ -73,9 +73,9 @@ item_stated (U ∷ Ts) (w ∷ vs) (suc i) T v lt lv s r = inr (item_stated Ts vs
 
 item_refused : (words : TypedValue → List ℕ) (Us : List TypeTree) (vs : List TypedValue) (U : TypeTree) (v : TypedValue) (e : WasmValueError) → length vs ≡ length Us → SomeOf (λ p. (U, v) ≡ p) (each_stated Us vs) → (v.own ≡ U → ⊥) → SaysType words U v e → RefusesTuple words (type.tuple (types_of Us)) vs e
 item_refused words Us vs U v (error.WrongValueType t s) same one other says =
-    let told : TellsOne words (string_bytes t) (string_bytes s) (each_stated Us vs) =
+    let reported : TellsOne words (string_bytes t) (string_bytes s) (each_stated Us vs) =
     some_so (λ p. TellsOther words (string_bytes t) (string_bytes s) p.0 p.1) (U, v) (each_stated Us vs) one (other, says.0, says.1) in
-    (refl, parts_are Us (length vs) same, subst (λ Ts. TellsOne words (string_bytes t) (string_bytes s) (each_stated Ts vs)) (sym (type_list-types_of Us)) told)
+    (refl, parts_are Us (length vs) same, subst (λ Ts. TellsOne words (string_bytes t) (string_bytes s) (each_stated Ts vs)) (sym (type_list-types_of Us)) reported)
 item_refused words Us vs U v (error.Memory r) same one other says = tt
 item_refused words Us vs U v _ same one other says = absurd says
 

@@ -18,7 +18,7 @@ use Rattle.wave_wasm.specs.declared.wasm.WasmValueError.TheVariants as error
 use Rattle.wave_value.specs.TypedValue.{TypedValue}
 use Rattle.wave_value.specs.ValueModel.{name_at, first_names, payload_tree}
 use Rattle.wave_value.specs.Private.ValueModel.{PayloadAt, CaseAt, VariantFits}
-use Rattle.wave_value.specs.ConstructorRules.{Made, PayloadOwn, RefusesPayload}
+use Rattle.wave_value.specs.ConstructorRules.{Built, PayloadOwn, RefusesPayload}
 use Rattle.wave_value.specs.Private.ConstructorRules.{SaysCase}
 use Rattle.wave_value.specs.CaseRules.{IsFirstCase, TakesVariant, RefusesVariant}
 use Rattle.wave_value.proofs.ConstructorAnswers.ListsAndEnums.{none_found}
@@ -71,9 +71,9 @@ variant_fits T own name i c p q same e is given at =
     subst (λ U. VariantFits U i p) (sym same) (subst (λ (z : Option TypedValue). VariantFits T i z) (sym given) (fits T i q (fits_at (variant_parts T) name i q (place_is (variant_parts T) name i e) here)))
 
 -- what was made is what was asked for
-pub variant_made : (T own : TypeTree) (name : List ℕ) (i : ℕ) (p q : Option TypedValue) → own ≡ T → Some i ≡ position (λ c. bytes_eq name c.0) (variant_parts T) → p ≡ q → VariantFits own i p
-    → Made (value.variant name (maybe_value (payload_tree q))) T (record { own = own; tree = value.variant (name_at (first_names (variant_parts own)) i) (maybe_value (payload_tree p)) })
-variant_made T own name i p q same e given h =
+pub variant_built : (T own : TypeTree) (name : List ℕ) (i : ℕ) (p q : Option TypedValue) → own ≡ T → Some i ≡ position (λ c. bytes_eq name c.0) (variant_parts T) → p ≡ q → VariantFits own i p
+    → Built (value.variant name (maybe_value (payload_tree q))) T (record { own = own; tree = value.variant (name_at (first_names (variant_parts own)) i) (maybe_value (payload_tree p)) })
+variant_built T own name i p q same e given h =
     let at = place_is (variant_parts T) name i e in
     let called : name_at (first_names (variant_parts own)) i ≡ name = ap (λ U. name_at (first_names (variant_parts U)) i) same ∙ named_at (variant_parts T) name i at.0 at.1 in
     let means : value.variant (name_at (first_names (variant_parts own)) i) (maybe_value (payload_tree p)) ≡ value.variant name (maybe_value (payload_tree q)) =

@@ -4,11 +4,11 @@ use Rattle.std.proofs.lemmas.List.{map-append}
 use Rattle.wave_wasm.specs.Types.{TypeTree}
 use Rattle.wave_wasm.specs.Values.{Value}
 use Rattle.wave_value.specs.TypedValue.{TypedValue}
-use Rattle.wave_value.specs.ConstructorRules.{Made, AllOwn}
+use Rattle.wave_value.specs.ConstructorRules.{Built, AllOwn}
 
 -- the values mean these, in their order, and each has the type as its own
-abbrev pub AreMade : List Value → TypeTree → List TypedValue → Type 0
-AreMade asked T vs = AllOwn T vs × (map (λ v. v.tree) vs ≡ asked)
+abbrev pub AreBuilt : List Value → TypeTree → List TypedValue → Type 0
+AreBuilt asked T vs = AllOwn T vs × (map (λ v. v.tree) vs ≡ asked)
 
 own_more : (T : TypeTree) (vs : List TypedValue) (v : TypedValue) → AllOwn T vs → v.own ≡ T → AllOwn T (vs ++ v ∷ [])
 own_more T [] v h one = (one, tt)
@@ -19,5 +19,5 @@ trees_more tree xs x vs v all one =
     map-append (λ w. w.tree) vs (v ∷ []) ∙ (ap (λ ts. ts ++ v.tree ∷ []) all ∙ (ap (λ t. map tree xs ++ t ∷ []) one ∙ sym (map-append tree xs (x ∷ []))))
 
 -- one more value is made
-pub one_more : {A : Type 0} (tree : A → Value) (T : TypeTree) (xs : List A) (x : A) (vs : List TypedValue) (v : TypedValue) → AreMade (map tree xs) T vs → Made (tree x) T v → AreMade (map tree (xs ++ x ∷ [])) T (vs ++ v ∷ [])
+pub one_more : {A : Type 0} (tree : A → Value) (T : TypeTree) (xs : List A) (x : A) (vs : List TypedValue) (v : TypedValue) → AreBuilt (map tree xs) T vs → Built (tree x) T v → AreBuilt (map tree (xs ++ x ∷ [])) T (vs ++ v ∷ [])
 one_more tree T xs x vs v all one = (own_more T vs v all.0 one.own, trees_more tree xs x vs v all.1 one.tree)

@@ -21,7 +21,7 @@ use Rattle.wave_wasm.specs.declared.wasm.WasmValueError.{WasmValueError}
 use Rattle.wave_wasm.specs.declared.wasm.WasmValueError.TheVariants as error
 use Rattle.wave_wasm.proofs.Names.NameTests.{is_one, none_of}
 use Rattle.wave_value.specs.FullTypes.{IsFull}
-use Rattle.wave_value.specs.RecordConstructor.{last_under, HasOwn, HasOther, IsRepeated, TakesRecord, MadeRecord, RefusesRecord}
+use Rattle.wave_value.specs.RecordConstructor.{last_under, HasOwn, HasOther, IsRepeated, TakesRecord, BuiltRecord, RefusesRecord}
 use Rattle.wave_value.specs.TypedValue.{TypedValue, IsAt}
 use Rattle.wave_value.specs.ValueModel.{first_names, trees, beside}
 use Rattle.wave_value.proofs.Lawful.Values.{one_none, among}
@@ -70,9 +70,9 @@ module _ {A : Type 0} where
   without n (g ∷ gs) = if bytes_eq g.0 n then gs else g ∷ without n gs
 
   -- the one under the name, and the others
-  to_front : (gs : List (List ℕ × A)) (n : List ℕ) (v : A) → AreDistinct (first_names gs) → last_under gs n ≡ Some v → IsPermutation gs ((n, v) ∷ without n gs)
-  to_front [] n v d e = absurd (cc)
-  to_front (g ∷ gs) n v d e = by (bytes_eq g.0 n) refl (to_front gs n v d.1) e
+  to_prefix : (gs : List (List ℕ × A)) (n : List ℕ) (v : A) → AreDistinct (first_names gs) → last_under gs n ≡ Some v → IsPermutation gs ((n, v) ∷ without n gs)
+  to_prefix [] n v d e = absurd (cc)
+  to_prefix (g ∷ gs) n v d e = by (bytes_eq g.0 n) refl (to_prefix gs n v d.1) e
     where
       here : (w : A) → last_under gs n ≡ None → option_or (last_under gs n) (Some w) ≡ Some v → w ≡ v
       here w none e = let first : Some w ≡ Some v = ap (λ o. option_or o (Some w)) (sym none) ∙ e in cc
@@ -139,7 +139,7 @@ shuffled (f ∷ fs) gs (v ∷ vs) d k h e =
     let rest : (m : List ℕ) → IsOneOf (first_names (without f.0 gs)) m → IsOneOf (first_names fs) m =
     λ m one. let w = one_without gs f.0 m k one in later m (h m w.0) w.1
     in
-    IsPermutation-trans _ _ _ (IsPermutation-map show _ _ (to_front gs f.0 v k first))
+    IsPermutation-trans _ _ _ (IsPermutation-map show _ _ (to_prefix gs f.0 v k first))
     (IsPermutation-cons (f.0, v.tree) _ _ (shuffled fs (without f.0 gs) vs d.1 (distinct_without gs f.0 k) rest (same_last gs f.0 fs d.0 ∙ more)))
   where
     later : (m : List ℕ) → IsOneOf (first_names (f ∷ fs)) m → m ≢ f.0 → IsOneOf (first_names fs) m
@@ -163,12 +163,12 @@ trees_handed [] = refl
 trees_handed (f ∷ fields) = ap (λ fs. (f.0.now, f.1.tree) ∷ fs) (trees_handed fields)
 
 -- a record that is made is one of the fields that are handed in
-pub made_record : (T : TypeTree) (fields : List (Bor (List ℕ) × TypedValue)) (v : TypedValue) → MadeRecord (named fields) T v → TakesRecord T (named fields) → MakesRecord (λ v. v.tree) (λ v T. IsAt T v) T fields v
-made_record T fields v m takes = λ distinct different.
+pub built_record : (T : TypeTree) (fields : List (Bor (List ℕ) × TypedValue)) (v : TypedValue) → BuiltRecord (named fields) T v → TakesRecord T (named fields) → MakesRecord (λ v. v.tree) (λ v T. IsAt T v) T fields v
+built_record T fields v m takes = λ distinct different.
     let all = field_values (beside (first_names (record_parts T)) (trees m.last)) in
     let moved = shuffled (record_parts T) (named fields) m.last (names_of_parts T distinct) (subst AreDistinct (names_handed fields) different) (λ n one. known_of T (named fields) n takes one) m.are_last in
-    let made : Makes (λ (v : TypedValue). v.tree) (λ v T. IsAt T v) (value.record_value all) T v = record { means = m.made.tree; fits = m.made.fits; is_of = record { own = m.made.own; fits = subst (HasType T) (sym m.made.tree) m.made.fits } } in
-    (all, subst (IsPermutation (field_trees (λ (v : TypedValue). v.tree) fields)) (sym (field_list-field_values (beside (first_names (record_parts T)) (trees m.last)))) (subst (λ fs. IsPermutation fs (beside (first_names (record_parts T)) (trees m.last))) (trees_handed fields) moved), made)
+    let built : Makes (λ (v : TypedValue). v.tree) (λ v T. IsAt T v) (value.record_value all) T v = record { means = m.built.tree; fits = m.built.fits; is_of = record { own = m.built.own; fits = subst (HasType T) (sym m.built.tree) m.built.fits } } in
+    (all, subst (IsPermutation (field_trees (λ (v : TypedValue). v.tree) fields)) (sym (field_list-field_values (beside (first_names (record_parts T)) (trees m.last)))) (subst (λ fs. IsPermutation fs (beside (first_names (record_parts T)) (trees m.last))) (trees_handed fields) moved), built)
 
 -- ---- what is refused
 

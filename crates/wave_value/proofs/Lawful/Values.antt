@@ -12,7 +12,7 @@ use Rattle.wave_wasm.specs.declared.wasm.WasmValueError.{WasmValueError}
 use Rattle.wave_wasm.proofs.TypesOfValues.WellFormed.{formed}
 use Rattle.wave_value.specs.TypedValue.{TypedValue, IsAt, IsTyped, MakesOnly, typed_leaf}
 use Rattle.wave_value.specs.FullTypes.{IsFull}
-use Rattle.wave_value.specs.ConstructorRules.{Made, AllOwn, TakesList, TellsOne, option_stated, each_stated, RefusesList, RefusesParts, RefusesTuple, RefusesPayload, RefusesResult, RefusesEnum}
+use Rattle.wave_value.specs.ConstructorRules.{Built, AllOwn, TakesList, TellsOne, option_stated, each_stated, RefusesList, RefusesParts, RefusesTuple, RefusesPayload, RefusesResult, RefusesEnum}
 use Rattle.wave_value.proofs.ConstructorAnswers.ListsAndEnums.{all_own}
 use Rattle.wave_wasm.specs.Lists.{AllOf}
 use Rattle.wave_wasm.specs.Names.{IsOneOf, IsNoneOf, AreAllOf}
@@ -37,8 +37,8 @@ among ns (m ∷ ms) n h (inr k) = among ns ms n h.1 k
 -- ---- one token
 
 -- what was made of a value of one token is lawful
-pub made_leaf : (one : Leaf) (v : TypedValue) → IsSound one → v ≡ typed_leaf one → MakesLeaf (λ v. v.tree) (λ v T. IsAt T v) one v
-made_leaf one v sound e =
+pub built_leaf : (one : Leaf) (v : TypedValue) → IsSound one → v ≡ typed_leaf one → MakesLeaf (λ v. v.tree) (λ v T. IsAt T v) one v
+built_leaf one v sound e =
     let fits : HasType (type.simple (leaf_type one)) (value.leaf one) = (one, (refl, sound), refl) in
     subst (λ v. MakesLeaf (λ (v : TypedValue). v.tree) (λ v T. IsAt T v) one v) (sym e)
     (record { means = refl; fits = fits; is_of = record { own = refl; fits = fits } })
@@ -48,9 +48,9 @@ pub well_formed : (v : TypedValue) → IsTyped v → IsWellFormed v.tree
 well_formed v h = formed v.own v.tree h
 
 -- a constructor that refuses nothing
-pub made_only : (one : Leaf) (r : Result TypedValue WasmValueError) → MakesOnly one r → IfOk r (MakesLeaf (λ v. v.tree) (λ v T. IsAt T v) one)
-made_only one (Ok v) h = made_leaf one v h.1 h.0
-made_only one (Err e) h = absurd h
+pub built_only : (one : Leaf) (r : Result TypedValue WasmValueError) → MakesOnly one r → IfOk r (MakesLeaf (λ v. v.tree) (λ v T. IsAt T v) one)
+built_only one (Ok v) h = built_leaf one v h.1 h.0
+built_only one (Err e) h = absurd h
 
 pub never_refused : (one : Leaf) (r : Result TypedValue WasmValueError) → MakesOnly one r → IfErr r (FullLeaf IsFull one)
 never_refused one (Ok v) h = tt
@@ -63,12 +63,12 @@ full_leaf one e h = λ full. h
 -- ---- what has parts
 
 -- what was made means what was asked for and is of the type
-pub lawful : (asked : Value) (T : TypeTree) (v : TypedValue) → Made asked T v → Makes (λ (v : TypedValue). v.tree) (λ v T. IsAt T v) asked T v
+pub lawful : (asked : Value) (T : TypeTree) (v : TypedValue) → Built asked T v → Makes (λ (v : TypedValue). v.tree) (λ v T. IsAt T v) asked T v
 lawful asked T v m = record { means = m.tree; fits = m.fits; is_of = record { own = m.own; fits = subst (HasType T) (sym m.tree) m.fits } }
 
 -- so it is also where the names are distinct
-pub made_where : {D : Type 0} (asked : Value) (T : TypeTree) (v : TypedValue) → Made asked T v → D → Makes (λ (v : TypedValue). v.tree) (λ v T. IsAt T v) asked T v
-made_where asked T v m = λ distinct. lawful asked T v m
+pub built_where : {D : Type 0} (asked : Value) (T : TypeTree) (v : TypedValue) → Built asked T v → D → Makes (λ (v : TypedValue). v.tree) (λ v T. IsAt T v) asked T v
+built_where asked T v m = λ distinct. lawful asked T v m
 
 -- parts of the stated types are refused for lack of memory alone
 abbrev pub IsAsStated : TypeTree × TypedValue → Type 0

@@ -17,8 +17,8 @@ use Rattle.wave_wasm.proofs.Names.NameTests.{passes}
 use Rattle.wave_value.specs.TypedValue.{TypedValue, IsAt}
 use Rattle.wave_value.specs.FullTypes.{IsFull}
 use Rattle.wave_value.specs.ValueModel.{first_names}
-use Rattle.wave_value.specs.ConstructorRules.{Made, RefusesParts, RefusesPayload}
-use Rattle.wave_value.specs.CaseRules.{IsFirstCase, RefusesVariant, TakesFlags, RefusesFlags, MadeMap, entries_stated, map_stated}
+use Rattle.wave_value.specs.ConstructorRules.{Built, RefusesParts, RefusesPayload}
+use Rattle.wave_value.specs.CaseRules.{IsFirstCase, RefusesVariant, TakesFlags, RefusesFlags, BuiltMap, entries_stated, map_stated}
 use Rattle.wave_value.proofs.Lawful.Values.{IsAsStated, lawful, one_none, among, no_refusal, payload_memory}
 
 -- ---- variants
@@ -80,15 +80,15 @@ known_kept : (names ns : List (List ℕ)) → AreAllOf names ns → filter (is_o
 known_kept names [] h = refl
 known_kept names (n ∷ ns) h = rw (passes names n h.0) (ap (λ ms. n ∷ ms) (known_kept names ns h.1))
 
-flags_lawful : (T : TypeTree) (names : List (Bor (List ℕ))) (v : TypedValue) → Made (value.flags (found_in (texts names) (flags_names T))) T v → TakesFlags T (texts names) → MakesFlags (λ (v : TypedValue). v.tree) (λ v T. IsAt T v) T names v
+flags_lawful : (T : TypeTree) (names : List (Bor (List ℕ))) (v : TypedValue) → Built (value.flags (found_in (texts names) (flags_names T))) T v → TakesFlags T (texts names) → MakesFlags (λ (v : TypedValue). v.tree) (λ v T. IsAt T v) T names v
 flags_lawful T names v m taken = λ distinct apart picked.
     let some : ArePicked (flags_names T) (texts names) = subst (ArePicked (flags_names T)) (known_kept (flags_names T) (texts names) taken.1) picked in
     let asked : found_in (texts names) (flags_names T) ≡ texts names = picked_found (flags_names T) (texts names) some (names_distinct T distinct) in
     subst (λ ns. Makes (λ (v : TypedValue). v.tree) (λ v T. IsAt T v) (value.flags ns) T v) asked (lawful _ T v m)
 
-pub made_flags : (T : TypeTree) (names : List (Bor (List ℕ))) (r : Result TypedValue WasmValueError) → IfOk r (Made (value.flags (found_in (texts names) (flags_names T))) T) → OnOk r (TakesFlags T (texts names)) → IfOk r (MakesFlags (λ (v : TypedValue). v.tree) (λ v T. IsAt T v) T names)
-made_flags T names (Ok v) m taken = flags_lawful T names v m taken
-made_flags T names (Err e) m taken = tt
+pub built_flags : (T : TypeTree) (names : List (Bor (List ℕ))) (r : Result TypedValue WasmValueError) → IfOk r (Built (value.flags (found_in (texts names) (flags_names T))) T) → OnOk r (TakesFlags T (texts names)) → IfOk r (MakesFlags (λ (v : TypedValue). v.tree) (λ v T. IsAt T v) T names)
+built_flags T names (Ok v) m taken = flags_lawful T names v m taken
+built_flags T names (Err e) m taken = tt
 
 names_refused : (all given : List (List ℕ)) (e : WasmValueError) → ArePicked all given → RefusesFlags (type.flags all) given e → IsMemory e
 names_refused all given (error.WrongTypeKind k t) picked r = absurd (r.0 refl)
@@ -102,9 +102,9 @@ full_flags T names (Err e) h = λ full all is distinct picked. names_refused all
 
 -- ---- maps
 
-pub made_map : (T : TypeTree) (handed : List (TypedValue × TypedValue)) (r : Result TypedValue WasmValueError) → IfOk r (MadeMap handed T) → IfOk r (MakesMap (λ v. v.tree) (λ v T. IsAt T v) T handed)
-made_map T handed (Ok v) (all, shown, m) = λ distinct. (all, shown, lawful _ T v m)
-made_map T handed (Err e) h = tt
+pub built_map : (T : TypeTree) (handed : List (TypedValue × TypedValue)) (r : Result TypedValue WasmValueError) → IfOk r (BuiltMap handed T) → IfOk r (MakesMap (λ v. v.tree) (λ v T. IsAt T v) T handed)
+built_map T handed (Ok v) (all, shown, m) = λ distinct. (all, shown, lawful _ T v m)
+built_map T handed (Err e) h = tt
 
 entries_of : (K V : TypeTree) (handed : List (TypedValue × TypedValue)) → AllOf (λ e. IsAt K e.0 × IsAt V e.1) handed → AllOf IsAsStated (entries_stated K V handed)
 entries_of K V [] h = tt

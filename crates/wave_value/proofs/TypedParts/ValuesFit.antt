@@ -13,8 +13,8 @@ use Rattle.wave_type.specs.TypeModel.{tuple_part}
 use Rattle.wave_value.specs.TypedValue.{TypedValue, IsAt}
 use Rattle.wave_value.specs.ValueModel.{payload_tree}
 use Rattle.wave_value.specs.Private.ValueModel.{entry_trees, EachAt, PayloadAt, ListFits, TupleFits, OptionFits, OkFits, ErrFits, MapFits}
-use Rattle.wave_value.specs.CaseRules.{IsFirstCase, MadeMap, TakesMap}
-use Rattle.wave_value.specs.ConstructorRules.{Made, TakesTuple, TakesOption, TakesResult}
+use Rattle.wave_value.specs.CaseRules.{IsFirstCase, BuiltMap, TakesMap}
+use Rattle.wave_value.specs.ConstructorRules.{Built, TakesTuple, TakesOption, TakesResult}
 use Rattle.wave_value.proofs.ValueModel.ContentMeaning.{option_value, ok_value, err_value, map_value}
 use Rattle.wave_value.proofs.ValueModel.Lists.{map_back, entry_list-entries}
 use Rattle.wave_value.proofs.ConstructorAnswers.Maps.{entries_own}
@@ -80,8 +80,8 @@ option_fits (type.option Q) P (Some v) is h = h
 option_fits _ P p is h = absurd (cc)
 
 -- the option is made of it
-pub option_made : (T own : TypeTree) (p q : Option TypedValue) → own ≡ T → q ≡ p → OptionFits T p → Made (value.option (maybe_value (payload_tree p))) T (record { own = own; tree = value.option (maybe_value (payload_tree q)) })
-option_made T own p q same held fits = record { own = same; tree = ap (λ x. value.option (maybe_value (payload_tree x))) held; fits = option_value T p fits }
+pub option_built : (T own : TypeTree) (p q : Option TypedValue) → own ≡ T → q ≡ p → OptionFits T p → Built (value.option (maybe_value (payload_tree p))) T (record { own = own; tree = value.option (maybe_value (payload_tree q)) })
+option_built T own p q same held fits = record { own = same; tree = ap (λ x. value.option (maybe_value (payload_tree x))) held; fits = option_value T p fits }
 
 -- a payload that fits an option is taken
 pub option_taken : (T : TypeTree) (p : Option TypedValue) → OptionFits T p → TakesOption T p
@@ -100,11 +100,11 @@ err_fits (type.result A B) parts p is h = payload_at (type_option B) p h
 err_fits _ parts p is h = absurd (cc)
 
 -- `ok` and `err` are made of them
-pub ok_made : (T own : TypeTree) (p q : Option TypedValue) → own ≡ T → q ≡ p → OkFits T p → Made (value.ok (maybe_value (payload_tree p))) T (record { own = own; tree = value.ok (maybe_value (payload_tree q)) })
-ok_made T own p q same held fits = record { own = same; tree = ap (λ x. value.ok (maybe_value (payload_tree x))) held; fits = ok_value T p fits }
+pub ok_built : (T own : TypeTree) (p q : Option TypedValue) → own ≡ T → q ≡ p → OkFits T p → Built (value.ok (maybe_value (payload_tree p))) T (record { own = own; tree = value.ok (maybe_value (payload_tree q)) })
+ok_built T own p q same held fits = record { own = same; tree = ap (λ x. value.ok (maybe_value (payload_tree x))) held; fits = ok_value T p fits }
 
-pub err_made : (T own : TypeTree) (p q : Option TypedValue) → own ≡ T → q ≡ p → ErrFits T p → Made (value.err (maybe_value (payload_tree p))) T (record { own = own; tree = value.err (maybe_value (payload_tree q)) })
-err_made T own p q same held fits = record { own = same; tree = ap (λ x. value.err (maybe_value (payload_tree x))) held; fits = err_value T p fits }
+pub err_built : (T own : TypeTree) (p q : Option TypedValue) → own ≡ T → q ≡ p → ErrFits T p → Built (value.err (maybe_value (payload_tree p))) T (record { own = own; tree = value.err (maybe_value (payload_tree q)) })
+err_built T own p q same held fits = record { own = same; tree = ap (λ x. value.err (maybe_value (payload_tree x))) held; fits = err_value T p fits }
 
 -- payloads that fit a result are taken
 pub ok_taken : (T : TypeTree) (p : Option TypedValue) → OkFits T p → TakesResult T (Ok p)
@@ -123,8 +123,8 @@ map_fits (type.map K V) parts es is h = h
 map_fits _ parts es is h = absurd (cc)
 
 -- the map has the entries as they were handed over
-pub map_made : (T own : TypeTree) (es : List (TypedValue × TypedValue)) → own ≡ T → MapFits T es → MadeMap es T (record { own = own; tree = value.map (entries (entry_trees es)) })
-map_made T own es same fits =
+pub map_built : (T own : TypeTree) (es : List (TypedValue × TypedValue)) → own ≡ T → MapFits T es → BuiltMap es T (record { own = own; tree = value.map (entries (entry_trees es)) })
+map_built T own es same fits =
     (entry_trees es, map_back T es fits ∙ ap leaf_entries (entry_list-entries (entry_trees es)), record { own = same; tree = refl; fits = map_value T es fits })
 
 -- entries that fit a map are taken

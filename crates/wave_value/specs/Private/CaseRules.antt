@@ -18,8 +18,8 @@ MarksOneMore old new name found =
     MarksNames new names (marked ++ name ∷ []) × (found ≡ is_one_of names name)
 
 -- where the map has these names as keys, each is among those that it marks; or one that isn't is refused
-abbrev pub TellsUnmarked : BTreeMap (Bor (List ℕ)) Bool → List (List ℕ) → Result Unit WasmValueError → Type 0
-TellsUnmarked m names r = (marked : List (List ℕ)) → MarksNames m names marked → MatchResult r (λ _. AreAllOf marked names) (RefusesNames marked names)
+abbrev pub ReportsUnmarked : BTreeMap (Bor (List ℕ)) Bool → List (List ℕ) → Result Unit WasmValueError → Type 0
+ReportsUnmarked m names r = (marked : List (List ℕ)) → MarksNames m names marked → MatchResult r (λ _. AreAllOf marked names) (RefusesNames marked names)
 
 -- the first place behind this one, where there is one, and else the first of all
 abbrev pub behind : Option ℕ → ℕ

@@ -8,9 +8,9 @@ use Rattle.wave_wasm.specs.declared.wasm.WasmValueError.TheVariants as error
 use Rattle.wave_value.specs.TypedValue.{TypedValue, IsAt}
 
 -- the answer of a test of the own type: true says also that the value is one of the type
-abbrev pub Tells : Bool → TypeTree → TypedValue → Type 0
-Tells true T v = IsAt T v
-Tells false T v = v.own ≡ T → ⊥
+abbrev pub Reports : Bool → TypeTree → TypedValue → Type 0
+Reports true T v = IsAt T v
+Reports false T v = v.own ≡ T → ⊥
 
 -- the type is of another kind than this one
 abbrev pub SaysKind : WasmTypeKind → TypeTree → WasmValueError → Type 0

@@ -2,13 +2,13 @@
 use Rattle.std.specs.Prelude.{◌≡◌, true, List, [], ◌∷◌, refl}
 use Rattle.std.specs.Cmp.Derive.{both_true}
 use Rattle.wave_wasm.specs.Lists.{AllOf}
-use Rattle.wave_wasm.specs.Types.{TypeTree, a_type, types_of, IsRepresentable, every_type, can_be_made, result, tuple}
+use Rattle.wave_wasm.specs.Types.{TypeTree, a_type, types_of, IsRepresentable, every_type, can_be_built, result, tuple}
 
 -- a result of two types
 pub result_is_own : (A B : TypeTree) → IsRepresentable A → IsRepresentable B → IsRepresentable (result (a_type A) (a_type B))
 result_is_own A B ok err = both_true ok err
 
-types_are_own : (Ts : List TypeTree) → AllOf IsRepresentable Ts → every_type can_be_made (types_of Ts) ≡ true
+types_are_own : (Ts : List TypeTree) → AllOf IsRepresentable Ts → every_type can_be_built (types_of Ts) ≡ true
 types_are_own [] h = refl
 types_are_own (T ∷ Ts) h = both_true h.0 (types_are_own Ts h.1)
 

@@ -149,5 +149,5 @@ Fits T (contents.Flags is) = FlagsFit T is.items
 Fits T (contents.Map es) = MapFits T es.items
 
 -- the same value at each type, and fit for each type that the other fits
-abbrev pub IsAsGood : Content → Content → Type 0
-IsAsGood c d = (T : TypeTree) → (content_tree T c ≡ content_tree T d) × (Fits T d → Fits T c)
+abbrev pub FitsAsWell : Content → Content → Type 0
+FitsAsWell c d = (T : TypeTree) → (content_tree T c ≡ content_tree T d) × (Fits T d → Fits T c)

@@ -1,6 +1,6 @@
 //! Rust values that stand for lists, options and results.
 use crate::convert::IntoValue;
-use crate::convert::made::{list_of, option_of, result_of, values_of};
+use crate::convert::built::{list_of, option_of, result_of, values_of};
 use crate::value::Value;
 use std::alloc::{AllocError, Global};
 use wave_type::ty::Type;

@@ -228,7 +228,7 @@ impl IntoValue for &str {
     ghost use Rattle.std.specs.Prelude.{◌≡◌, IfOk, refl};
     ghost use Rattle.wave_wasm.specs.Types as type;
     ghost use Rattle.wave_wasm.specs.Values as value;
-    ghost use Rattle.wave_value.specs.ConstructorRules.{Made};
+    ghost use Rattle.wave_value.specs.ConstructorRules.{Built};
 
     ghost own = { type.simple type.string };
 
@@ -244,7 +244,7 @@ impl IntoValue for &str {
 
     // A copy of the text.
     fn into_value(self, alloc: Global) -> Result<Value, AllocError>
-        ensures { IfOk result (Made (value.leaf (value.string self.now)) (type.simple type.string)) }
+        ensures { IfOk result (Built (value.leaf (value.string self.now)) (type.simple type.string)) }
     {
         Ok(Value::from(String::from_str(alloc, self)?))
     }

@@ -2,11 +2,11 @@
 ghost use Rattle.std.specs.Prelude.{◌≡◌, ◌∷◌, IfOk, map};
 ghost use Rattle.wave_wasm.specs.Types as type;
 ghost use Rattle.wave_wasm.specs.Types.{types_of};
-ghost use Rattle.wave_value.specs.ConstructorRules.{Made};
+ghost use Rattle.wave_value.specs.ConstructorRules.{Built};
 ghost use Rattle.wave_value.specs.RustValues.{tuple_value};
 
 use crate::convert::IntoValue;
-use crate::convert::made::{tuple_of, tuple_type};
+use crate::convert::built::{tuple_of, tuple_type};
 use crate::value::Value;
 use std::alloc::{AllocError, Global};
 use wave_type::ty::Type;
@@ -88,7 +88,7 @@ fn type_of<A: IntoValue, P: Parts>(alloc: Global) -> Result<Type, AllocError>
 
 // The tuple of what the parts stand for.
 fn value_of<A: IntoValue, P: Parts>(alloc: Global, parts: (A, P)) -> Result<Value, AllocError>
-    ensures { IfOk result (Made
+    ensures { IfOk result (Built
         (tuple_value (A.tree parts.0 ∷ map (λ v. v.tree) (P.typed parts.1)))
         (type.tuple (types_of (A.own ∷ P.owns)))) }
 {

@@ -7,14 +7,14 @@ ghost use Rattle.wave_wasm.specs.Values.{values, maybe_value};
 ghost use Rattle.wave_wasm.specs.ConstructorContracts.{list_value, result_value, either_tree};
 ghost use Rattle.wave_value.specs.ValueModel.{trees, payload_tree, boxed, first_names};
 ghost use Rattle.wave_value.specs.Private.ValueModel.{PayloadAt, FieldsAt};
-ghost use Rattle.wave_value.specs.ConstructorRules.{Made, HasLength, TakesList, TakesTuple, TakesOption, TakesResult, TakesEnum, option_stated};
+ghost use Rattle.wave_value.specs.ConstructorRules.{Built, HasLength, TakesList, TakesTuple, TakesOption, TakesResult, TakesEnum, option_stated};
 ghost use Rattle.wave_value.specs.ConstructorRules.{RefusesList, RefusesParts, RefusesTuple, RefusesPayload, RefusesResult, RefusesEnum};
-ghost use Rattle.wave_value.specs.CaseRules.{MadeMap, TakesMap, map_stated};
-ghost use Rattle.wave_value.specs.Private.ConstructorRules.{Tells, SaysLength};
+ghost use Rattle.wave_value.specs.CaseRules.{BuiltMap, TakesMap, map_stated};
+ghost use Rattle.wave_value.specs.Private.ConstructorRules.{Reports, SaysLength};
 ghost use Rattle.wave_wasm.specs.Borrowed.{shown, named};
 ghost use Rattle.wave_type.specs.TypeModel.{by_bytes, record_part};
 ghost use Rattle.wave_value.specs.Private.RecordConstructor.{held, InOrder, IsInTurn};
-ghost use Rattle.wave_value.specs.RecordConstructor.{last_under, TakesRecord, MadeRecord, RefusesRecord, RefusesFields};
+ghost use Rattle.wave_value.specs.RecordConstructor.{last_under, TakesRecord, BuiltRecord, RefusesRecord, RefusesFields};
 
 use super::refusals::{NameErrorKind, ShowsValue, named, wrong_kind, wrong_type};
 use super::{Content, Type, Value};
@@ -30,7 +30,7 @@ mod unchecked;
 impl Value {
     // Whether the value's own type is this one.
     fn is_at(&self, ty: &Type) -> bool
-        ensures { Tells result ty.now self.now }
+        ensures { Reports result ty.now self.now }
     {
         self.own == *ty
     }
@@ -41,7 +41,7 @@ impl Value {
         ty: &Type,
         vals: Vec<Value>,
     ) -> Result<Value, WasmValueError>
-        ensures made { IfOk result (Made (list_value ty.now (trees vals.items)) ty.now) }
+        ensures built { IfOk result (Built (list_value ty.now (trees vals.items)) ty.now) }
         ensures taken { OnOk result (TakesList ty.now vals.items) }
         ensures refused { IfErr result (RefusesList S.words ty.now vals.items) }
     {
@@ -66,7 +66,7 @@ impl Value {
         ty: &Type,
         vals: Vec<Value>,
     ) -> Result<Value, WasmValueError>
-        ensures made { IfOk result (Made (value.tuple (values (trees vals.items))) ty.now) }
+        ensures built { IfOk result (Built (value.tuple (values (trees vals.items))) ty.now) }
         ensures taken { OnOk result (TakesTuple ty.now vals.items) }
         ensures refused { IfErr result (RefusesTuple S.words ty.now vals.items) }
     {
@@ -97,7 +97,7 @@ impl Value {
         ty: &Type,
         fields: Vec<(&str, Value)>,
     ) -> Result<Value, WasmValueError>
-        ensures made { IfOk result (MadeRecord (named fields.entry.items) ty.now) }
+        ensures built { IfOk result (BuiltRecord (named fields.entry.items) ty.now) }
         ensures taken { OnOk result (TakesRecord ty.now (named fields.entry.items)) }
         ensures refused { IfErr result (RefusesRecord S.words ty.now (named fields.entry.items)) }
     {
@@ -117,7 +117,7 @@ impl Value {
         ty: &Type,
         entries: Vec<(Value, Value)>,
     ) -> Result<Value, WasmValueError>
-        ensures made { IfOk result (MadeMap entries.items ty.now) }
+        ensures built { IfOk result (BuiltMap entries.items ty.now) }
         ensures taken { OnOk result (TakesMap ty.now entries.items) }
         ensures refused { IfErr result (RefusesParts S.words WasmTypeKind.Map ty.now (map_stated ty.now entries.items)) }
     {
@@ -144,7 +144,7 @@ impl Value {
         ty: &Type,
         val: Option<Value>,
     ) -> Result<Value, WasmValueError>
-        ensures made { IfOk result (Made (value.option (maybe_value (payload_tree val))) ty.now) }
+        ensures built { IfOk result (Built (value.option (maybe_value (payload_tree val))) ty.now) }
         ensures taken { OnOk result (TakesOption ty.now val) }
         ensures refused { IfErr result (RefusesParts S.words WasmTypeKind.Option ty.now (option_stated ty.now val)) }
     {
@@ -175,7 +175,7 @@ impl Value {
         ty: &Type,
         val: Result<Option<Value>, Option<Value>>,
     ) -> Result<Value, WasmValueError>
-        ensures made { IfOk result (Made (result_value (either_tree (λ v. v.tree) val)) ty.now) }
+        ensures built { IfOk result (Built (result_value (either_tree (λ v. v.tree) val)) ty.now) }
         ensures taken { OnOk result (TakesResult ty.now val) }
         ensures refused { IfErr result (RefusesResult S.words ty.now val) }
     {
@@ -203,7 +203,7 @@ impl Value {
     /// The case of this name, whose own type is this one. A type of another kind is refused, and
     /// a name that is no case.
     pub fn make_enum(alloc: Global, ty: &Type, case: &str) -> Result<Value, WasmValueError>
-        ensures made { IfOk result (Made (value.enum case.now) ty.now) }
+        ensures built { IfOk result (Built (value.enum case.now) ty.now) }
         ensures taken { OnOk result (TakesEnum ty.now case.now) }
         ensures refused { IfErr result (RefusesEnum ty.now case.now) }
     {

@@ -6,10 +6,10 @@ ghost use Rattle.wave_wasm.specs.Values.{values, maybe_value};
 ghost use Rattle.wave_wasm.specs.ConstructorContracts.{list_value, result_value, either_tree};
 ghost use Rattle.wave_wasm.specs.Borrowed.{named};
 ghost use Rattle.wave_value.specs.ValueModel.{trees, payload_tree};
-ghost use Rattle.wave_value.specs.ConstructorRules.{Made, TakesList, TakesTuple, TakesOption, TakesResult, value_text, option_stated};
+ghost use Rattle.wave_value.specs.ConstructorRules.{Built, TakesList, TakesTuple, TakesOption, TakesResult, value_text, option_stated};
 ghost use Rattle.wave_value.specs.ConstructorRules.{RefusesList, RefusesParts, RefusesTuple, RefusesResult};
-ghost use Rattle.wave_value.specs.CaseRules.{TakesVariant, RefusesVariant, MadeMap, TakesMap, map_stated};
-ghost use Rattle.wave_value.specs.RecordConstructor.{TakesRecord, MadeRecord, RefusesRecord};
+ghost use Rattle.wave_value.specs.CaseRules.{TakesVariant, RefusesVariant, BuiltMap, TakesMap, map_stated};
+ghost use Rattle.wave_value.specs.RecordConstructor.{TakesRecord, BuiltRecord, RefusesRecord};
 
 use super::refusals::ByText;
 use super::{Type, Value};
@@ -21,7 +21,7 @@ impl Value {
     /// kind is refused, and another count than a fixed-length list's, and an item whose own type
     /// isn't the element type.
     pub fn make_list(alloc: Global, ty: &Type, vals: Vec<Value>) -> Result<Value, WasmValueError>
-        ensures made { IfOk result (Made (list_value ty.now (trees vals.items)) ty.now) }
+        ensures built { IfOk result (Built (list_value ty.now (trees vals.items)) ty.now) }
         ensures taken { OnOk result (TakesList ty.now vals.items) }
         ensures refused { IfErr result (RefusesList value_text ty.now vals.items) }
     {
@@ -31,7 +31,7 @@ impl Value {
     /// The tuple of these items, whose own type is this one. A type of another kind is refused, and
     /// another count than the type's, and an item whose own type isn't the one at its place.
     pub fn make_tuple(alloc: Global, ty: &Type, vals: Vec<Value>) -> Result<Value, WasmValueError>
-        ensures made { IfOk result (Made (value.tuple (values (trees vals.items))) ty.now) }
+        ensures built { IfOk result (Built (value.tuple (values (trees vals.items))) ty.now) }
         ensures taken { OnOk result (TakesTuple ty.now vals.items) }
         ensures refused { IfErr result (RefusesTuple value_text ty.now vals.items) }
     {
@@ -47,7 +47,7 @@ impl Value {
         ty: &Type,
         fields: Vec<(&str, Value)>,
     ) -> Result<Value, WasmValueError>
-        ensures made { IfOk result (MadeRecord (named fields.entry.items) ty.now) }
+        ensures built { IfOk result (BuiltRecord (named fields.entry.items) ty.now) }
         ensures taken { OnOk result (TakesRecord ty.now (named fields.entry.items)) }
         ensures refused { IfErr result (RefusesRecord value_text ty.now (named fields.entry.items)) }
     {
@@ -61,7 +61,7 @@ impl Value {
         ty: &Type,
         val: Option<Value>,
     ) -> Result<Value, WasmValueError>
-        ensures made { IfOk result (Made (value.option (maybe_value (payload_tree val))) ty.now) }
+        ensures built { IfOk result (Built (value.option (maybe_value (payload_tree val))) ty.now) }
         ensures taken { OnOk result (TakesOption ty.now val) }
         ensures refused { IfErr result (RefusesParts value_text WasmTypeKind.Option ty.now (option_stated ty.now val)) }
     {
@@ -76,7 +76,7 @@ impl Value {
         ty: &Type,
         val: Result<Option<Value>, Option<Value>>,
     ) -> Result<Value, WasmValueError>
-        ensures made { IfOk result (Made (result_value (either_tree (λ v. v.tree) val)) ty.now) }
+        ensures built { IfOk result (Built (result_value (either_tree (λ v. v.tree) val)) ty.now) }
         ensures taken { OnOk result (TakesResult ty.now val) }
         ensures refused { IfErr result (RefusesResult value_text ty.now val) }
     {
@@ -92,7 +92,7 @@ impl Value {
         case: &str,
         val: Option<Value>,
     ) -> Result<Value, WasmValueError>
-        ensures made { IfOk result (Made (value.variant case.now (maybe_value (payload_tree val))) ty.now) }
+        ensures built { IfOk result (Built (value.variant case.now (maybe_value (payload_tree val))) ty.now) }
         ensures taken { OnOk result (TakesVariant ty.now case.now val) }
         ensures refused { IfErr result (RefusesVariant value_text ty.now case.now val) }
     {
@@ -107,7 +107,7 @@ impl Value {
         ty: &Type,
         entries: Vec<(Value, Value)>,
     ) -> Result<Value, WasmValueError>
-        ensures made { IfOk result (MadeMap entries.items ty.now) }
+        ensures built { IfOk result (BuiltMap entries.items ty.now) }
         ensures taken { OnOk result (TakesMap ty.now entries.items) }
         ensures refused { IfErr result (RefusesParts value_text WasmTypeKind.Map ty.now (map_stated ty.now entries.items)) }
     {

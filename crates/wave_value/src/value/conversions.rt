@@ -8,7 +8,7 @@ ghost use Rattle.wave_value.specs.TypedValue.{typed_leaf};
 use super::{Scalar, Type, Value, scalar_value, string_value};
 
 impl From<bool> for Value {
-    ghost from_gives = { λ val made. made ≡ typed_leaf (value.bool val) };
+    ghost from_gives = { λ val built. built ≡ typed_leaf (value.bool val) };
 
     fn from(val: bool) -> Value {
         scalar_value(Type::BOOL, Scalar::Bool(val))
@@ -16,7 +16,7 @@ impl From<bool> for Value {
 }
 
 impl From<i8> for Value {
-    ghost from_gives = { λ val made. made ≡ typed_leaf (value.whole type.s8 val) };
+    ghost from_gives = { λ val built. built ≡ typed_leaf (value.whole type.s8 val) };
 
     fn from(val: i8) -> Value {
         scalar_value(Type::S8, Scalar::S8(val))
@@ -24,7 +24,7 @@ impl From<i8> for Value {
 }
 
 impl From<i16> for Value {
-    ghost from_gives = { λ val made. made ≡ typed_leaf (value.whole type.s16 val) };
+    ghost from_gives = { λ val built. built ≡ typed_leaf (value.whole type.s16 val) };
 
     fn from(val: i16) -> Value {
         scalar_value(Type::S16, Scalar::S16(val))
@@ -32,7 +32,7 @@ impl From<i16> for Value {
 }
 
 impl From<i32> for Value {
-    ghost from_gives = { λ val made. made ≡ typed_leaf (value.whole type.s32 val) };
+    ghost from_gives = { λ val built. built ≡ typed_leaf (value.whole type.s32 val) };
 
     fn from(val: i32) -> Value {
         scalar_value(Type::S32, Scalar::S32(val))
@@ -40,7 +40,7 @@ impl From<i32> for Value {
 }
 
 impl From<i64> for Value {
-    ghost from_gives = { λ val made. made ≡ typed_leaf (value.whole type.s64 val) };
+    ghost from_gives = { λ val built. built ≡ typed_leaf (value.whole type.s64 val) };
 
     fn from(val: i64) -> Value {
         scalar_value(Type::S64, Scalar::S64(val))
@@ -48,7 +48,7 @@ impl From<i64> for Value {
 }
 
 impl From<u8> for Value {
-    ghost from_gives = { λ val made. made ≡ typed_leaf (value.whole type.u8 (pos val)) };
+    ghost from_gives = { λ val built. built ≡ typed_leaf (value.whole type.u8 (pos val)) };
 
     fn from(val: u8) -> Value {
         scalar_value(Type::U8, Scalar::U8(val))
@@ -56,7 +56,7 @@ impl From<u8> for Value {
 }
 
 impl From<u16> for Value {
-    ghost from_gives = { λ val made. made ≡ typed_leaf (value.whole type.u16 (pos val)) };
+    ghost from_gives = { λ val built. built ≡ typed_leaf (value.whole type.u16 (pos val)) };
 
     fn from(val: u16) -> Value {
         scalar_value(Type::U16, Scalar::U16(val))
@@ -64,7 +64,7 @@ impl From<u16> for Value {
 }
 
 impl From<u32> for Value {
-    ghost from_gives = { λ val made. made ≡ typed_leaf (value.whole type.u32 (pos val)) };
+    ghost from_gives = { λ val built. built ≡ typed_leaf (value.whole type.u32 (pos val)) };
 
     fn from(val: u32) -> Value {
         scalar_value(Type::U32, Scalar::U32(val))
@@ -72,7 +72,7 @@ impl From<u32> for Value {
 }
 
 impl From<u64> for Value {
-    ghost from_gives = { λ val made. made ≡ typed_leaf (value.whole type.u64 (pos val)) };
+    ghost from_gives = { λ val built. built ≡ typed_leaf (value.whole type.u64 (pos val)) };
 
     fn from(val: u64) -> Value {
         scalar_value(Type::U64, Scalar::U64(val))
@@ -80,7 +80,7 @@ impl From<u64> for Value {
 }
 
 impl From<char> for Value {
-    ghost from_gives = { λ val made. made ≡ typed_leaf (value.char val) };
+    ghost from_gives = { λ val built. built ≡ typed_leaf (value.char val) };
 
     fn from(val: char) -> Value {
         scalar_value(Type::CHAR, Scalar::Char(val))
@@ -88,7 +88,7 @@ impl From<char> for Value {
 }
 
 impl From<String> for Value {
-    ghost from_gives = { λ val made. made ≡ typed_leaf (value.string (string_bytes val)) };
+    ghost from_gives = { λ val built. built ≡ typed_leaf (value.string (string_bytes val)) };
 
     fn from(val: String) -> Value {
         string_value(val)

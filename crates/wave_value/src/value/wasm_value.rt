@@ -7,7 +7,7 @@ use std::alloc::{AllocError, Global};
 use std::mem::replace;
 use wave_wasm::wasm::{WasmTypeKind, WasmValue, WasmValueError};
 
-#[tactic(auto, using(crate::proofs::Lawful::Values::made_leaf, crate::proofs::Lawful::Values::made_only, crate::proofs::Lawful::Values::never_refused, crate::proofs::Lawful::Values::full_leaf, crate::proofs::Lawful::Values::well_formed, crate::proofs::Lawful::Values::made_where, crate::proofs::Lawful::Values::full_list, crate::proofs::Lawful::Values::full_tuple, crate::proofs::Lawful::Records::made_record, crate::proofs::Lawful::VariantsFlagsMaps::full_variant, crate::proofs::Lawful::Values::full_option, crate::proofs::Lawful::Values::full_enum, crate::proofs::Lawful::Values::full_result, crate::proofs::Lawful::VariantsFlagsMaps::made_flags, crate::proofs::Lawful::VariantsFlagsMaps::full_flags, crate::proofs::Lawful::VariantsFlagsMaps::made_map, crate::proofs::Lawful::VariantsFlagsMaps::full_map))]
+#[tactic(auto, using(crate::proofs::Lawful::Values::built_leaf, crate::proofs::Lawful::Values::built_only, crate::proofs::Lawful::Values::never_refused, crate::proofs::Lawful::Values::full_leaf, crate::proofs::Lawful::Values::well_formed, crate::proofs::Lawful::Values::built_where, crate::proofs::Lawful::Values::full_list, crate::proofs::Lawful::Values::full_tuple, crate::proofs::Lawful::Records::built_record, crate::proofs::Lawful::VariantsFlagsMaps::full_variant, crate::proofs::Lawful::Values::full_option, crate::proofs::Lawful::Values::full_enum, crate::proofs::Lawful::Values::full_result, crate::proofs::Lawful::VariantsFlagsMaps::built_flags, crate::proofs::Lawful::VariantsFlagsMaps::full_flags, crate::proofs::Lawful::VariantsFlagsMaps::built_map, crate::proofs::Lawful::VariantsFlagsMaps::full_map))]
 impl WasmValue for Value {
     ghost use Rattle.std.specs.Prelude.{◌≡◌, IfOk, IfErr, OnOk, pos};
     ghost use Rattle.wave_wasm.specs.Names.{found_in};
@@ -23,10 +23,10 @@ impl WasmValue for Value {
     ghost use Rattle.wave_wasm.specs.ConstructorContracts.{TypedList, TypedTuple, TypedRecord, TypedVariant, TypedOption, TypedResult, TypedMap};
     ghost use Rattle.wave_value.specs.ValueModel.{trees, payload_tree};
     ghost use Rattle.wave_value.specs.TypedValue.{IsAt, MakesOnly, typed_leaf};
-    ghost use Rattle.wave_value.specs.ConstructorRules.{Made, TakesList, TakesTuple, TakesOption, TakesResult, TakesEnum, own_text, option_stated};
+    ghost use Rattle.wave_value.specs.ConstructorRules.{Built, TakesList, TakesTuple, TakesOption, TakesResult, TakesEnum, own_text, option_stated};
     ghost use Rattle.wave_value.specs.ConstructorRules.{RefusesList, RefusesParts, RefusesTuple, RefusesResult, RefusesEnum};
-    ghost use Rattle.wave_value.specs.CaseRules.{TakesVariant, RefusesVariant, TakesFlags, RefusesFlags, MadeMap, TakesMap, map_stated};
-    ghost use Rattle.wave_value.specs.RecordConstructor.{TakesRecord, MadeRecord, RefusesRecord};
+    ghost use Rattle.wave_value.specs.CaseRules.{TakesVariant, RefusesVariant, TakesFlags, RefusesFlags, BuiltMap, TakesMap, map_stated};
+    ghost use Rattle.wave_value.specs.RecordConstructor.{TakesRecord, BuiltRecord, RefusesRecord};
     ghost use Rattle.wave_value.specs.FullTypes.{IsFull, full_parts};
 
     type Type = Type;
@@ -107,16 +107,16 @@ impl WasmValue for Value {
     }
 
     fn make_string(alloc: Global, val: &str) -> Result<Value, WasmValueError>
-        ensures made { IfOk result (λ v. (v ≡ typed_leaf (value.string val.now)) × IsSound (value.string val.now)) }
+        ensures built { IfOk result (λ v. (v ≡ typed_leaf (value.string val.now)) × IsSound (value.string val.now)) }
         ensures refused { IfErr result IsMemory }
     {
         Value::make_string(alloc, val)
     }
 
     fn make_list(alloc: Global, ty: &Type, vals: Vec<Value>) -> Result<Value, WasmValueError>
-        ensures made { IfOk result (MakesList (λ v. v.tree) (λ v T. IsAt T v) ty.now vals.items) }
+        ensures built { IfOk result (MakesList (λ v. v.tree) (λ v T. IsAt T v) ty.now vals.items) }
         ensures full { IfErr result (FullList (λ v T. IsAt T v) IsFull ty.now vals.items) }
-        ensures exact { IfOk result (Made (list_value ty.now (trees vals.items)) ty.now) }
+        ensures exact { IfOk result (Built (list_value ty.now (trees vals.items)) ty.now) }
         ensures taken { OnOk result (TakesList ty.now vals.items) }
         ensures refused { IfErr result (RefusesList own_text ty.now vals.items) }
     {
@@ -124,9 +124,9 @@ impl WasmValue for Value {
     }
 
     fn make_tuple(alloc: Global, ty: &Type, vals: Vec<Value>) -> Result<Value, WasmValueError>
-        ensures made { IfOk result (MakesTuple (λ v. v.tree) (λ v T. IsAt T v) ty.now vals.items) }
+        ensures built { IfOk result (MakesTuple (λ v. v.tree) (λ v T. IsAt T v) ty.now vals.items) }
         ensures full { IfErr result (FullTuple (λ v T. IsAt T v) IsFull ty.now vals.items) }
-        ensures exact { IfOk result (Made (value.tuple (values (trees vals.items))) ty.now) }
+        ensures exact { IfOk result (Built (value.tuple (values (trees vals.items))) ty.now) }
         ensures taken { OnOk result (TakesTuple ty.now vals.items) }
         ensures refused { IfErr result (RefusesTuple own_text ty.now vals.items) }
     {
@@ -138,9 +138,9 @@ impl WasmValue for Value {
         ty: &Type,
         fields: Vec<(&str, Value)>,
     ) -> Result<Value, WasmValueError>
-        ensures made { IfOk result (MakesRecord (λ v. v.tree) (λ v T. IsAt T v) ty.now fields.entry.items) }
+        ensures built { IfOk result (MakesRecord (λ v. v.tree) (λ v T. IsAt T v) ty.now fields.entry.items) }
         ensures full { IfErr result (FullRecord (λ v T. IsAt T v) IsFull ty.now fields.entry.items) }
-        ensures exact { IfOk result (MadeRecord (named fields.entry.items) ty.now) }
+        ensures exact { IfOk result (BuiltRecord (named fields.entry.items) ty.now) }
         ensures taken { OnOk result (TakesRecord ty.now (named fields.entry.items)) }
         ensures refused { IfErr result (RefusesRecord own_text ty.now (named fields.entry.items)) }
     {
@@ -153,9 +153,9 @@ impl WasmValue for Value {
         case: &str,
         val: Option<Value>,
     ) -> Result<Value, WasmValueError>
-        ensures made { IfOk result (MakesVariant (λ v. v.tree) (λ v T. IsAt T v) ty.now case.now val) }
+        ensures built { IfOk result (MakesVariant (λ v. v.tree) (λ v T. IsAt T v) ty.now case.now val) }
         ensures full { IfErr result (FullVariant (λ v T. IsAt T v) IsFull ty.now case.now val) }
-        ensures exact { IfOk result (Made (value.variant case.now (maybe_value (payload_tree val))) ty.now) }
+        ensures exact { IfOk result (Built (value.variant case.now (maybe_value (payload_tree val))) ty.now) }
         ensures taken { OnOk result (TakesVariant ty.now case.now val) }
         ensures refused { IfErr result (RefusesVariant own_text ty.now case.now val) }
     {
@@ -163,9 +163,9 @@ impl WasmValue for Value {
     }
 
     fn make_enum(alloc: Global, ty: &Type, case: &str) -> Result<Value, WasmValueError>
-        ensures made { IfOk result (MakesEnum (λ v. v.tree) (λ v T. IsAt T v) ty.now case.now) }
+        ensures built { IfOk result (MakesEnum (λ v. v.tree) (λ v T. IsAt T v) ty.now case.now) }
         ensures full { IfErr result (FullEnum (λ v T. IsAt T v) IsFull ty.now case.now) }
-        ensures exact { IfOk result (Made (value.enum case.now) ty.now) }
+        ensures exact { IfOk result (Built (value.enum case.now) ty.now) }
         ensures taken { OnOk result (TakesEnum ty.now case.now) }
         ensures refused { IfErr result (RefusesEnum ty.now case.now) }
     {
@@ -173,9 +173,9 @@ impl WasmValue for Value {
     }
 
     fn make_option(alloc: Global, ty: &Type, val: Option<Value>) -> Result<Value, WasmValueError>
-        ensures made { IfOk result (MakesOption (λ v. v.tree) (λ v T. IsAt T v) ty.now val) }
+        ensures built { IfOk result (MakesOption (λ v. v.tree) (λ v T. IsAt T v) ty.now val) }
         ensures full { IfErr result (FullOption (λ v T. IsAt T v) IsFull ty.now val) }
-        ensures exact { IfOk result (Made (value.option (maybe_value (payload_tree val))) ty.now) }
+        ensures exact { IfOk result (Built (value.option (maybe_value (payload_tree val))) ty.now) }
         ensures taken { OnOk result (TakesOption ty.now val) }
         ensures refused { IfErr result (RefusesParts own_text WasmTypeKind.Option ty.now (option_stated ty.now val)) }
     {
@@ -187,9 +187,9 @@ impl WasmValue for Value {
         ty: &Type,
         val: Result<Option<Value>, Option<Value>>,
     ) -> Result<Value, WasmValueError>
-        ensures made { IfOk result (MakesResult (λ v. v.tree) (λ v T. IsAt T v) ty.now val) }
+        ensures built { IfOk result (MakesResult (λ v. v.tree) (λ v T. IsAt T v) ty.now val) }
         ensures full { IfErr result (FullResult (λ v T. IsAt T v) IsFull ty.now val) }
-        ensures exact { IfOk result (Made (result_value (either_tree (λ v. v.tree) val)) ty.now) }
+        ensures exact { IfOk result (Built (result_value (either_tree (λ v. v.tree) val)) ty.now) }
         ensures taken { OnOk result (TakesResult ty.now val) }
         ensures refused { IfErr result (RefusesResult own_text ty.now val) }
     {
@@ -197,9 +197,9 @@ impl WasmValue for Value {
     }
 
     fn make_flags(alloc: Global, ty: &Type, names: &[&str]) -> Result<Value, WasmValueError>
-        ensures made { IfOk result (MakesFlags (λ v. v.tree) (λ v T. IsAt T v) ty.now names.now) }
+        ensures built { IfOk result (MakesFlags (λ v. v.tree) (λ v T. IsAt T v) ty.now names.now) }
         ensures full { IfErr result (FullFlags (λ v T. IsAt T v) IsFull ty.now names.now) }
-        ensures exact { IfOk result (Made (value.flags (found_in (texts names.now) (flags_names ty.now))) ty.now) }
+        ensures exact { IfOk result (Built (value.flags (found_in (texts names.now) (flags_names ty.now))) ty.now) }
         ensures taken { OnOk result (TakesFlags ty.now (texts names.now)) }
         ensures refused { IfErr result (RefusesFlags ty.now (texts names.now)) }
     {
@@ -211,9 +211,9 @@ impl WasmValue for Value {
         ty: &Type,
         entries: Vec<(Value, Value)>,
     ) -> Result<Value, WasmValueError>
-        ensures made { IfOk result (MakesMap (λ v. v.tree) (λ v T. IsAt T v) ty.now entries.items) }
+        ensures built { IfOk result (MakesMap (λ v. v.tree) (λ v T. IsAt T v) ty.now entries.items) }
         ensures full { IfErr result (FullMap (λ v T. IsAt T v) IsFull ty.now entries.items) }
-        ensures exact { IfOk result (MadeMap entries.items ty.now) }
+        ensures exact { IfOk result (BuiltMap entries.items ty.now) }
         ensures taken { OnOk result (TakesMap ty.now entries.items) }
         ensures refused { IfErr result (RefusesParts own_text WasmTypeKind.Map ty.now (map_stated ty.now entries.items)) }
     {
@@ -226,9 +226,9 @@ impl WasmValue for Value {
         vals: &mut Vec<Value>,
     ) -> Result<Value, WasmValueError>
         requires { HasDistinctNames ty.now → TypedList (λ v T. IsAt T v) ty.now vals.now.items }
-        ensures made { IfOk result (MakesList (λ v. v.tree) (λ v T. IsAt T v) ty.now vals.old.items) }
+        ensures built { IfOk result (MakesList (λ v. v.tree) (λ v T. IsAt T v) ty.now vals.old.items) }
         ensures full { IfErr result (FullList (λ v T. IsAt T v) IsFull ty.now vals.old.items) }
-        ensures exact { IfOk result (Made (list_value ty.now (trees vals.old.items)) ty.now) }
+        ensures exact { IfOk result (Built (list_value ty.now (trees vals.old.items)) ty.now) }
         ensures taken { OnOk result (TakesList ty.now vals.old.items) }
         ensures refused { IfErr result (RefusesList own_text ty.now vals.old.items) }
     {
@@ -241,9 +241,9 @@ impl WasmValue for Value {
         vals: &mut Vec<Value>,
     ) -> Result<Value, WasmValueError>
         requires { HasDistinctNames ty.now → TypedTuple (λ v T. IsAt T v) ty.now vals.now.items }
-        ensures made { IfOk result (MakesTuple (λ v. v.tree) (λ v T. IsAt T v) ty.now vals.old.items) }
+        ensures built { IfOk result (MakesTuple (λ v. v.tree) (λ v T. IsAt T v) ty.now vals.old.items) }
         ensures full { IfErr result (FullTuple (λ v T. IsAt T v) IsFull ty.now vals.old.items) }
-        ensures exact { IfOk result (Made (value.tuple (values (trees vals.old.items))) ty.now) }
+        ensures exact { IfOk result (Built (value.tuple (values (trees vals.old.items))) ty.now) }
         ensures taken { OnOk result (TakesTuple ty.now vals.old.items) }
         ensures refused { IfErr result (RefusesTuple own_text ty.now vals.old.items) }
     {
@@ -256,9 +256,9 @@ impl WasmValue for Value {
         fields: &mut Vec<(&str, Value)>,
     ) -> Result<Value, WasmValueError>
         requires { HasDistinctNames ty.now → TypedRecord (λ v T. IsAt T v) ty.now fields.now.items }
-        ensures made { IfOk result (MakesRecord (λ v. v.tree) (λ v T. IsAt T v) ty.now fields.old.items) }
+        ensures built { IfOk result (MakesRecord (λ v. v.tree) (λ v T. IsAt T v) ty.now fields.old.items) }
         ensures full { IfErr result (FullRecord (λ v T. IsAt T v) IsFull ty.now fields.old.items) }
-        ensures exact { IfOk result (MadeRecord (named fields.old.items) ty.now) }
+        ensures exact { IfOk result (BuiltRecord (named fields.old.items) ty.now) }
         ensures taken { OnOk result (TakesRecord ty.now (named fields.old.items)) }
         ensures refused { IfErr result (RefusesRecord own_text ty.now (named fields.old.items)) }
     {
@@ -272,9 +272,9 @@ impl WasmValue for Value {
         val: &mut Option<Value>,
     ) -> Result<Value, WasmValueError>
         requires { HasDistinctNames ty.now → TypedVariant (λ v T. IsAt T v) ty.now case.now val.now }
-        ensures made { IfOk result (MakesVariant (λ v. v.tree) (λ v T. IsAt T v) ty.now case.now val.old) }
+        ensures built { IfOk result (MakesVariant (λ v. v.tree) (λ v T. IsAt T v) ty.now case.now val.old) }
         ensures full { IfErr result (FullVariant (λ v T. IsAt T v) IsFull ty.now case.now val.old) }
-        ensures exact { IfOk result (Made (value.variant case.now (maybe_value (payload_tree val.old))) ty.now) }
+        ensures exact { IfOk result (Built (value.variant case.now (maybe_value (payload_tree val.old))) ty.now) }
         ensures taken { OnOk result (TakesVariant ty.now case.now val.old) }
         ensures refused { IfErr result (RefusesVariant own_text ty.now case.now val.old) }
     {
@@ -287,9 +287,9 @@ impl WasmValue for Value {
         val: &mut Option<Value>,
     ) -> Result<Value, WasmValueError>
         requires { HasDistinctNames ty.now → TypedOption (λ v T. IsAt T v) ty.now val.now }
-        ensures made { IfOk result (MakesOption (λ v. v.tree) (λ v T. IsAt T v) ty.now val.old) }
+        ensures built { IfOk result (MakesOption (λ v. v.tree) (λ v T. IsAt T v) ty.now val.old) }
         ensures full { IfErr result (FullOption (λ v T. IsAt T v) IsFull ty.now val.old) }
-        ensures exact { IfOk result (Made (value.option (maybe_value (payload_tree val.old))) ty.now) }
+        ensures exact { IfOk result (Built (value.option (maybe_value (payload_tree val.old))) ty.now) }
         ensures taken { OnOk result (TakesOption ty.now val.old) }
         ensures refused { IfErr result (RefusesParts own_text WasmTypeKind.Option ty.now (option_stated ty.now val.old)) }
     {
@@ -302,9 +302,9 @@ impl WasmValue for Value {
         val: &mut Result<Option<Value>, Option<Value>>,
     ) -> Result<Value, WasmValueError>
         requires { HasDistinctNames ty.now → TypedResult (λ v T. IsAt T v) ty.now val.now }
-        ensures made { IfOk result (MakesResult (λ v. v.tree) (λ v T. IsAt T v) ty.now val.old) }
+        ensures built { IfOk result (MakesResult (λ v. v.tree) (λ v T. IsAt T v) ty.now val.old) }
         ensures full { IfErr result (FullResult (λ v T. IsAt T v) IsFull ty.now val.old) }
-        ensures exact { IfOk result (Made (result_value (either_tree (λ v. v.tree) val.old)) ty.now) }
+        ensures exact { IfOk result (Built (result_value (either_tree (λ v. v.tree) val.old)) ty.now) }
         ensures taken { OnOk result (TakesResult ty.now val.old) }
         ensures refused { IfErr result (RefusesResult own_text ty.now val.old) }
     {
@@ -317,9 +317,9 @@ impl WasmValue for Value {
         entries: &mut Vec<(Value, Value)>,
     ) -> Result<Value, WasmValueError>
         requires { HasDistinctNames ty.now → TypedMap (λ v T. IsAt T v) ty.now entries.now.items }
-        ensures made { IfOk result (MakesMap (λ v. v.tree) (λ v T. IsAt T v) ty.now entries.old.items) }
+        ensures built { IfOk result (MakesMap (λ v. v.tree) (λ v T. IsAt T v) ty.now entries.old.items) }
         ensures full { IfErr result (FullMap (λ v T. IsAt T v) IsFull ty.now entries.old.items) }
-        ensures exact { IfOk result (MadeMap entries.old.items ty.now) }
+        ensures exact { IfOk result (BuiltMap entries.old.items ty.now) }
         ensures taken { OnOk result (TakesMap ty.now entries.old.items) }
         ensures refused { IfErr result (RefusesParts own_text WasmTypeKind.Map ty.now (map_stated ty.now entries.old.items)) }
     {

@@ -17,7 +17,7 @@ use Rattle.std.specs.Prelude.{◌&&◌, Err}
 use Rattle.wave_wasm.specs.Private.Text.{whole_text}
 use Rattle.wave_wasm.specs.Private.WriterState.{Writes}
 use Rattle.wave_wasm.specs.Text.{bool_text}
-use Rattle.wave_wasm.proofs.CanonicalText.Sequences.{at_end, at_item, fronted}
+use Rattle.wave_wasm.proofs.CanonicalText.Sequences.{at_end, at_item, prefixed}
 use Rattle.wave_wasm.proofs.CanonicalText.WrittenParts.{Writing, start_written, writing_as, writing_more, writing_refused}
 
 -- ---- texts that are put into a row
@@ -135,22 +135,22 @@ taken_refused f P items at end row {old} {now} {new} {e} r is refused =
 left_is : {X : Type 0} (ys : List X) (n : ℕ) → take (length ys - n) (drop n ys) ≡ drop n ys
 left_is ys n = take_all (length ys - n) (drop n ys) (omega (arith, length-drop n ys))
 
-rows_fronted : (ss ts : List (List ℕ)) (last : List ℕ) → fronted (ss ++ ts) last ≡ with_commas ss ++ fronted ts last
-rows_fronted [] ts last = refl
-rows_fronted (s ∷ ss) ts last = ap (λ z. s ++ (codes ", " ++ z)) (rows_fronted ss ts last) ∙ sym (append_assoc s (codes ", " ++ with_commas ss) (fronted ts last))
+rows_prefixed : (ss ts : List (List ℕ)) (last : List ℕ) → prefixed (ss ++ ts) last ≡ with_commas ss ++ prefixed ts last
+rows_prefixed [] ts last = refl
+rows_prefixed (s ∷ ss) ts last = ap (λ z. s ++ (codes ", " ++ z)) (rows_prefixed ss ts last) ∙ sym (append_assoc s (codes ", " ++ with_commas ss) (prefixed ts last))
 
 -- of the texts before the last one the first n are written
-pub writing_rest : {X : Type 0} (f : X → List ℕ) (ys : List X) (n : ℕ) (last close : List ℕ) {whole : List ℕ} {old now new : Output} → Writing whole (fronted (map f ys) last ++ close) old now → Appended (with_commas (map f (take n ys))) now new → Writing whole (fronted (map f (take (length ys - n) (drop n ys))) last ++ close) old new
+pub writing_rest : {X : Type 0} (f : X → List ℕ) (ys : List X) (n : ℕ) (last close : List ℕ) {whole : List ℕ} {old now new : Output} → Writing whole (prefixed (map f ys) last ++ close) old now → Appended (with_commas (map f (take n ys))) now new → Writing whole (prefixed (map f (take (length ys - n) (drop n ys))) last ++ close) old new
 writing_rest f ys n last close w a =
     let split : map f ys ≡ map f (take n ys) ++ map f (drop n ys) = ap (map f) (sym (take-append-drop n ys)) ∙ map-append f (take n ys) (drop n ys) in
-    let rest = fronted (map f (drop n ys)) last in
-    let begins = ap (λ z. fronted z last ++ close) split ∙ (ap (λ z. z ++ close) (rows_fronted (map f (take n ys)) (map f (drop n ys)) last) ∙ append_assoc (with_commas (map f (take n ys))) rest close) in
-    writing_as (ap (λ z. fronted (map f z) last ++ close) (sym (left_is ys n))) (writing_more (writing_as begins w) a)
+    let rest = prefixed (map f (drop n ys)) last in
+    let begins = ap (λ z. prefixed z last ++ close) split ∙ (ap (λ z. z ++ close) (rows_prefixed (map f (take n ys)) (map f (drop n ys)) last) ∙ append_assoc (with_commas (map f (take n ys))) rest close) in
+    writing_as (ap (λ z. prefixed (map f z) last ++ close) (sym (left_is ys n))) (writing_more (writing_as begins w) a)
 
 -- a row of them is refused
-pub refused_rows : {X : Type 0} (f : X → List ℕ) (ys : List X) (last close : List ℕ) {whole : List ℕ} {old now new : Output} {all : Bool} {e : WriterError} → Writing whole (fronted (map f ys) last ++ close) old now → Refused (with_commas (map f ys)) true e now new → Writes whole all (Err e) old new
+pub refused_rows : {X : Type 0} (f : X → List ℕ) (ys : List X) (last close : List ℕ) {whole : List ℕ} {old now new : Output} {all : Bool} {e : WriterError} → Writing whole (prefixed (map f ys) last ++ close) old now → Refused (with_commas (map f ys)) true e now new → Writes whole all (Err e) old new
 refused_rows f ys last close w r =
-    let begins = ap (λ z. fronted z last ++ close) (sym (append-nil (map f ys))) ∙ (ap (λ z. z ++ close) (rows_fronted (map f ys) [] last) ∙ append_assoc (with_commas (map f ys)) last close) in
+    let begins = ap (λ z. prefixed z last ++ close) (sym (append-nil (map f ys))) ∙ (ap (λ z. z ++ close) (rows_prefixed (map f ys) [] last) ∙ append_assoc (with_commas (map f ys)) last close) in
     writing_refused (last ++ close) (writing_as begins w) (λ h. cc) r
 
 all_of_first : {X : Type 0} (ok : X → Bool) (xs ys : List X) → AllOf (λ x. ok x ≡ true) xs → list_all ok ys ≡ list_all ok (xs ++ ys)

@@ -115,38 +115,38 @@ all_at P xs ys i x same lt is h = each_at P xs i x lt is (subst (AllOf P) (sym s
 -- ---- a last item behind the others
 
 -- the list from which its last item was taken off
-pub front_split : {X : Type 0} (all left ys : List X) (taken : Option X) (last : X) → all ≡ left ++ option_to_list taken → ys ≡ left → taken ≡ Some last → all ≡ ys ++ last ∷ []
-front_split all left ys taken last split same is = split ∙ (ap (λ o. left ++ option_to_list o) is ∙ ap (λ l. l ++ last ∷ []) (sym same))
+pub prefix_split : {X : Type 0} (all left ys : List X) (taken : Option X) (last : X) → all ≡ left ++ option_to_list taken → ys ≡ left → taken ≡ Some last → all ≡ ys ++ last ∷ []
+prefix_split all left ys taken last split same is = split ∙ (ap (λ o. left ++ option_to_list o) is ∙ ap (λ l. l ++ last ∷ []) (sym same))
 
 -- the texts, each before a comma, and then the last one
-abbrev pub fronted : List (List ℕ) → List ℕ → List ℕ
-fronted [] last = last
-fronted (s ∷ ss) last = s ++ (codes ", " ++ fronted ss last)
+abbrev pub prefixed : List (List ℕ) → List ℕ → List ℕ
+prefixed [] last = last
+prefixed (s ∷ ss) last = s ++ (codes ", " ++ prefixed ss last)
 
-followed_front : (ss : List (List ℕ)) (last : List ℕ) → followed (ss ++ last ∷ []) ≡ codes ", " ++ joined (ss ++ last ∷ [])
-followed_front [] last = refl
-followed_front (s ∷ ss) last = refl
+followed_prefix : (ss : List (List ℕ)) (last : List ℕ) → followed (ss ++ last ∷ []) ≡ codes ", " ++ joined (ss ++ last ∷ [])
+followed_prefix [] last = refl
+followed_prefix (s ∷ ss) last = refl
 
 -- they are the texts with commas between
-fronted_joined : (ss : List (List ℕ)) (last : List ℕ) → joined (ss ++ last ∷ []) ≡ fronted ss last
-fronted_joined [] last = append-nil last
-fronted_joined (s ∷ ss) last = ap (λ z. s ++ z) (followed_front ss last ∙ ap (λ z. codes ", " ++ z) (fronted_joined ss last))
+prefixed_joined : (ss : List (List ℕ)) (last : List ℕ) → joined (ss ++ last ∷ []) ≡ prefixed ss last
+prefixed_joined [] last = append-nil last
+prefixed_joined (s ∷ ss) last = ap (λ z. s ++ z) (followed_prefix ss last ∙ ap (λ z. codes ", " ++ z) (prefixed_joined ss last))
 
 -- the start of a sequence with a last item was written
-pub writing_front_start : {X : Type 0} (f : X → List ℕ) (all ys : List X) (last : X) (start end : List ℕ) {whole : List ℕ} {old new : Output} → whole ≡ enclosed start (map f all) end → all ≡ ys ++ last ∷ [] → Appended start old new → Writing whole (fronted (map f ys) (f last) ++ end) old new
-writing_front_start f all ys last start end is split a =
-    let texts = ap (λ l. joined (map f l)) split ∙ (ap joined (map-append f ys (last ∷ [])) ∙ fronted_joined (map f ys) (f last)) in
-    start_written (fronted (map f ys) (f last) ++ end) (is ∙ ap (λ z. start ++ (z ++ end)) texts) a
+pub writing_prefix_start : {X : Type 0} (f : X → List ℕ) (all ys : List X) (last : X) (start end : List ℕ) {whole : List ℕ} {old new : Output} → whole ≡ enclosed start (map f all) end → all ≡ ys ++ last ∷ [] → Appended start old new → Writing whole (prefixed (map f ys) (f last) ++ end) old new
+writing_prefix_start f all ys last start end is split a =
+    let texts = ap (λ l. joined (map f l)) split ∙ (ap joined (map-append f ys (last ∷ [])) ∙ prefixed_joined (map f ys) (f last)) in
+    start_written (prefixed (map f ys) (f last) ++ end) (is ∙ ap (λ z. start ++ (z ++ end)) texts) a
 
 -- what is left to write begins with the next item
-pub writing_front : {X : Type 0} (f : X → List ℕ) (ys : List X) (i : ℕ) (x : X) (last close : List ℕ) {whole : List ℕ} {old now : Output} → i < length ys → x ≡ get_or ys i x → Writing whole (fronted (map f (drop i ys)) last ++ close) old now → Writing whole (f x ++ (codes ", " ++ (fronted (map f (drop (i + 1) ys)) last ++ close))) old now
-writing_front f ys i x last close lt is w =
-    let left = fronted (map f (drop (i + 1) ys)) last in
-    writing_as (at_item (λ l. fronted (map f l) last ++ close) ys i x lt is ∙ (append_assoc (f x) (codes ", " ++ left) close ∙ ap (λ s. f x ++ s) (append_assoc (codes ", ") left close))) w
+pub writing_prefix : {X : Type 0} (f : X → List ℕ) (ys : List X) (i : ℕ) (x : X) (last close : List ℕ) {whole : List ℕ} {old now : Output} → i < length ys → x ≡ get_or ys i x → Writing whole (prefixed (map f (drop i ys)) last ++ close) old now → Writing whole (f x ++ (codes ", " ++ (prefixed (map f (drop (i + 1) ys)) last ++ close))) old now
+writing_prefix f ys i x last close lt is w =
+    let left = prefixed (map f (drop (i + 1) ys)) last in
+    writing_as (at_item (λ l. prefixed (map f l) last ++ close) ys i x lt is ∙ (append_assoc (f x) (codes ", " ++ left) close ∙ ap (λ s. f x ++ s) (append_assoc (codes ", ") left close))) w
 
 -- after the others the last item and the close are left
-pub writing_front_close : {X : Type 0} (f : X → List ℕ) (ys : List X) (i : ℕ) (last close : List ℕ) {whole : List ℕ} {old now : Output} → length ys ≤ i → Writing whole (fronted (map f (drop i ys)) last ++ close) old now → Writing whole (last ++ close) old now
-writing_front_close f ys i last close le w = writing_as (at_end (λ l. fronted (map f l) last ++ close) ys i le) w
+pub writing_prefix_close : {X : Type 0} (f : X → List ℕ) (ys : List X) (i : ℕ) (last close : List ℕ) {whole : List ℕ} {old now : Output} → length ys ≤ i → Writing whole (prefixed (map f (drop i ys)) last ++ close) old now → Writing whole (last ++ close) old now
+writing_prefix_close f ys i last close le w = writing_as (at_end (λ l. prefixed (map f l) last ++ close) ys i le) w
 
 alone : (b : Bool) → (b && true) ≡ b
 alone true = refl
@@ -157,37 +157,37 @@ regrouped true b c = refl
 regrouped false b c = refl
 
 -- all can be written exactly if those before the last and the last one can
-pub front_writable : {X : Type 0} (ok : X → Bool) (ys : List X) (last : X) → list_all ok (ys ++ last ∷ []) ≡ (list_all ok ys && ok last)
-front_writable ok [] last = alone (ok last)
-front_writable ok (y ∷ ys) last = ap (λ b. ok y && b) (front_writable ok ys last) ∙ regrouped (ok y) (list_all ok ys) (ok last)
+pub prefix_writable : {X : Type 0} (ok : X → Bool) (ys : List X) (last : X) → list_all ok (ys ++ last ∷ []) ≡ (list_all ok ys && ok last)
+prefix_writable ok [] last = alone (ok last)
+prefix_writable ok (y ∷ ys) last = ap (λ b. ok y && b) (prefix_writable ok ys last) ∙ regrouped (ok y) (list_all ok ys) (ok last)
 
 -- where one of them can't be written, all can't
-pub front_blocks : {X : Type 0} (ok : X → Bool) (ys : List X) (last : Bool) (i : ℕ) (x : X) (all : Bool) → i < length ys → x ≡ get_or ys i x → (list_all ok (drop i ys) && last) ≡ all → ok x ≡ false → all ≡ false
-front_blocks ok ys last i x all lt is h blocked = sym h ∙ (at_item (λ l. list_all ok l && last) ys i x lt is ∙ ap (λ b. (b && list_all ok (drop (i + 1) ys)) && last) blocked)
+pub prefix_blocks : {X : Type 0} (ok : X → Bool) (ys : List X) (last : Bool) (i : ℕ) (x : X) (all : Bool) → i < length ys → x ≡ get_or ys i x → (list_all ok (drop i ys) && last) ≡ all → ok x ≡ false → all ≡ false
+prefix_blocks ok ys last i x all lt is h blocked = sym h ∙ (at_item (λ l. list_all ok l && last) ys i x lt is ∙ ap (λ b. (b && list_all ok (drop (i + 1) ys)) && last) blocked)
 
 -- where it can be written, the others decide
-pub front_passes : {X : Type 0} (ok : X → Bool) (ys : List X) (last : Bool) (i : ℕ) (x : X) (all : Bool) → i < length ys → x ≡ get_or ys i x → (list_all ok (drop i ys) && last) ≡ all → ok x ≡ true → (list_all ok (drop (i + 1) ys) && last) ≡ all
-front_passes ok ys last i x all lt is h passes = sym (at_item (λ l. list_all ok l && last) ys i x lt is ∙ ap (λ b. (b && list_all ok (drop (i + 1) ys)) && last) passes) ∙ h
+pub prefix_passes : {X : Type 0} (ok : X → Bool) (ys : List X) (last : Bool) (i : ℕ) (x : X) (all : Bool) → i < length ys → x ≡ get_or ys i x → (list_all ok (drop i ys) && last) ≡ all → ok x ≡ true → (list_all ok (drop (i + 1) ys) && last) ≡ all
+prefix_passes ok ys last i x all lt is h passes = sym (at_item (λ l. list_all ok l && last) ys i x lt is ∙ ap (λ b. (b && list_all ok (drop (i + 1) ys)) && last) passes) ∙ h
 
 -- after the others the last item decides
 pub last_decides : {X : Type 0} (ok : X → Bool) (ys : List X) (last : Bool) (i : ℕ) (all : Bool) → length ys ≤ i → (list_all ok (drop i ys) && last) ≡ all → all ≡ last
 last_decides ok ys last i all le h = sym h ∙ at_end (λ l. list_all ok l && last) ys i le
 
-depths_front : {X : Type 0} (f : X → ℕ) (ys : List X) (last : X) → (depths f ys ≤ depths f (ys ++ last ∷ [])) × (f last ≤ depths f (ys ++ last ∷ []))
-depths_front f [] last = (omega arith, omega arith)
-depths_front f (y ∷ ys) last = let h = depths_front f ys last in (omega (arith, h.0), omega (arith, h.1))
+depths_prefix : {X : Type 0} (f : X → ℕ) (ys : List X) (last : X) → (depths f ys ≤ depths f (ys ++ last ∷ [])) × (f last ≤ depths f (ys ++ last ∷ []))
+depths_prefix f [] last = (omega arith, omega arith)
+depths_prefix f (y ∷ ys) last = let h = depths_prefix f ys last in (omega (arith, h.0), omega (arith, h.1))
 
 -- one of them is as deep as the deepest at most
-pub front_depth : {X Y : Type 0} (d : Y → ℕ) (f : X → Y) (all ys : List X) (last : X) (i : ℕ) (x : X) → all ≡ ys ++ last ∷ [] → i < length ys → x ≡ get_or ys i x → d (f x) ≤ depths d (map f all)
-front_depth d f all ys last i x split lt is =
+pub prefix_depth : {X Y : Type 0} (d : Y → ℕ) (f : X → Y) (all ys : List X) (last : X) (i : ℕ) (x : X) → all ≡ ys ++ last ∷ [] → i < length ys → x ≡ get_or ys i x → d (f x) ≤ depths d (map f all)
+prefix_depth d f all ys last i x split lt is =
     let h = depth_at (λ x. d (f x)) ys i x lt is in
-    let k = depths_front (λ x. d (f x)) ys last in
+    let k = depths_prefix (λ x. d (f x)) ys last in
     rw split (rw (depths_map d f (ys ++ last ∷ [])) (omega (arith, h, k.0)))
 
 -- so is the last one
 pub last_depth : {X Y : Type 0} (d : Y → ℕ) (f : X → Y) (all ys : List X) (last : X) → all ≡ ys ++ last ∷ [] → d (f last) ≤ depths d (map f all)
 last_depth d f all ys last split =
-    let k = depths_front (λ x. d (f x)) ys last in
+    let k = depths_prefix (λ x. d (f x)) ys last in
     rw split (rw (depths_map d f (ys ++ last ∷ [])) k.1)
 
 -- a list of which no last item was taken off has none

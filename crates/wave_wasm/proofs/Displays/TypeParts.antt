@@ -12,7 +12,7 @@ use Rattle.wave_wasm.proofs.TypesOfValues.TypeOfKind.{not_simple}
 -- ---- types of many parts
 
 -- the text and the depth of a type by the list of its parts
-pub record IsMade {X : Type 0} (one : X → List ℕ) (deep : X → ℕ) (whole : List (List ℕ) → List ℕ) (t : TypeTree) (parts : List X) : Type 0 where
+pub record IsBuilt {X : Type 0} (one : X → List ℕ) (deep : X → ℕ) (whole : List (List ℕ) → List ℕ) (t : TypeTree) (parts : List X) : Type 0 where
   pub text_is : type_text t ≡ whole (map one parts)
   pub depth_is : depth t ≡ suc (depths deep parts)
 
@@ -25,7 +25,7 @@ types_depth type.no_types = refl
 types_depth (type.type_and T more) = ap (λ n. max (depth T) n) (types_depth more)
 
 -- a tuple type
-pub tuple_is : (t : TypeTree) (parts : List TypeTree) → kind_of t ≡ kinds.Tuple → parts ≡ tuple_parts t → IsMade type_text depth (λ ss. angled (codes "tuple") (joined ss)) t parts
+pub tuple_is : (t : TypeTree) (parts : List TypeTree) → kind_of t ≡ kinds.Tuple → parts ≡ tuple_parts t → IsBuilt type_text depth (λ ss. angled (codes "tuple") (joined ss)) t parts
 tuple_is (type.tuple Ts) parts k e = record {
   text_is = ap (λ z. angled (codes "tuple") (joined z)) (types_text Ts ∙ ap (map type_text) (sym e));
   depth_is = ap suc (types_depth Ts ∙ ap (depths depth) (sym e));
@@ -53,7 +53,7 @@ fields_depth type.no_fields = refl
 fields_depth (type.field name T more) = ap (λ n. max (depth T) n) (fields_depth more)
 
 -- a record type
-pub record_is : (t : TypeTree) (parts : List (List ℕ × TypeTree)) → kind_of t ≡ kinds.Record → parts ≡ record_parts t → IsMade field_text field_depth (braced (codes "record")) t parts
+pub record_is : (t : TypeTree) (parts : List (List ℕ × TypeTree)) → kind_of t ≡ kinds.Record → parts ≡ record_parts t → IsBuilt field_text field_depth (braced (codes "record")) t parts
 record_is (type.record_type fs) parts k e = record {
   text_is = ap (braced (codes "record")) (fields_text fs ∙ ap (map field_text) (sym e));
   depth_is = ap suc (fields_depth fs ∙ ap (depths field_depth) (sym e));
@@ -85,7 +85,7 @@ cases_depth type.no_cases = refl
 cases_depth (type.case_of name payload more) = λ i. max (depth_of_maybe (sym (option_back payload) i)) (cases_depth more i)
 
 -- a variant type
-pub variant_is : (t : TypeTree) (parts : List (List ℕ × Option TypeTree)) → kind_of t ≡ kinds.Variant → parts ≡ variant_parts t → IsMade case_text case_depth (braced (codes "variant")) t parts
+pub variant_is : (t : TypeTree) (parts : List (List ℕ × Option TypeTree)) → kind_of t ≡ kinds.Variant → parts ≡ variant_parts t → IsBuilt case_text case_depth (braced (codes "variant")) t parts
 variant_is (type.variant cs) parts k e = record {
   text_is = ap (braced (codes "variant")) (cases_text cs ∙ ap (map case_text) (sym e));
   depth_is = ap suc (cases_depth cs ∙ ap (depths case_depth) (sym e));

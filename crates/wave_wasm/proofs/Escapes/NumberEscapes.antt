@@ -18,9 +18,9 @@ use Rattle.wave_wasm.proofs.CanonicalText.WrittenParts.{Writing, writing_as, wri
 abbrev last : ℕ → ℕ
 last n = digit_glyph false (n % 16)
 
-append_by : (b : Bool) (n : ℕ) (front front_alone acc : List ℕ) → front ≡ front_alone ++ acc → cond b (last n ∷ acc) front ≡ cond b (last n ∷ []) front_alone ++ acc
-append_by true n front front_alone acc h = refl
-append_by false n front front_alone acc h = h
+append_by : (b : Bool) (n : ℕ) (prefix start_alone acc : List ℕ) → prefix ≡ start_alone ++ acc → cond b (last n ∷ acc) prefix ≡ cond b (last n ∷ []) start_alone ++ acc
+append_by true n prefix start_alone acc h = refl
+append_by false n prefix start_alone acc h = h
 
 -- the digits of n stand before what was there
 onto_append : (k n : ℕ) (acc : List ℕ) → digits_onto k 16 false n acc ≡ digits_onto k 16 false n [] ++ acc
@@ -31,12 +31,12 @@ onto_append (suc k) n acc =
 same_by : (b : Bool) (s t u : List ℕ) → t ≡ u → cond b s t ≡ cond b s u
 same_by b s t u h = ap (cond b s) h
 
-no_front : (n : ℕ) (s t u : List ℕ) → n < 16 → cond (n / 16 == 0) s t ≡ cond (n / 16 == 0) s u
-no_front n s t u h = let e : (n / 16 == 0) ≡ true = search arith in rw e refl
+no_prefix : (n : ℕ) (s t u : List ℕ) → n < 16 → cond (n / 16 == 0) s t ≡ cond (n / 16 == 0) s u
+no_prefix n s t u h = let e : (n / 16 == 0) ≡ true = search arith in rw e refl
 
 -- room for one more digit changes nothing where there is room enough
 more_room : (k n : ℕ) (acc : List ℕ) → n < 16 ^ suc k → digits_onto (suc (suc k)) 16 false n acc ≡ digits_onto (suc k) 16 false n acc
-more_room zero n acc h = no_front n _ _ _ (omega (arith, h))
+more_room zero n acc h = no_prefix n _ _ _ (omega (arith, h))
 more_room (suc k) n acc h = same_by (n / 16 == 0) _ _ _ (more_room k (n / 16) (last n ∷ acc) (omega (arith, h)))
 
 -- the last digit after those before
@@ -54,8 +54,8 @@ digit_at p q n e = ap (λ d. digit_char (d % 16)) e
 one_digit : (n : ℕ) → n < 16 → digits 16 false n ≡ hex_digit_at 1 n ∷ []
 one_digit n h = let e : n ≡ n / 1 % 16 = omega arith in hex_one_digit false n h ∙ ap (λ d. digit_glyph false d ∷ []) e
 
-one_more : (n : ℕ) (front back : List ℕ) → 16 ≤ n → n < 16 ^ 6 → digits 16 false (n / 16) ≡ front → front ≡ back → digits 16 false n ≡ back ++ hex_digit_at 1 n ∷ []
-one_more n front back low high e f =
+one_more : (n : ℕ) (prefix back : List ℕ) → 16 ≤ n → n < 16 ^ 6 → digits 16 false (n / 16) ≡ prefix → prefix ≡ back → digits 16 false n ≡ back ++ hex_digit_at 1 n ∷ []
+one_more n prefix back low high e f =
     let one : n ≡ n / 1 = omega arith in
     hex_step n low (omega (arith, high)) ∙ (ap (λ s. s ++ digit_glyph false (n % 16) ∷ []) (e ∙ f) ∙ ap (λ d. back ++ digit_glyph false (d % 16) ∷ []) one)
 

@@ -131,22 +131,22 @@ same_digits c d s t e =
 placed : (t u v w r s : List ℕ) → t ≡ v → u ≡ w → t ++ r ≡ u ++ s → v ++ r ≡ w ++ s
 placed t u v w r s e f h = ap (λ z. z ++ r) (sym e) ∙ (h ∙ ap (λ z. z ++ s) f)
 
-front : (c d : ℕ) → scalar c ≡ true → scalar d ≡ true → (t u : List ℕ) → IsShort c t ⊎ (IsLong c t ⊎ IsItself c t) → IsShort d u ⊎ (IsLong d u ⊎ IsItself d u) → (r s : List ℕ) → t ++ r ≡ u ++ s → (c ≡ d) × (r ≡ s)
-front c d m n t u (inl (x, e, p, a)) (inl (y, f, q, b)) r s h =
+prefix : (c d : ℕ) → scalar c ≡ true → scalar d ≡ true → (t u : List ℕ) → IsShort c t ⊎ (IsLong c t ⊎ IsItself c t) → IsShort d u ⊎ (IsLong d u ⊎ IsItself d u) → (r s : List ℕ) → t ++ r ≡ u ++ s → (c ≡ d) × (r ≡ s)
+prefix c d m n t u (inl (x, e, p, a)) (inl (y, f, q, b)) r s h =
     let g = placed t u _ _ r s e f h in
     let xy : x ≡ y = ap (λ l. get_or l 1 0) g in
     (p ∙ (ap meant xy ∙ sym q), ap (drop 2) g)
-front c d m n t u (inl (x, e, p, a)) (inr (inl f)) r s h = absurd (a (ap (λ l. get_or l 1 0) (placed t u _ _ r s e f h)))
-front c d m n t u (inl (x, e, p, a)) (inr (inr (f, k, l))) r s h = absurd (k (sym (ap (λ l. get_or l 0 0) (placed t u _ _ r s e f h))))
-front c d m n t u (inr (inl e)) (inl (y, f, q, b)) r s h = absurd (b (sym (ap (λ l. get_or l 1 0) (placed t u _ _ r s e f h))))
-front c d m n t u (inr (inl e)) (inr (inl f)) r s h =
+prefix c d m n t u (inl (x, e, p, a)) (inr (inl f)) r s h = absurd (a (ap (λ l. get_or l 1 0) (placed t u _ _ r s e f h)))
+prefix c d m n t u (inl (x, e, p, a)) (inr (inr (f, k, l))) r s h = absurd (k (sym (ap (λ l. get_or l 0 0) (placed t u _ _ r s e f h))))
+prefix c d m n t u (inr (inl e)) (inl (y, f, q, b)) r s h = absurd (b (sym (ap (λ l. get_or l 1 0) (placed t u _ _ r s e f h))))
+prefix c d m n t u (inr (inl e)) (inr (inl f)) r s h =
     let g : (digits 16 false c ++ 125 ∷ []) ++ r ≡ (digits 16 false d ++ 125 ∷ []) ++ s = ap (drop 3) (placed t u _ _ r s e f h) in
     let b = before_close (digits 16 false c) (digits 16 false d) r s (digits_small (digits 16 false c) (numeral c (scalar_small c m))) (digits_small (digits 16 false d) (numeral d (scalar_small d n))) (sym (append_assoc (digits 16 false c) (125 ∷ []) r) ∙ (g ∙ append_assoc (digits 16 false d) (125 ∷ []) s)) in
     (same_digits c d m n b.0, b.1)
-front c d m n t u (inr (inl e)) (inr (inr (f, k, l))) r s h = absurd (k (sym (ap (λ l. get_or l 0 0) (placed t u _ _ r s e f h))))
-front c d m n t u (inr (inr (e, k, l))) (inl (y, f, q, b)) r s h = absurd (k (ap (λ l. get_or l 0 0) (placed t u _ _ r s e f h)))
-front c d m n t u (inr (inr (e, k, l))) (inr (inl f)) r s h = absurd (k (ap (λ l. get_or l 0 0) (placed t u _ _ r s e f h)))
-front c d m n t u (inr (inr (e, k, l))) (inr (inr (f, o, q))) r s h =
+prefix c d m n t u (inr (inl e)) (inr (inr (f, k, l))) r s h = absurd (k (sym (ap (λ l. get_or l 0 0) (placed t u _ _ r s e f h))))
+prefix c d m n t u (inr (inr (e, k, l))) (inl (y, f, q, b)) r s h = absurd (k (ap (λ l. get_or l 0 0) (placed t u _ _ r s e f h)))
+prefix c d m n t u (inr (inr (e, k, l))) (inr (inl f)) r s h = absurd (k (ap (λ l. get_or l 0 0) (placed t u _ _ r s e f h)))
+prefix c d m n t u (inr (inr (e, k, l))) (inr (inr (f, o, q))) r s h =
     let g = placed t u _ _ r s e f h in
     (ap (λ l. get_or l 0 0) g, ap (drop 1) g)
 
@@ -178,7 +178,7 @@ texts_apart (c ∷ cs) [] m n e = absurd (no_quote c (escape c) (form c) (flat_m
 texts_apart (c ∷ cs) (d ∷ ds) m n e =
     let p = both_scalars c cs m in
     let q = both_scalars d ds n in
-    let f = front c d p.0 q.0 (escape c) (escape d) (form c) (form d) (flat_map escape cs ++ 34 ∷ []) (flat_map escape ds ++ 34 ∷ []) (sym (append_assoc (escape c) (flat_map escape cs) (34 ∷ [])) ∙ (e ∙ append_assoc (escape d) (flat_map escape ds) (34 ∷ []))) in
+    let f = prefix c d p.0 q.0 (escape c) (escape d) (form c) (form d) (flat_map escape cs ++ 34 ∷ []) (flat_map escape ds ++ 34 ∷ []) (sym (append_assoc (escape c) (flat_map escape cs) (34 ∷ [])) ∙ (e ∙ append_assoc (escape d) (flat_map escape ds) (34 ∷ []))) in
     let g = texts_apart cs ds p.1 q.1 f.1 in
     λ i. f.0 i ∷ g i
 
@@ -201,4 +201,4 @@ pub quoted_char_apart : (c d : ℕ) → scalar c ≡ true → scalar d ≡ true 
 quoted_char_apart c d m n e =
     let inner : escaped c ++ 39 ∷ [] ≡ escaped d ++ 39 ∷ [] = ap (drop 1) e in
     let whole = λ (c : ℕ) (h : scalar c ≡ true). ap (λ z. z ++ 39 ∷ []) (escaped_encodes c h) ∙ (ap (λ z. encodes (escape c) ++ z) (sym (close_encodes 39 (omega arith))) ∙ sym (encodes-append (escape c) (39 ∷ []))) in
-    (front c d m n (escape c) (escape d) (form c) (form d) (39 ∷ []) (39 ∷ []) (encodes_same _ _ (sym (whole c m) ∙ (inner ∙ whole d n)))).0
+    (prefix c d m n (escape c) (escape d) (form c) (form d) (39 ∷ []) (39 ∷ []) (encodes_same _ _ (sym (whole c m) ∙ (inner ∙ whole d n)))).0

@@ -21,10 +21,10 @@ rising_differ : (xs : List ℕ) → IsStrictlyIncreasing xs → AllPairs (λ x y
 rising_differ xs h = λ i j d before within. let below = AllPairs-from_increasing xs h i j d before within in λ e. omega (arith, below, e)
 
 -- numbers differ exactly if they rise once they are sorted
-pub differ_sorted : (made sorted : List ℕ) (b : Bool) → IsPermutation made sorted → IsNonDecreasing sorted → (IsTrue b ↔ IsStrictlyIncreasing sorted) → (IsTrue b ↔ AllPairs (λ x y. x ≢ y) made)
-differ_sorted made sorted b moved order rise = (
-  (λ t. moved_differ sorted made (IsPermutation-sym made sorted moved) (rising_differ sorted (rise.0 t))),
-  (λ h. rise.1 (IsStrictlyIncreasing-from_distinct sorted order (IsDistinct-from_AllPairs unsigned_Decides sorted (moved_differ made sorted moved h)))),
+pub differ_sorted : (built sorted : List ℕ) (b : Bool) → IsPermutation built sorted → IsNonDecreasing sorted → (IsTrue b ↔ IsStrictlyIncreasing sorted) → (IsTrue b ↔ AllPairs (λ x y. x ≢ y) built)
+differ_sorted built sorted b moved order rise = (
+  (λ t. moved_differ sorted built (IsPermutation-sym built sorted moved) (rising_differ sorted (rise.0 t))),
+  (λ h. rise.1 (IsStrictlyIncreasing-from_distinct sorted order (IsDistinct-from_AllPairs unsigned_Decides sorted (moved_differ built sorted moved h)))),
 )
 
 none_from : (f : List ℕ → ℕ) (ts : List (List ℕ)) (t : List ℕ) → AllByRecursion (λ y. nat_eq (f t) y ≡ false) (map f ts) → IsNoneOf ts t
@@ -36,6 +36,6 @@ distinct_from f [] h = tt
 distinct_from f (t ∷ ts) h = (none_from f ts t (IsDistinct-head nat_eq (f t) (map f ts) h), distinct_from f ts (IsDistinct-tail nat_eq (f t) (map f ts) h))
 
 -- texts are distinct whose fingerprints differ
-pub distinct_texts : (f : List ℕ → ℕ) (ts : List (List ℕ)) (made : List ℕ) (b : Bool) → made ≡ map f ts → (IsTrue b ↔ AllPairs (λ x y. x ≢ y) made) → OnTrue b (AreDistinct ts)
-distinct_texts f ts made false is differ = tt
-distinct_texts f ts made true is differ = distinct_from f ts (subst (IsDistinct nat_eq) is (IsDistinct-from_AllPairs unsigned_Decides made (differ.0 refl)))
+pub distinct_texts : (f : List ℕ → ℕ) (ts : List (List ℕ)) (built : List ℕ) (b : Bool) → built ≡ map f ts → (IsTrue b ↔ AllPairs (λ x y. x ≢ y) built) → OnTrue b (AreDistinct ts)
+distinct_texts f ts built false is differ = tt
+distinct_texts f ts built true is differ = distinct_from f ts (subst (IsDistinct nat_eq) is (IsDistinct-from_AllPairs unsigned_Decides built (differ.0 refl)))

@@ -9,9 +9,9 @@ use Rattle.wasm_wave.proofs.place.first_line.Goals as goal
 cut : (text line shorter : List ℕ) (at : ℕ) → IsInOneLine (take at text) → drop at text ≡ 10 ∷ drop (suc at) text
     → line ≡ take at text → (line ≡ shorter ++ 13 ∷ []) ⊎ (line ≡ shorter) × (EndsWithReturn line → ⊥)
     → IsInOneLine shorter × ((behind : List ℕ) × (text ≡ shorter ++ behind) × IsBehindLine shorter behind)
-cut text line shorter at one feed front short =
-    without_end text line shorter (drop (suc at) text) (subst IsInOneLine (sym front) one)
-    (sym (take-append-drop at text) ∙ (ap (λ (x : List ℕ). x ++ drop at text) (sym front) ∙ ap (λ (x : List ℕ). line ++ x) feed)) short
+cut text line shorter at one feed prefix short =
+    without_end text line shorter (drop (suc at) text) (subst IsInOneLine (sym prefix) one)
+    (sym (take-append-drop at text) ∙ (ap (λ (x : List ℕ). x ++ drop at text) (sym prefix) ∙ ap (λ (x : List ℕ). line ++ x) feed)) short
 
 whole : (c : goal.After-without_return) → IsInOneLine c.without_return.result.now × ((behind : List ℕ) × (c.args.text.now ≡ c.without_return.result.now ++ behind) × IsBehindLine c.without_return.result.now behind)
 whole c =

@@ -3,4 +3,4 @@ use Rattle.std.proofs.lemmas.Str.Pattern.{strip_suffix_char}
 use Rattle.wasm_wave.proofs.place.without_return.Goals as goal
 
 pub returns-in-None : goal.returns-in-None
-returns-in-None c = inr (refl, λ (front, ends). strip_suffix_char 13 c.args.line.now None c.in-None.ensures.cases (omega arith) front ends)
+returns-in-None c = inr (refl, λ (prefix, ends). strip_suffix_char 13 c.args.line.now None c.in-None.ensures.cases (omega arith) prefix ends)

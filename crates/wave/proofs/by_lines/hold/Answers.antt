@@ -5,26 +5,26 @@ use Rattle.wave.specs.Written.{WritesWhole, WritesLess}
 use Rattle.wave.proofs.LinesAnswered.{released_with, released_less, less_more}
 use Rattle.wave.proofs.by_lines.hold.Goals as goal
 
-pub returns-then-write_due : goal.returns-then-write_due
-returns-then-write_due g c =
+pub returns-then-write_if_needed : goal.returns-then-write_if_needed
+returns-then-write_if_needed g c =
     let held = string_bytes c.args.held.now in
     let printed = c.args.printed.now in
     let same = c.push_str.ensures.bytes ∙ ap (λ b. if b then held ++ printed else held) (sym c.is_ok.ensures.value ∙ c.if-is_ok.false) in
-    let released = subst (λ z. Releases g.W.Write.contents c.args.output.now c.write_due-2.new.output z (string_bytes c.write_due-2.new.held)) same (c.write_due-2.ensures.whole c.if-write_due.true) in
-    let due = c.write_due-2.ensures.due c.if-write_due.true refl in
+    let released = subst (λ z. Releases g.W.Write.contents c.args.output.now c.write_if_needed-2.new.output z (string_bytes c.write_if_needed-2.new.held)) same (c.write_if_needed-2.ensures.whole c.if-write_if_needed.true) in
+    let emptied = c.write_if_needed-2.ensures.emptied c.if-write_if_needed.true refl in
     record {
       whole = λ wrote.
-          released_with g.W.Write.contents _ _ _ held printed _ released due
-          (subst (WritesWhole g.W.Write.contents c.write_due-2.new.output c.write_whole.new.output) c.as_bytes.ensures.value (c.write_whole.ensures.whole wrote));
+          released_with g.W.Write.contents _ _ _ held printed _ released emptied
+          (subst (WritesWhole g.W.Write.contents c.write_if_needed-2.new.output c.write_whole.new.output) c.as_bytes.ensures.value (c.write_whole.ensures.whole wrote));
       cut = λ failed.
-          released_less g.W.Write.contents _ _ _ held printed _ released due
-          (subst (WritesLess g.W.Write.contents c.write_due-2.new.output c.write_whole.new.output) c.as_bytes.ensures.value (c.write_whole.ensures.cut failed));
+          released_less g.W.Write.contents _ _ _ held printed _ released emptied
+          (subst (WritesLess g.W.Write.contents c.write_if_needed-2.new.output c.write_whole.new.output) c.as_bytes.ensures.value (c.write_whole.ensures.cut failed));
     }
 
-pub returns-else-write_due-clause-cut : goal.returns-else-write_due-clause-cut
-returns-else-write_due-clause-cut g c =
+pub returns-else-write_if_needed-clause-cut : goal.returns-else-write_if_needed-clause-cut
+returns-else-write_if_needed-clause-cut g c =
     let held = string_bytes c.args.held.now in
     let printed = c.args.printed.now in
     let same = c.push_str.ensures.bytes ∙ ap (λ b. if b then held ++ printed else held) (sym c.is_ok.ensures.value ∙ c.if-is_ok.false) in
     λ failed.
-    less_more g.W.Write.contents _ _ held printed (subst (WritesLess g.W.Write.contents c.args.output.now c.write_due-2.new.output) same (c.write_due-2.ensures.cut failed))
+    less_more g.W.Write.contents _ _ held printed (subst (WritesLess g.W.Write.contents c.args.output.now c.write_if_needed-2.new.output) same (c.write_if_needed-2.ensures.cut failed))

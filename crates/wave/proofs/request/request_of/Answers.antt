@@ -16,8 +16,8 @@ returns-in-len3-clause-memory c =
     c.as_str-in-len3-2.ensures.value c.as_str-in-len3-3.ensures.value in
     subst (λ ws. IfErr c.three_words.result (λ e. HaveType ws)) (sym is) c.three_words.ensures.memory
 
-pub returns-in_default-clause-made : goal.returns-in_default-clause-made
-returns-in_default-clause-made c =
+pub returns-in_default-clause-built : goal.returns-in_default-clause-built
+returns-in_default-clause-built c =
     elim c.in_default.branch [
       | in_default-via-then-words-lt1 w ↦ unknown_none c.args.words.now (search rules)
       | in_default-via-else-words-lt1+else-words-lt2+else-words-lt3+else-words-lt4 w ↦ unknown_many c.args.words.now (search rules)

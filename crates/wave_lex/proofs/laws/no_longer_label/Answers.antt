@@ -1,4 +1,4 @@
-use Rattle.wave_lex.proofs.Tokenization.OneCut.{no_longer_label}
+use Rattle.wave_lex.proofs.Tokenization.OneTokenization.{no_longer_label}
 use Rattle.wave_lex.proofs.laws.no_longer_label.Goals as goal
 
 pub returns : goal.returns

@@ -1,7 +1,7 @@
 use Rattle.std.proofs.Common.{◌≡◌, ℕ, ◌≤◌, ◌-◌, List, ◌∷◌, length, drop, take, sym, ap, subst, ◌∙◌, arith, get_or, Some}
 use Rattle.std.specs.Char.{IsScalar}
 use Rattle.wave_lex.specs.Strings.{UnescapesTo, short_escape}
-use Rattle.wave_lex.proofs.StringDecoding.EscapesFound.{Good, none_few, none_long, few_closed, some_long, opened_cut, short}
+use Rattle.wave_lex.proofs.StringDecoding.EscapesFound.{HasDistinctLabels, none_few, none_long, few_closed, some_long, opened_cut, short}
 use Rattle.wave_lex.proofs.strings.unescape.Goals as goal
 use Rattle.wave_lex.proofs.strings.unescape.Goals.{then-count-eq0-via-then-count-eq0, then-count-eq0-via-else-count-eq0+then-count-digits, then-count-eq0-via-else-count-eq0+else-count-digits+then-digits-count-ne125}
 
@@ -31,7 +31,7 @@ returns c =
     let w = begins _ _ c.as_bytes-bytes.ensures.value c.if-bytes-lt3.false (omega arith) (omega arith) (omega arith) in
     let few = ap (λ (k : ℕ). take k (take (length c.as_bytes-bytes.result.now - 3) (drop 3 c.as_bytes-bytes.result.now))) c.min.ensures in
     let k = few_closed (take (length c.as_bytes-bytes.result.now - 3) (drop 3 c.as_bytes-bytes.result.now)) _ c.hexadecimal-count.result.0 c.hexadecimal-count.result.1 few c.hexadecimal-count.ensures (omega arith) (omega arith) in
-    let g : Good (take (length c.as_bytes-bytes.result.now - 3) (drop 3 c.as_bytes-bytes.result.now)) c.hexadecimal-count.result.0 = record {
+    let g : HasDistinctLabels (take (length c.as_bytes-bytes.result.now - 3) (drop 3 c.as_bytes-bytes.result.now)) c.hexadecimal-count.result.0 = record {
       some = omega arith;
       few = k.1;
       within = omega arith;

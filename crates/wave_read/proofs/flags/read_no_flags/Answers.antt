@@ -7,4 +7,4 @@ use Rattle.wave_read.proofs.flags.read_no_flags.Goals as goal
 
 pub returns : goal.returns
 returns g c = λ o w source.
-    c.read_names.ensures.read source (node node_type.EmptySet c.args.span no_nodes) (inr refl) (sym (ap (λ es. texts (keys_of es)) c.new.ensures.empty)) o w c.told.result c.told.ensures
+    c.read_names.ensures.read source (node node_type.EmptySet c.args.span no_nodes) (inr refl) (sym (ap (λ es. texts (keys_of es)) c.new.ensures.empty)) o w c.reported.result c.reported.ensures

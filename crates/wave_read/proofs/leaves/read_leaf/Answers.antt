@@ -6,8 +6,8 @@ use Rattle.wave_read.proofs.leaves.read_leaf.Goals as goal
 pub wrap-requires : goal.wrap-requires
 wrap-requires g c =
     let (token, some) = c.requires in
-    (c.args.leaf.now.ty, g.V.Type.WasmType.tree c.in-Some.payload.now, c.in-Some.ensures, (c.read_directly-made.ensures in_text in_text some.0 token some.1).typed)
+    (c.args.leaf.now.ty, g.V.Type.WasmType.tree c.in-Some.payload.now, c.in-Some.ensures, (c.read_directly-built.ensures in_text in_text some.0 token some.1).typed)
 
 pub returns-in-Some : goal.returns-in-Some
 returns-in-Some g c = λ o w source token here.
-    c.wrap.ensures o w source (leaf_node c.args.leaf.now) (g.V.Type.WasmType.tree c.in-Some.payload.now) c.in-Some.ensures refl (c.read_directly-made.ensures o w source token here)
+    c.wrap.ensures o w source (leaf_node c.args.leaf.now) (g.V.Type.WasmType.tree c.in-Some.payload.now) c.in-Some.ensures refl (c.read_directly-built.ensures o w source token here)

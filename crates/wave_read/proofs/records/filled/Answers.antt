@@ -8,7 +8,7 @@ use Rattle.wave_grammar.proofs.Elaboration.ParamsInTurn.{error_handed}
 use Rattle.wave_grammar.proofs.ErrorSpans.Nodes.{memory_here}
 use Rattle.wave_read.specs.declared.records.Field.{Field}
 use Rattle.wave_read.specs.Private.RecordParts.{IsFull, AreFull, FirstUnfilled, IsLeftUnfilled}
-use Rattle.wave_read.proofs.RecordReading.Fields.{given_front, given_all, unfilled_behind, full_more, full_read, full_left}
+use Rattle.wave_read.proofs.RecordReading.Fields.{given_prefix, given_all, unfilled_behind, full_more, full_read, full_left}
 use Rattle.wave_read.proofs.records.filled.Goals.{in-Some-value, in-None-value+in_ok-val-in-None-value}
 use Rattle.wave_read.proofs.records.filled.Goals as goal
 
@@ -19,7 +19,7 @@ no_value Full Refused (Err e) refused = tt
 
 pub returns-in_err-val-in-None-value-clause-refused : goal.returns-in_err-val-in-None-value-clause-refused
 returns-in_err-val-in-None-value-clause-refused g c =
-    let all = sym c.into_iter-field-iterator.ensures.into_iter_gives.0 ∙ (given_front c.into_iter-field-iterator.result c.loop-field.yielded c.loop-field.field-iterator c.loop-field.yielded_by ∙ ap (λ fs. c.loop-field.yielded ++ fs) c.in-Some.ensures.steps.0) in
+    let all = sym c.into_iter-field-iterator.ensures.into_iter_gives.0 ∙ (given_prefix c.into_iter-field-iterator.result c.loop-field.yielded c.loop-field.field-iterator c.loop-field.yielded_by ∙ ap (λ fs. c.loop-field.yielded ++ fs) c.in-Some.ensures.steps.0) in
     error_handed (λ e. (n : NodeTree) → place_of n ≡ c.args.span.now → IsLeftUnfilled g.V.WasmValue.is_full g.V.Type.WasmType.tree c.args.fields.items n e) c.from_residual.result c.in_err-val-in-None-value.field-0.0 c.from_residual.ensures.1 (λ n place.
     inr (subst (λ (fields : List (Field g.row.V-Type.Denot g.row.V.Denot)). FirstUnfilled g.V.WasmValue.is_full g.V.Type.WasmType.tree fields n c.in_err-val-in-None-value.field-0.0) (sym all)
     (unfilled_behind g.V.WasmValue.tree g.V.WasmValue.is_of g.V.Type.WasmType.tree g.V.WasmValue.is_full c.loop-field.yielded c.loop-field.all.items c.in-Some.field c.next.new.self.rest.items n c.in_err-val-in-None-value.field-0.0 c.loop-field.invariant c.in-None-value.is (c.in_err-val-in-None-value.ensures.answer n place))))

@@ -11,8 +11,8 @@ use Rattle.wave_lex.specs.Errors.{Diagnostic, Refusal, refused_by}
 use Rattle.wave_grammar.specs.NodeTree.{NodeTree, place_of}
 use Rattle.wave_grammar.specs.NodeFields.{IsMissing}
 use Rattle.wave_read.specs.Errors.{IsRefusedBy}
-use Rattle.wave_read.proofs.ReadErrors.HandedOn.{made_at}
-use Rattle.wave_grammar.proofs.Fields.LeftOut.{missing, left_made}
+use Rattle.wave_read.proofs.ReadErrors.HandedOn.{built_at}
+use Rattle.wave_grammar.proofs.Fields.LeftOut.{missing, left_built}
 use Rattle.wave_read.specs.Private.RecordParts.{IsMissingOrMemory}
 use Rattle.wave_read.proofs.records.left_out.Goals.{in-Option+in-Err, in_default}
 use Rattle.wave_read.proofs.records.left_out.Goals as goal
@@ -20,7 +20,7 @@ use Rattle.wave_read.proofs.records.left_out.Goals as goal
 -- the constructor of `none` refused
 none_refused : {V : Type 0} (tree : V → Value) (of : V → TypeTree → Type 0) (Full : TypeTree → Type 0) (T : TypeTree) (name : List ℕ) (n : NodeTree) (cause kept : WasmValueError) (e : Diagnostic) → kinds.Option ≡ kind_of T → HasDistinctNames T → FullOption of Full T None cause → kept ≡ cause → IsRefusedBy kept e → e.span ≡ place_of n → IsMissing Full T name n e
 none_refused tree of Full T name n cause kept e option distinct full same (inl is) place =
-    left_made tree of Full T name n (Err cause) (Err e) option distinct tt full (is ∙ ap (λ (w : WasmValueError). refused_by (cause_of w)) same, place)
+    left_built tree of Full T name n (Err cause) (Err e) option distinct tt full (is ∙ ap (λ (w : WasmValueError). refused_by (cause_of w)) same, place)
 none_refused tree of Full T name n cause kept e option distinct full same (inr memory) place = inl (ap (λ (r : Refusal). r.kind) memory.1)
 
 -- the type is no option
@@ -32,7 +32,7 @@ missing_or_memory Full T k name n _ kept e kind apart (inr memory) same (inl is)
 
 pub returns-in-Ok-clause-answer : goal.returns-in-Ok-clause-answer
 returns-in-Ok-clause-answer g c = λ n place distinct.
-    left_made g.V.WasmValue.tree g.V.WasmValue.is_of g.V.WasmValue.is_full (g.V.Type.WasmType.tree c.args.ty.now) c.args.name.now n (Ok c.in-Ok.val) (Ok c.in-Ok.val) c.in-Option.ensures distinct c.in-Ok.ensures.made tt refl
+    left_built g.V.WasmValue.tree g.V.WasmValue.is_of g.V.WasmValue.is_full (g.V.Type.WasmType.tree c.args.ty.now) c.args.name.now n (Ok c.in-Ok.val) (Ok c.in-Ok.val) c.in-Option.ensures distinct c.in-Ok.ensures.built tt refl
 
 pub returns-in-Ok-clause-within : goal.returns-in-Ok-clause-within
 returns-in-Ok-clause-within g c = tt
@@ -46,4 +46,4 @@ returns-clause-answer g c = λ n place distinct.
 
 pub returns-clause-within : goal.returns-clause-within
 returns-clause-within g c = λ n place.
-    made_at {V = g.row.V.Denot} n (Err c.match-kind.refusal) (Err c.with_cause.result) (c.with_cause.ensures.refusal, c.with_cause.ensures.span ∙ sym place)
+    built_at {V = g.row.V.Denot} n (Err c.match-kind.refusal) (Err c.with_cause.result) (c.with_cause.ensures.refusal, c.with_cause.ensures.span ∙ sym place)

@@ -6,13 +6,13 @@ use Rattle.wave_read.proofs.LeafReading.SimpleTypes.{plain_readable, unreadable_
 use Rattle.wave_read.proofs.simple.refuse_form.Goals as goal
 
 pub returns-in-F32-clause-read : goal.returns-in-F32-clause-read
-returns-in-F32-clause-read g c = λ o w source n there other due.
+returns-in-F32-clause-read g c = λ o w source n there other expected.
     let k = unreadable_is c.kind-kind.result c.in-F32.is in
-    type_refused g.V.WasmValue.tree g.V.WasmValue.is_of g.V.WasmValue.is_full o w (g.V.Type.WasmType.tree c.args.ty.now) c.kind-kind.result k.0 source n c.unsupported.result c.kind-kind.ensures k.1 due (c.unsupported.ensures.cause n there) (c.unsupported.ensures.span ∙ sym there)
+    type_refused g.V.WasmValue.tree g.V.WasmValue.is_of g.V.WasmValue.is_full o w (g.V.Type.WasmType.tree c.args.ty.now) c.kind-kind.result k.0 source n c.unsupported.result c.kind-kind.ensures k.1 expected (c.unsupported.ensures.cause n there) (c.unsupported.ensures.span ∙ sym there)
 
 pub returns-in_default-clause-read : goal.returns-in_default-clause-read
-returns-in_default-clause-read g c = λ o w source n there other due.
-    form_refused g.V.WasmValue.tree g.V.WasmValue.is_of g.V.WasmValue.is_full o w (g.V.Type.WasmType.tree c.args.ty.now) source n c.new.result (none_unreadable (g.V.Type.WasmType.tree c.args.ty.now) c.kind-kind.result c.kind-kind.ensures c.in_default.not-F32 c.in_default.not-F64 c.in_default.not-Unsupported) due other (subst (λ (p : Range ℕ). Says c.new.result InvalidType p None) (sym there) c.new.ensures)
+returns-in_default-clause-read g c = λ o w source n there other expected.
+    form_refused g.V.WasmValue.tree g.V.WasmValue.is_of g.V.WasmValue.is_full o w (g.V.Type.WasmType.tree c.args.ty.now) source n c.new.result (none_unreadable (g.V.Type.WasmType.tree c.args.ty.now) c.kind-kind.result c.kind-kind.ensures c.in_default.not-F32 c.in_default.not-F64 c.in_default.not-Unsupported) expected other (subst (λ (p : Range ℕ). Says c.new.result InvalidType p None) (sym there) c.new.ensures)
 
 pub returns-in-F32-clause-plain : goal.returns-in-F32-clause-plain
 returns-in-F32-clause-plain g c = λ plain.

@@ -2,7 +2,7 @@ use Rattle.std.proofs.Common.{arith, ◌≡◌, ℕ, List, ap, subst, ◌∙◌,
 use Rattle.std.specs.Result.{IfOk}
 use Rattle.wave_wasm.specs.Borrowed.{shown, named}
 use Rattle.wave_wasm.specs.Types.{TypeTree, is_representable, depth}
-use Rattle.wave_type.specs.TypeMade.{tuple_type, record_type, variant_type}
+use Rattle.wave_type.specs.TypeConstructors.{tuple_type, record_type, variant_type}
 use Rattle.wave_wasm.proofs.CanonicalText.Sequences.{part_depth}
 use Rattle.wave_wasm.proofs.Displays.TypeParts.{record_is, tuple_is, variant_is, field_depth, case_depth}
 use Rattle.wave_type.proofs.TypeTrees.Conversion.{record_start, tuple_start, variant_start, can_be_payload, converted_is, refused_is, payload_is, refused_payload, remaining_more, remaining_none, remaining_done, pushed, named_pushed}

@@ -1,7 +1,7 @@
 use Rattle.std.proofs.Common.{◌≡◌, ◌+◌, ◌*◌, map, drop}
 use Rattle.wave_wasm.specs.Borrowed.{shown, named}
 use Rattle.wave_wasm.specs.Types.{depth, depth_of_maybe, maybe_type, is_representable}
-use Rattle.wave_type.specs.TypeMade.{tuple_type, record_type, variant_type}
+use Rattle.wave_type.specs.TypeConstructors.{tuple_type, record_type, variant_type}
 use Rattle.wave_type.specs.TypeConversion.{converted_type}
 use Rattle.wave_type.proofs.TypeTrees.Conversion.{can_be_payload, remaining}
 use Rattle.wave_type.proofs.ty.+conversion.Given as goal

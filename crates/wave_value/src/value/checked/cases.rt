@@ -7,8 +7,8 @@ ghost use Rattle.wave_wasm.specs.Values as value;
 ghost use Rattle.wave_wasm.specs.Values.{maybe_value};
 ghost use Rattle.wave_value.specs.Private.ValueModel.{Grows};
 ghost use Rattle.wave_value.specs.ValueModel.{name_at, payload_tree};
-ghost use Rattle.wave_value.specs.ConstructorRules.{Made};
-ghost use Rattle.wave_value.specs.Private.CaseRules.{behind, MarksNames, MarksOneMore, TellsUnmarked};
+ghost use Rattle.wave_value.specs.ConstructorRules.{Built};
+ghost use Rattle.wave_value.specs.Private.CaseRules.{behind, MarksNames, MarksOneMore, ReportsUnmarked};
 ghost use Rattle.wave_value.specs.CaseRules.{TakesVariant, TakesFlags, RefusesVariant, RefusesNames, RefusesFlags};
 
 use super::super::refusals::{NameErrorKind, ShowsValue, named, wrong_kind};
@@ -27,7 +27,7 @@ impl Value {
         case: &str,
         val: Option<Value>,
     ) -> Result<Value, WasmValueError>
-        ensures made { IfOk result (Made (value.variant case.now (maybe_value (payload_tree val))) ty.now) }
+        ensures built { IfOk result (Built (value.variant case.now (maybe_value (payload_tree val))) ty.now) }
         ensures taken { OnOk result (TakesVariant ty.now case.now val) }
         ensures refused { IfErr result (RefusesVariant S.words ty.now case.now val) }
     {
@@ -51,7 +51,7 @@ impl Value {
     /// stand in the type's order, and their own type is this one. Refused are a type of another
     /// kind and names of which one is no flag of the type.
     pub fn make_flags(alloc: Global, ty: &Type, names: &[&str]) -> Result<Value, WasmValueError>
-        ensures made { IfOk result (Made (value.flags (found_in (texts names.now) (flags_names ty.now))) ty.now) }
+        ensures built { IfOk result (Built (value.flags (found_in (texts names.now) (flags_names ty.now))) ty.now) }
         ensures taken { OnOk result (TakesFlags ty.now (texts names.now)) }
         ensures refused { IfErr result (RefusesFlags ty.now (texts names.now)) }
     {
@@ -171,7 +171,7 @@ fn check_marked(
     names: &[&str],
     marks: &BTreeMap<&str, bool>,
 ) -> Result<(), WasmValueError>
-    ensures { TellsUnmarked marks.now (texts names.now) result }
+    ensures { ReportsUnmarked marks.now (texts names.now) result }
 {
     for name in names {
         if !marks.get(*name).copied().unwrap_or(false) {

@@ -10,10 +10,10 @@ ghost use Rattle.wave_wasm.specs.ConstructorContracts.{TypedList, TypedTuple, Ty
 ghost use Rattle.wave_wasm.specs.Borrowed.{named};
 ghost use Rattle.wave_value.specs.TypedValue.{IsAt};
 ghost use Rattle.wave_value.specs.ValueModel.{trees, payload_tree, boxed};
-ghost use Rattle.wave_value.specs.ConstructorRules.{Made, TakesList, TakesTuple, TakesOption, TakesResult, own_text, option_stated};
+ghost use Rattle.wave_value.specs.ConstructorRules.{Built, TakesList, TakesTuple, TakesOption, TakesResult, own_text, option_stated};
 ghost use Rattle.wave_value.specs.ConstructorRules.{RefusesList, RefusesParts, RefusesTuple, RefusesResult};
-ghost use Rattle.wave_value.specs.CaseRules.{TakesVariant, RefusesVariant, MadeMap, TakesMap, map_stated};
-ghost use Rattle.wave_value.specs.RecordConstructor.{TakesRecord, MadeRecord, RefusesRecord};
+ghost use Rattle.wave_value.specs.CaseRules.{TakesVariant, RefusesVariant, BuiltMap, TakesMap, map_stated};
+ghost use Rattle.wave_value.specs.RecordConstructor.{TakesRecord, BuiltRecord, RefusesRecord};
 
 use super::super::refusals::ByType;
 use super::super::{Content, Type, Value};
@@ -31,7 +31,7 @@ impl Value {
         vals: Vec<Value>,
     ) -> Result<Value, WasmValueError>
         requires { HasDistinctNames ty.now → TypedList (λ v T. IsAt T v) ty.now vals.items }
-        ensures made { IfOk result (Made (list_value ty.now (trees vals.items)) ty.now) }
+        ensures built { IfOk result (Built (list_value ty.now (trees vals.items)) ty.now) }
         ensures taken { OnOk result (TakesList ty.now vals.items) }
         ensures refused { IfErr result (RefusesList own_text ty.now vals.items) }
     {
@@ -54,7 +54,7 @@ impl Value {
         vals: Vec<Value>,
     ) -> Result<Value, WasmValueError>
         requires { HasDistinctNames ty.now → TypedTuple (λ v T. IsAt T v) ty.now vals.items }
-        ensures made { IfOk result (Made (value.tuple (values (trees vals.items))) ty.now) }
+        ensures built { IfOk result (Built (value.tuple (values (trees vals.items))) ty.now) }
         ensures taken { OnOk result (TakesTuple ty.now vals.items) }
         ensures refused { IfErr result (RefusesTuple own_text ty.now vals.items) }
     {
@@ -78,7 +78,7 @@ impl Value {
         fields: Vec<(&str, Value)>,
     ) -> Result<Value, WasmValueError>
         requires { HasDistinctNames ty.now → TypedRecord (λ v T. IsAt T v) ty.now fields.items }
-        ensures made { IfOk result (MadeRecord (named fields.entry.items) ty.now) }
+        ensures built { IfOk result (BuiltRecord (named fields.entry.items) ty.now) }
         ensures taken { OnOk result (TakesRecord ty.now (named fields.entry.items)) }
         ensures refused { IfErr result (RefusesRecord own_text ty.now (named fields.entry.items)) }
     {
@@ -103,7 +103,7 @@ impl Value {
         val: Option<Value>,
     ) -> Result<Value, WasmValueError>
         requires { HasDistinctNames ty.now → TypedVariant (λ v T. IsAt T v) ty.now case.now val }
-        ensures made { IfOk result (Made (value.variant case.now (maybe_value (payload_tree val))) ty.now) }
+        ensures built { IfOk result (Built (value.variant case.now (maybe_value (payload_tree val))) ty.now) }
         ensures taken { OnOk result (TakesVariant ty.now case.now val) }
         ensures refused { IfErr result (RefusesVariant own_text ty.now case.now val) }
     {
@@ -121,14 +121,14 @@ impl Value {
     }
 
     // `some` of the payload, or `none`, which an option of the type has.
-    #[tactic(auto, using(crate::proofs::TypedParts::ValuesFit::option_fits, crate::proofs::TypedParts::ValuesFit::option_made, crate::proofs::TypedParts::ValuesFit::option_taken))]
+    #[tactic(auto, using(crate::proofs::TypedParts::ValuesFit::option_fits, crate::proofs::TypedParts::ValuesFit::option_built, crate::proofs::TypedParts::ValuesFit::option_taken))]
     pub(crate) fn option_unchecked(
         alloc: Global,
         ty: &Type,
         val: Option<Value>,
     ) -> Result<Value, WasmValueError>
         requires { HasDistinctNames ty.now → TypedOption (λ v T. IsAt T v) ty.now val }
-        ensures made { IfOk result (Made (value.option (maybe_value (payload_tree val))) ty.now) }
+        ensures built { IfOk result (Built (value.option (maybe_value (payload_tree val))) ty.now) }
         ensures taken { OnOk result (TakesOption ty.now val) }
         ensures refused { IfErr result (RefusesParts own_text WasmTypeKind.Option ty.now (option_stated ty.now val)) }
     {
@@ -146,14 +146,14 @@ impl Value {
     }
 
     // `ok` or `err` with the payload, which a result of the type has.
-    #[tactic(auto, using(crate::proofs::TypedParts::ValuesFit::ok_fits, crate::proofs::TypedParts::ValuesFit::err_fits, crate::proofs::TypedParts::ValuesFit::ok_made, crate::proofs::TypedParts::ValuesFit::err_made, crate::proofs::TypedParts::ValuesFit::ok_taken, crate::proofs::TypedParts::ValuesFit::err_taken))]
+    #[tactic(auto, using(crate::proofs::TypedParts::ValuesFit::ok_fits, crate::proofs::TypedParts::ValuesFit::err_fits, crate::proofs::TypedParts::ValuesFit::ok_built, crate::proofs::TypedParts::ValuesFit::err_built, crate::proofs::TypedParts::ValuesFit::ok_taken, crate::proofs::TypedParts::ValuesFit::err_taken))]
     pub(crate) fn result_unchecked(
         alloc: Global,
         ty: &Type,
         val: Result<Option<Value>, Option<Value>>,
     ) -> Result<Value, WasmValueError>
         requires { HasDistinctNames ty.now → TypedResult (λ v T. IsAt T v) ty.now val }
-        ensures made { IfOk result (Made (result_value (either_tree (λ v. v.tree) val)) ty.now) }
+        ensures built { IfOk result (Built (result_value (either_tree (λ v. v.tree) val)) ty.now) }
         ensures taken { OnOk result (TakesResult ty.now val) }
         ensures refused { IfErr result (RefusesResult own_text ty.now val) }
     {
@@ -188,7 +188,7 @@ impl Value {
         entries: Vec<(Value, Value)>,
     ) -> Result<Value, WasmValueError>
         requires { HasDistinctNames ty.now → TypedMap (λ v T. IsAt T v) ty.now entries.items }
-        ensures made { IfOk result (MadeMap entries.items ty.now) }
+        ensures built { IfOk result (BuiltMap entries.items ty.now) }
         ensures taken { OnOk result (TakesMap ty.now entries.items) }
         ensures refused { IfErr result (RefusesParts own_text WasmTypeKind.Map ty.now (map_stated ty.now entries.items)) }
     {

@@ -1,7 +1,7 @@
 use Rattle.std.proofs.Common.{sym, subst, string_bytes, ◌∙◌}
 use Rattle.wasm_wave.specs.ValueExplained.{IsBlock}
 use Rattle.wasm_wave.proofs.Steps.{ok_so}
-use Rattle.wasm_wave.proofs.Told.{params_again}
+use Rattle.wasm_wave.proofs.Reported.{params_again}
 use Rattle.wasm_wave.proofs.explain.call.explain_params.Goals as goal
 
 pub returns : goal.returns
@@ -10,6 +10,6 @@ returns g c =
       mark = c.in_ok-mark.mark;
       path = c.as_str-2.result.now;
       lines = c.as_str-3.result.now;
-      told = params_again c.args.source.now (g.F.WasmFunc.func c.args.func.now) c.args.error.now _ _ _ _ _ (sym c.as_str-2.ensures.value) (sym c.as_str-3.ensures.value) c.in_ok-mark.ensures;
+      reported = params_again c.args.source.now (g.F.WasmFunc.func c.args.func.now) c.args.error.now _ _ _ _ _ (sym c.as_str-2.ensures.value) (sym c.as_str-3.ensures.value) c.in_ok-mark.ensures;
       block = subst (λ m. IsBlock c.args.source.now m c.in_ok-mark.mark c.as_str-2.result.now c.as_str-3.result.now (string_bytes text)) (c.as_str.ensures.value ∙ c.in_ok-message.ensures.ok) block;
     }) c.block.ensures

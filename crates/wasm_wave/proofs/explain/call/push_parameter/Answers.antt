@@ -1,7 +1,7 @@
 use Rattle.std.proofs.Common.{◌+◌, ◌++◌, codes, string_bytes, arith, ap, sym, ◌∙◌, append_assoc}
 use Rattle.std.specs.Fmt.{decimal}
 use Rattle.wasm_wave.proofs.Steps.{ok_so}
-use Rattle.wasm_wave.proofs.Told.{parameter_name, parameter_number, added}
+use Rattle.wasm_wave.proofs.Reported.{parameter_name, parameter_number, added}
 use Rattle.wasm_wave.proofs.explain.call.push_parameter.Goals as goal
 
 pub returns-then-i-len : goal.returns-then-i-len

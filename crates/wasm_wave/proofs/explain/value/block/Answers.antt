@@ -8,12 +8,12 @@ pub returns : goal.returns
 returns c =
     let place = c.place_of-place.result in
     let head = heading_with_path c.args.message.now place.line place.column c.args.path.now in
-    let lines = shown_lines place.front.now place.rest.now c.marked_of-marked.result.now in
+    let lines = shown_lines place.prefix.now place.rest.now c.marked_of-marked.result.now in
     record {
       there = place.at;
       line = place.line;
       column = place.column;
-      front = place.front.now;
+      prefix = place.prefix.now;
       rest = place.rest.now;
       marked = c.marked_of-marked.result.now;
       place = c.place_of-place.ensures;

@@ -4,10 +4,10 @@ use Rattle.wasm_wave.proofs.explain.value.explain_alone.Goals as goal
 
 pub returns : goal.returns
 returns g c =
-    ok_so c.explain_syntax.result (λ text told. record {
-      mark = told.mark;
+    ok_so c.explain_syntax.result (λ text reported. record {
+      mark = reported.mark;
       path = [];
-      lines = told.lines;
-      told = inr (refl, c.requires, told.is_mark, told.told);
-      block = told.block;
+      lines = reported.lines;
+      reported = inr (refl, c.requires, reported.is_mark, reported.reported);
+      block = reported.block;
     }) c.explain_syntax.ensures

@@ -10,7 +10,7 @@ returns c =
       mark = c.syntax_mark.result;
       is_mark = c.syntax_mark.ensures;
       lines = c.as_str-2.result.now;
-      told = λ unexpected.
+      reported = λ unexpected.
           more_as c.args.reading c.args.source.now c.args.error.now.span.start (string_bytes c.in_ok-lines.lines) c.args.more.now c.as_str-2.result.now
           (c.as_str-2.ensures.value ∙ c.in_ok-push_str.ensures.bytes) (c.in_ok-lines.ensures unexpected);
       block = subst (λ m. IsBlock c.args.source.now m c.syntax_mark.result [] c.as_str-2.result.now (string_bytes text)) (c.as_str.ensures.value ∙ c.in_ok-message.ensures.ok) block;

@@ -1,5 +1,5 @@
 use Rattle.std.proofs.Common.{string_bytes}
-use Rattle.wave_example_flags.proofs.Handed.{unknown, not_picked, twice, kept_more, flags_made}
+use Rattle.wave_example_flags.proofs.Handed.{unknown, not_picked, twice, kept_more, flags_built}
 use Rattle.wave_example_flags.proofs.ordered_flags.OrderedFlagsWasmValue.make_flags.Goals as goal
 
 pub returns-then-not-contains-clause-full : goal.returns-then-not-contains-clause-full
@@ -22,6 +22,6 @@ pub loop-name-preserved : goal.loop-name-preserved
 loop-name-preserved c =
     kept_more string_bytes c.args.ty.now c.loop-name.kept.items _ _ c.args.names.now c.loop-name.name-index _ _ _ c.loop-name-test.true c.contains.ensures c.if-not-contains.false c.contain.ensures c.if-contain.false c.in_ok-from_str-2.ensures.ok c.in_ok-push.ensures.items c.loop-name.invariant
 
-pub returns-clause-made : goal.returns-clause-made
-returns-clause-made c =
-    flags_made c.args.ty.now c.args.names.now _ c.loop-name.name-index c.loop-name-test.false c.loop-name.invariant
+pub returns-clause-built : goal.returns-clause-built
+returns-clause-built c =
+    flags_built c.args.ty.now c.args.names.now _ c.loop-name.name-index c.loop-name-test.false c.loop-name.invariant

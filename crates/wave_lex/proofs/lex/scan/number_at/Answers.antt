@@ -3,7 +3,7 @@ use Rattle.std.proofs.lemmas.List.{take_rest}
 use Rattle.wave_lex.specs.Tokens.{number}
 use Rattle.wave_lex.specs.Machines.{number_rest}
 use Rattle.wave_lex.specs.declared.machine.number.NumberState.TheVariants.{Whole}
-use Rattle.wave_lex.proofs.QuickScan.Prefixes.{front_there, front_behind, lead_boundary}
+use Rattle.wave_lex.proofs.QuickScan.Prefixes.{prefix_there, prefix_behind, lead_boundary}
 use Rattle.wave_lex.proofs.QuickScan.ByteRuns.{digits_end, digits_lead, zero_end}
 use Rattle.wave_lex.proofs.lex.scan.number_at.Goals as goal
 
@@ -16,10 +16,10 @@ range_from-requires c = λ _. lead_boundary _ _ _ _ c.utf8.text
     (digits_lead _ _ _ _ (behind_sign _ _ _ c.as_bytes.ensures.value) c.sign_at-sign.ensures.leads (omega arith) c.digits-run.ensures.within c.digits-run.ensures.all c.if-whole-eq48.false)
 
 pub returns-in_default : goal.returns-in_default
-returns-in_default c = absurd (front_there (number_rest Whole) _ refl c.in_default.ensures)
+returns-in_default c = absurd (prefix_there (number_rest Whole) _ refl c.in_default.ensures)
 
 pub returns : goal.returns
-returns c = front_behind number (number_rest Whole) _ _ _ _ c.range_from.ensures.value
+returns c = prefix_behind number (number_rest Whole) _ _ _ _ c.range_from.ensures.value
     (digits_lead _ _ _ _ (behind_sign _ _ _ c.as_bytes.ensures.value) c.sign_at-sign.ensures.leads (omega arith) c.digits-run.ensures.within c.digits-run.ensures.all c.if-whole-eq48.false)
     c.in-Some.ensures
 

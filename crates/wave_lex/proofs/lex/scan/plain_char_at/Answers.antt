@@ -9,7 +9,7 @@ use Rattle.wave_lex.specs.Machines.{character_rest, character_step}
 use Rattle.wave_lex.specs.declared.machine.character.CharState.{CharState}
 use Rattle.wave_lex.specs.declared.machine.character.CharState.TheVariants.{Open, Filled, Close}
 use Rattle.wave_lex.proofs.Machines.Steps.{character_steps}
-use Rattle.wave_lex.proofs.QuickScan.Prefixes.{empty_front, scalar_behind}
+use Rattle.wave_lex.proofs.QuickScan.Prefixes.{empty_prefix, scalar_behind}
 use Rattle.wave_lex.proofs.lex.scan.plain_char_at.Goals as goal
 
 fills : (c : ℕ) → c ≢ 92 → c ≢ 39 → c ≢ 10 → character_step Open c ≡ Some Filled
@@ -27,7 +27,7 @@ quoted s a b t o c e first opens second f g h third closes =
     (scalar_behind character (character_rest Open) s a o _ first (ap (λ (z : ℕ). derivative z character) opens)
     (scalar_behind (character_rest Open) (character_rest Filled) a b c _ second (character_steps Open c ∙ ap (after_next CharState character_rest) (fills c f g h))
     (scalar_behind (character_rest Filled) (character_rest Close) b t e 0 third (ap (λ (z : ℕ). derivative z (character_rest Filled)) closes ∙ character_steps Filled 39)
-    (empty_front t))))
+    (empty_prefix t))))
 
 pub returns : goal.returns
 returns c = rw c.len_utf8.ensures.len

@@ -7,7 +7,7 @@ use Rattle.wave_grammar.proofs.Elaboration.ParamsInTurn.{error_handed}
 use Rattle.wave_grammar.proofs.ByKind.Leaves.{said, bool_read, bool_fault}
 use Rattle.wave_grammar.proofs.ErrorSpans.Nodes.{all_in, form_at}
 use Rattle.wave_read.specs.Leaves.{leaf_node}
-use Rattle.wave_read.proofs.ReadErrors.HandedOn.{leaf_made, made_at, leaf_anew, leaf_of, none_of}
+use Rattle.wave_read.proofs.ReadErrors.HandedOn.{leaf_built, built_at, leaf_anew, leaf_of, none_of}
 use Rattle.wave_read.proofs.leaf.Leaf.read_bool.Goals as goal
 
 pub returns-in_err-val : goal.returns-in_err-val
@@ -22,7 +22,7 @@ returns-in_err-val g c = λ o w source token here. record {
 pub returns : goal.returns
 returns g c = λ o w source token here. record {
   answer = λ t is distinct.
-      leaf_made g.V.WasmValue.tree g.V.WasmValue.is_of g.V.WasmValue.is_full o w _ t (leaf_node c.args.self.now) (bool c.in_ok-val.val) c.make_bool.result c.or_error_here.result refl (bool_read source (leaf_node c.args.self.now) t c.in_ok-val.val is.0 c.in_ok-val.ensures) c.make_bool.ensures.made c.make_bool.ensures.full c.or_error_here.ensures;
-  within = λ value. all_in source (leaf_node c.args.self.now) c.or_error_here.result (inl value) (made_at (leaf_node c.args.self.now) c.make_bool.result c.or_error_here.result c.or_error_here.ensures);
-  typed = leaf_of g.V.WasmValue.tree g.V.WasmValue.is_of g.V.WasmValue.is_full (bool c.in_ok-val.val) (leaf_node c.args.self.now) c.or_error_here.result (leaf_anew g.V.WasmValue.tree g.V.WasmValue.is_of g.V.WasmValue.is_full (bool c.in_ok-val.val) (leaf_node c.args.self.now) c.make_bool.result c.or_error_here.result c.make_bool.ensures.made c.make_bool.ensures.full c.or_error_here.ensures);
+      leaf_built g.V.WasmValue.tree g.V.WasmValue.is_of g.V.WasmValue.is_full o w _ t (leaf_node c.args.self.now) (bool c.in_ok-val.val) c.make_bool.result c.or_error_here.result refl (bool_read source (leaf_node c.args.self.now) t c.in_ok-val.val is.0 c.in_ok-val.ensures) c.make_bool.ensures.built c.make_bool.ensures.full c.or_error_here.ensures;
+  within = λ value. all_in source (leaf_node c.args.self.now) c.or_error_here.result (inl value) (built_at (leaf_node c.args.self.now) c.make_bool.result c.or_error_here.result c.or_error_here.ensures);
+  typed = leaf_of g.V.WasmValue.tree g.V.WasmValue.is_of g.V.WasmValue.is_full (bool c.in_ok-val.val) (leaf_node c.args.self.now) c.or_error_here.result (leaf_anew g.V.WasmValue.tree g.V.WasmValue.is_of g.V.WasmValue.is_full (bool c.in_ok-val.val) (leaf_node c.args.self.now) c.make_bool.result c.or_error_here.result c.make_bool.ensures.built c.make_bool.ensures.full c.or_error_here.ensures);
 }

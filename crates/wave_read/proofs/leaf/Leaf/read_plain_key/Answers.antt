@@ -14,7 +14,7 @@ use Rattle.wave_read.specs.Leaves.{leaf_node}
 use Rattle.wave_grammar.specs.FaultOrder.{in_text}
 use Rattle.wave_read.specs.Reading.{IsOfType}
 use Rattle.wave_read.proofs.LeafReading.SimpleTypes.{whole_of}
-use Rattle.wave_read.proofs.ReadErrors.HandedOn.{key_made, made_in, leaf_anew, leaf_of, none_of}
+use Rattle.wave_read.proofs.ReadErrors.HandedOn.{key_built, built_in, leaf_anew, leaf_of, none_of}
 use Rattle.wave_read.proofs.leaf.Leaf.read_plain_key.Goals as goal
 
 pub returns-in_err-as_bool_key-in-Bool-clause-answer : goal.returns-in_err-as_bool_key-in-Bool-clause-answer
@@ -23,7 +23,7 @@ returns-in_err-as_bool_key-in-Bool-clause-answer g c = λ source here K p key is
 
 pub returns-in_ok-as_bool_key-in-Bool-clause-answer : goal.returns-in_ok-as_bool_key-in-Bool-clause-answer
 returns-in_ok-as_bool_key-in-Bool-clause-answer g c = λ source here K p key is token.
-    key_made g.V.WasmValue.tree g.V.WasmValue.is_of g.V.WasmValue.is_full (g.V.Type.WasmType.tree c.args.ty.now) K type.bool p key (leaf_node c.args.self.now) (value.bool c.in_ok-as_bool_key-in-Bool.field-0) c.make_bool.result c.or_error_here.result is (simple_is type.bool (g.V.Type.WasmType.tree c.args.ty.now) (sym c.in-Bool.is ∙ c.kind-kind.ensures)) refl (bool_key source (leaf_node c.args.self.now) p key c.in_ok-as_bool_key-in-Bool.field-0 token (c.in_ok-as_bool_key-in-Bool.ensures source here)) c.make_bool.ensures.made c.make_bool.ensures.full c.or_error_here.ensures
+    key_built g.V.WasmValue.tree g.V.WasmValue.is_of g.V.WasmValue.is_full (g.V.Type.WasmType.tree c.args.ty.now) K type.bool p key (leaf_node c.args.self.now) (value.bool c.in_ok-as_bool_key-in-Bool.field-0) c.make_bool.result c.or_error_here.result is (simple_is type.bool (g.V.Type.WasmType.tree c.args.ty.now) (sym c.in-Bool.is ∙ c.kind-kind.ensures)) refl (bool_key source (leaf_node c.args.self.now) p key c.in_ok-as_bool_key-in-Bool.field-0 token (c.in_ok-as_bool_key-in-Bool.ensures source here)) c.make_bool.ensures.built c.make_bool.ensures.full c.or_error_here.ensures
 
 pub returns-in_default-clause-answer : goal.returns-in_default-clause-answer
 returns-in_default-clause-answer g c = λ source here K p key is token.
@@ -35,7 +35,7 @@ returns-in_err-as_char-in-Char-clause-answer g c = λ source here K p key is tok
 
 pub returns-in_ok-as_char-in-Char-clause-answer : goal.returns-in_ok-as_char-in-Char-clause-answer
 returns-in_ok-as_char-in-Char-clause-answer g c = λ source here K p key is token.
-    key_made g.V.WasmValue.tree g.V.WasmValue.is_of g.V.WasmValue.is_full (g.V.Type.WasmType.tree c.args.ty.now) K type.char p key (leaf_node c.args.self.now) (value.char c.in_ok-as_char-in-Char.field-0) c.make_char.result c.or_error_here-in-Char.result is (simple_is type.char (g.V.Type.WasmType.tree c.args.ty.now) (sym c.in-Char.is ∙ c.kind-kind.ensures)) refl (char_key source (leaf_node c.args.self.now) p key c.in_ok-as_char-in-Char.field-0 token (c.in_ok-as_char-in-Char.ensures.gives source here)) c.make_char.ensures.made c.make_char.ensures.full c.or_error_here-in-Char.ensures
+    key_built g.V.WasmValue.tree g.V.WasmValue.is_of g.V.WasmValue.is_full (g.V.Type.WasmType.tree c.args.ty.now) K type.char p key (leaf_node c.args.self.now) (value.char c.in_ok-as_char-in-Char.field-0) c.make_char.result c.or_error_here-in-Char.result is (simple_is type.char (g.V.Type.WasmType.tree c.args.ty.now) (sym c.in-Char.is ∙ c.kind-kind.ensures)) refl (char_key source (leaf_node c.args.self.now) p key c.in_ok-as_char-in-Char.field-0 token (c.in_ok-as_char-in-Char.ensures.gives source here)) c.make_char.ensures.built c.make_char.ensures.full c.or_error_here-in-Char.ensures
 
 pub returns-in-String-clause-answer : goal.returns-in-String-clause-answer
 returns-in-String-clause-answer g c = λ source here.
@@ -51,7 +51,7 @@ returns-in_err-as_char-in-Char-clause-within g c = λ source here key.
 
 pub returns-in_ok-as_bool_key-in-Bool-clause-within : goal.returns-in_ok-as_bool_key-in-Bool-clause-within
 returns-in_ok-as_bool_key-in-Bool-clause-within g c = λ source here key.
-    made_in source (leaf_node c.args.self.now) c.make_bool.result c.or_error_here.result (inr key) c.or_error_here.ensures
+    built_in source (leaf_node c.args.self.now) c.make_bool.result c.or_error_here.result (inr key) c.or_error_here.ensures
 
 pub returns-in_default-clause-within : goal.returns-in_default-clause-within
 returns-in_default-clause-within g c = λ source here key.
@@ -59,7 +59,7 @@ returns-in_default-clause-within g c = λ source here key.
 
 pub returns-in_ok-as_char-in-Char-clause-within : goal.returns-in_ok-as_char-in-Char-clause-within
 returns-in_ok-as_char-in-Char-clause-within g c = λ source here key.
-    made_in source (leaf_node c.args.self.now) c.make_char.result c.or_error_here-in-Char.result (inr key) c.or_error_here-in-Char.ensures
+    built_in source (leaf_node c.args.self.now) c.make_char.result c.or_error_here-in-Char.result (inr key) c.or_error_here-in-Char.ensures
 
 pub returns-in_err-as_bool_key-in-Bool-clause-typed : goal.returns-in_err-as_bool_key-in-Bool-clause-typed
 returns-in_err-as_bool_key-in-Bool-clause-typed g c = λ source here. none_of g.V.WasmValue.is_of (g.V.Type.WasmType.tree c.args.ty.now) (λ e. e ≡ c.in_err-as_bool_key-in-Bool.field-0.0) c.from_residual.result c.from_residual.ensures.1
@@ -67,7 +67,7 @@ returns-in_err-as_bool_key-in-Bool-clause-typed g c = λ source here. none_of g.
 pub returns-in_ok-as_bool_key-in-Bool-clause-typed : goal.returns-in_ok-as_bool_key-in-Bool-clause-typed
 returns-in_ok-as_bool_key-in-Bool-clause-typed g c = λ source here.
     subst (λ (T : TypeTree). IsOfType g.V.WasmValue.is_of T c.or_error_here.result) (sym (simple_is type.bool (g.V.Type.WasmType.tree c.args.ty.now) (sym c.in-Bool.is ∙ c.kind-kind.ensures)))
-    (leaf_of g.V.WasmValue.tree g.V.WasmValue.is_of g.V.WasmValue.is_full (value.bool c.in_ok-as_bool_key-in-Bool.field-0) (leaf_node c.args.self.now) c.or_error_here.result (leaf_anew g.V.WasmValue.tree g.V.WasmValue.is_of g.V.WasmValue.is_full (value.bool c.in_ok-as_bool_key-in-Bool.field-0) (leaf_node c.args.self.now) c.make_bool.result c.or_error_here.result c.make_bool.ensures.made c.make_bool.ensures.full c.or_error_here.ensures))
+    (leaf_of g.V.WasmValue.tree g.V.WasmValue.is_of g.V.WasmValue.is_full (value.bool c.in_ok-as_bool_key-in-Bool.field-0) (leaf_node c.args.self.now) c.or_error_here.result (leaf_anew g.V.WasmValue.tree g.V.WasmValue.is_of g.V.WasmValue.is_full (value.bool c.in_ok-as_bool_key-in-Bool.field-0) (leaf_node c.args.self.now) c.make_bool.result c.or_error_here.result c.make_bool.ensures.built c.make_bool.ensures.full c.or_error_here.ensures))
 
 pub returns-in_default-clause-typed : goal.returns-in_default-clause-typed
 returns-in_default-clause-typed g c = λ source here.
@@ -79,7 +79,7 @@ returns-in_err-as_char-in-Char-clause-typed g c = λ source here. none_of g.V.Wa
 pub returns-in_ok-as_char-in-Char-clause-typed : goal.returns-in_ok-as_char-in-Char-clause-typed
 returns-in_ok-as_char-in-Char-clause-typed g c = λ source here.
     subst (λ (T : TypeTree). IsOfType g.V.WasmValue.is_of T c.or_error_here-in-Char.result) (sym (simple_is type.char (g.V.Type.WasmType.tree c.args.ty.now) (sym c.in-Char.is ∙ c.kind-kind.ensures)))
-    (leaf_of g.V.WasmValue.tree g.V.WasmValue.is_of g.V.WasmValue.is_full (value.char c.in_ok-as_char-in-Char.field-0) (leaf_node c.args.self.now) c.or_error_here-in-Char.result (leaf_anew g.V.WasmValue.tree g.V.WasmValue.is_of g.V.WasmValue.is_full (value.char c.in_ok-as_char-in-Char.field-0) (leaf_node c.args.self.now) c.make_char.result c.or_error_here-in-Char.result c.make_char.ensures.made c.make_char.ensures.full c.or_error_here-in-Char.ensures))
+    (leaf_of g.V.WasmValue.tree g.V.WasmValue.is_of g.V.WasmValue.is_full (value.char c.in_ok-as_char-in-Char.field-0) (leaf_node c.args.self.now) c.or_error_here-in-Char.result (leaf_anew g.V.WasmValue.tree g.V.WasmValue.is_of g.V.WasmValue.is_full (value.char c.in_ok-as_char-in-Char.field-0) (leaf_node c.args.self.now) c.make_char.result c.or_error_here-in-Char.result c.make_char.ensures.built c.make_char.ensures.full c.or_error_here-in-Char.ensures))
 
 pub returns-in-String-clause-typed : goal.returns-in-String-clause-typed
 returns-in-String-clause-typed g c = λ source here.

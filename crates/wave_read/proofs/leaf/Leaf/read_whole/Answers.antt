@@ -3,7 +3,7 @@ use Rattle.std.proofs.lemmas.Int.{to_z-of_z}
 use Rattle.wave_wasm.specs.Types as type
 use Rattle.wave_grammar.proofs.ByKind.Wholes.{whole_refused, none_whole}
 use Rattle.wave_read.specs.Leaves.{leaf_node}
-use Rattle.wave_read.proofs.ReadErrors.HandedOn.{whole_made}
+use Rattle.wave_read.proofs.ReadErrors.HandedOn.{whole_built}
 use Rattle.wave_read.proofs.leaf.Leaf.read_whole.Goals as goal
 
 pub returns-in_err-as_number-in-S8 : goal.returns-in_err-as_number-in-S8
@@ -13,7 +13,7 @@ returns-in_err-as_number-in-S8 g c = λ source here.
 pub returns-in_ok-as_number-in-S8 : goal.returns-in_ok-as_number-in-S8
 returns-in_ok-as_number-in-S8 g c = λ source here.
     let fits : FitsSigned w8 c.in_ok-as_number-in-S8.field-0 = search rules in
-    whole_made g.V.WasmValue.tree g.V.WasmValue.is_of g.V.WasmValue.is_full c.args.kind type.s8 source (leaf_node c.args.self.now) (to_z w8 (of_z w8 c.in_ok-as_number-in-S8.field-0)) c.in_ok-as_number-in-S8.field-0 c.make_s8.result c.or_error_here.result c.in-S8.is (to_z-of_z w8 c.in_ok-as_number-in-S8.field-0 fits) (c.in_ok-as_number-in-S8.ensures source here) c.make_s8.ensures.made c.make_s8.ensures.full c.or_error_here.ensures
+    whole_built g.V.WasmValue.tree g.V.WasmValue.is_of g.V.WasmValue.is_full c.args.kind type.s8 source (leaf_node c.args.self.now) (to_z w8 (of_z w8 c.in_ok-as_number-in-S8.field-0)) c.in_ok-as_number-in-S8.field-0 c.make_s8.result c.or_error_here.result c.in-S8.is (to_z-of_z w8 c.in_ok-as_number-in-S8.field-0 fits) (c.in_ok-as_number-in-S8.ensures source here) c.make_s8.ensures.built c.make_s8.ensures.full c.or_error_here.ensures
 
 pub returns-in_err-as_number-in-S16 : goal.returns-in_err-as_number-in-S16
 returns-in_err-as_number-in-S16 g c = λ source here.
@@ -22,7 +22,7 @@ returns-in_err-as_number-in-S16 g c = λ source here.
 pub returns-in_ok-as_number-in-S16 : goal.returns-in_ok-as_number-in-S16
 returns-in_ok-as_number-in-S16 g c = λ source here.
     let fits : FitsSigned w16 c.in_ok-as_number-in-S16.field-0 = search rules in
-    whole_made g.V.WasmValue.tree g.V.WasmValue.is_of g.V.WasmValue.is_full c.args.kind type.s16 source (leaf_node c.args.self.now) (to_z w16 (of_z w16 c.in_ok-as_number-in-S16.field-0)) c.in_ok-as_number-in-S16.field-0 c.make_s16.result c.or_error_here-in-S16.result c.in-S16.is (to_z-of_z w16 c.in_ok-as_number-in-S16.field-0 fits) (c.in_ok-as_number-in-S16.ensures source here) c.make_s16.ensures.made c.make_s16.ensures.full c.or_error_here-in-S16.ensures
+    whole_built g.V.WasmValue.tree g.V.WasmValue.is_of g.V.WasmValue.is_full c.args.kind type.s16 source (leaf_node c.args.self.now) (to_z w16 (of_z w16 c.in_ok-as_number-in-S16.field-0)) c.in_ok-as_number-in-S16.field-0 c.make_s16.result c.or_error_here-in-S16.result c.in-S16.is (to_z-of_z w16 c.in_ok-as_number-in-S16.field-0 fits) (c.in_ok-as_number-in-S16.ensures source here) c.make_s16.ensures.built c.make_s16.ensures.full c.or_error_here-in-S16.ensures
 
 pub returns-in_err-as_number-in-S32 : goal.returns-in_err-as_number-in-S32
 returns-in_err-as_number-in-S32 g c = λ source here.
@@ -31,7 +31,7 @@ returns-in_err-as_number-in-S32 g c = λ source here.
 pub returns-in_ok-as_number-in-S32 : goal.returns-in_ok-as_number-in-S32
 returns-in_ok-as_number-in-S32 g c = λ source here.
     let fits : FitsSigned w32 c.in_ok-as_number-in-S32.field-0 = search rules in
-    whole_made g.V.WasmValue.tree g.V.WasmValue.is_of g.V.WasmValue.is_full c.args.kind type.s32 source (leaf_node c.args.self.now) (to_z w32 (of_z w32 c.in_ok-as_number-in-S32.field-0)) c.in_ok-as_number-in-S32.field-0 c.make_s32.result c.or_error_here-in-S32.result c.in-S32.is (to_z-of_z w32 c.in_ok-as_number-in-S32.field-0 fits) (c.in_ok-as_number-in-S32.ensures source here) c.make_s32.ensures.made c.make_s32.ensures.full c.or_error_here-in-S32.ensures
+    whole_built g.V.WasmValue.tree g.V.WasmValue.is_of g.V.WasmValue.is_full c.args.kind type.s32 source (leaf_node c.args.self.now) (to_z w32 (of_z w32 c.in_ok-as_number-in-S32.field-0)) c.in_ok-as_number-in-S32.field-0 c.make_s32.result c.or_error_here-in-S32.result c.in-S32.is (to_z-of_z w32 c.in_ok-as_number-in-S32.field-0 fits) (c.in_ok-as_number-in-S32.ensures source here) c.make_s32.ensures.built c.make_s32.ensures.full c.or_error_here-in-S32.ensures
 
 pub returns-in_err-as_number-in-S64 : goal.returns-in_err-as_number-in-S64
 returns-in_err-as_number-in-S64 g c = λ source here.
@@ -40,7 +40,7 @@ returns-in_err-as_number-in-S64 g c = λ source here.
 pub returns-in_ok-as_number-in-S64 : goal.returns-in_ok-as_number-in-S64
 returns-in_ok-as_number-in-S64 g c = λ source here.
     let fits : FitsSigned w64 c.in_ok-as_number-in-S64.field-0 = search rules in
-    whole_made g.V.WasmValue.tree g.V.WasmValue.is_of g.V.WasmValue.is_full c.args.kind type.s64 source (leaf_node c.args.self.now) (to_z w64 (of_z w64 c.in_ok-as_number-in-S64.field-0)) c.in_ok-as_number-in-S64.field-0 c.make_s64.result c.or_error_here-in-S64.result c.in-S64.is (to_z-of_z w64 c.in_ok-as_number-in-S64.field-0 fits) (c.in_ok-as_number-in-S64.ensures source here) c.make_s64.ensures.made c.make_s64.ensures.full c.or_error_here-in-S64.ensures
+    whole_built g.V.WasmValue.tree g.V.WasmValue.is_of g.V.WasmValue.is_full c.args.kind type.s64 source (leaf_node c.args.self.now) (to_z w64 (of_z w64 c.in_ok-as_number-in-S64.field-0)) c.in_ok-as_number-in-S64.field-0 c.make_s64.result c.or_error_here-in-S64.result c.in-S64.is (to_z-of_z w64 c.in_ok-as_number-in-S64.field-0 fits) (c.in_ok-as_number-in-S64.ensures source here) c.make_s64.ensures.built c.make_s64.ensures.full c.or_error_here-in-S64.ensures
 
 pub returns-in_err-as_number-in-U8 : goal.returns-in_err-as_number-in-U8
 returns-in_err-as_number-in-U8 g c = λ source here.
@@ -48,7 +48,7 @@ returns-in_err-as_number-in-U8 g c = λ source here.
 
 pub returns-in_ok-as_number-in-U8 : goal.returns-in_ok-as_number-in-U8
 returns-in_ok-as_number-in-U8 g c = λ source here.
-    whole_made g.V.WasmValue.tree g.V.WasmValue.is_of g.V.WasmValue.is_full c.args.kind type.u8 source (leaf_node c.args.self.now) (pos c.in_ok-as_number-in-U8.field-0) (pos c.in_ok-as_number-in-U8.field-0) c.make_u8.result c.or_error_here-in-U8.result c.in-U8.is refl (c.in_ok-as_number-in-U8.ensures source here) c.make_u8.ensures.made c.make_u8.ensures.full c.or_error_here-in-U8.ensures
+    whole_built g.V.WasmValue.tree g.V.WasmValue.is_of g.V.WasmValue.is_full c.args.kind type.u8 source (leaf_node c.args.self.now) (pos c.in_ok-as_number-in-U8.field-0) (pos c.in_ok-as_number-in-U8.field-0) c.make_u8.result c.or_error_here-in-U8.result c.in-U8.is refl (c.in_ok-as_number-in-U8.ensures source here) c.make_u8.ensures.built c.make_u8.ensures.full c.or_error_here-in-U8.ensures
 
 pub returns-in_err-as_number-in-U16 : goal.returns-in_err-as_number-in-U16
 returns-in_err-as_number-in-U16 g c = λ source here.
@@ -56,7 +56,7 @@ returns-in_err-as_number-in-U16 g c = λ source here.
 
 pub returns-in_ok-as_number-in-U16 : goal.returns-in_ok-as_number-in-U16
 returns-in_ok-as_number-in-U16 g c = λ source here.
-    whole_made g.V.WasmValue.tree g.V.WasmValue.is_of g.V.WasmValue.is_full c.args.kind type.u16 source (leaf_node c.args.self.now) (pos c.in_ok-as_number-in-U16.field-0) (pos c.in_ok-as_number-in-U16.field-0) c.make_u16.result c.or_error_here-in-U16.result c.in-U16.is refl (c.in_ok-as_number-in-U16.ensures source here) c.make_u16.ensures.made c.make_u16.ensures.full c.or_error_here-in-U16.ensures
+    whole_built g.V.WasmValue.tree g.V.WasmValue.is_of g.V.WasmValue.is_full c.args.kind type.u16 source (leaf_node c.args.self.now) (pos c.in_ok-as_number-in-U16.field-0) (pos c.in_ok-as_number-in-U16.field-0) c.make_u16.result c.or_error_here-in-U16.result c.in-U16.is refl (c.in_ok-as_number-in-U16.ensures source here) c.make_u16.ensures.built c.make_u16.ensures.full c.or_error_here-in-U16.ensures
 
 pub returns-in_err-as_number-in-U32 : goal.returns-in_err-as_number-in-U32
 returns-in_err-as_number-in-U32 g c = λ source here.
@@ -64,7 +64,7 @@ returns-in_err-as_number-in-U32 g c = λ source here.
 
 pub returns-in_ok-as_number-in-U32 : goal.returns-in_ok-as_number-in-U32
 returns-in_ok-as_number-in-U32 g c = λ source here.
-    whole_made g.V.WasmValue.tree g.V.WasmValue.is_of g.V.WasmValue.is_full c.args.kind type.u32 source (leaf_node c.args.self.now) (pos c.in_ok-as_number-in-U32.field-0) (pos c.in_ok-as_number-in-U32.field-0) c.make_u32.result c.or_error_here-in-U32.result c.in-U32.is refl (c.in_ok-as_number-in-U32.ensures source here) c.make_u32.ensures.made c.make_u32.ensures.full c.or_error_here-in-U32.ensures
+    whole_built g.V.WasmValue.tree g.V.WasmValue.is_of g.V.WasmValue.is_full c.args.kind type.u32 source (leaf_node c.args.self.now) (pos c.in_ok-as_number-in-U32.field-0) (pos c.in_ok-as_number-in-U32.field-0) c.make_u32.result c.or_error_here-in-U32.result c.in-U32.is refl (c.in_ok-as_number-in-U32.ensures source here) c.make_u32.ensures.built c.make_u32.ensures.full c.or_error_here-in-U32.ensures
 
 pub returns-in_err-as_number-in-U64 : goal.returns-in_err-as_number-in-U64
 returns-in_err-as_number-in-U64 g c = λ source here.
@@ -72,7 +72,7 @@ returns-in_err-as_number-in-U64 g c = λ source here.
 
 pub returns-in_ok-as_number-in-U64 : goal.returns-in_ok-as_number-in-U64
 returns-in_ok-as_number-in-U64 g c = λ source here.
-    whole_made g.V.WasmValue.tree g.V.WasmValue.is_of g.V.WasmValue.is_full c.args.kind type.u64 source (leaf_node c.args.self.now) (pos c.in_ok-as_number-in-U64.field-0) (pos c.in_ok-as_number-in-U64.field-0) c.make_u64.result c.or_error_here-in-U64.result c.in-U64.is refl (c.in_ok-as_number-in-U64.ensures source here) c.make_u64.ensures.made c.make_u64.ensures.full c.or_error_here-in-U64.ensures
+    whole_built g.V.WasmValue.tree g.V.WasmValue.is_of g.V.WasmValue.is_full c.args.kind type.u64 source (leaf_node c.args.self.now) (pos c.in_ok-as_number-in-U64.field-0) (pos c.in_ok-as_number-in-U64.field-0) c.make_u64.result c.or_error_here-in-U64.result c.in-U64.is refl (c.in_ok-as_number-in-U64.ensures source here) c.make_u64.ensures.built c.make_u64.ensures.full c.or_error_here-in-U64.ensures
 
 pub returns-in_default : goal.returns-in_default
 returns-in_default g c = λ source here.

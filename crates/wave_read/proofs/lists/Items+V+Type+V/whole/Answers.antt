@@ -36,6 +36,6 @@ returns g c = λ w T source children a.
     list_read g.V.WasmValue.tree g.V.WasmValue.is_of g.V.WasmValue.is_full in_text w T (g.V.Type.WasmType.tree c.args.self.element.now) source c.args.span children c.args.self.items.items c.args.self.count c.make_list_unchecked.result c.or_error_at.result a.element a.count
     (subst (λ (U : TypeTree). IsOfLength U c.args.self.count) a.is c.in_ok-check_length.ensures.fits)
     (subst (ReadOrHeld g.V.WasmValue.tree g.V.WasmValue.is_of g.V.WasmValue.is_full w (g.V.Type.WasmType.tree c.args.self.element.now) source children c.args.self.items.items) c.in_default.is a.read)
-    (subst (λ (U : TypeTree). IfOk c.make_list_unchecked.result (MakesList g.V.WasmValue.tree g.V.WasmValue.is_of U c.args.self.items.items)) a.is c.make_list_unchecked.ensures.made)
+    (subst (λ (U : TypeTree). IfOk c.make_list_unchecked.result (MakesList g.V.WasmValue.tree g.V.WasmValue.is_of U c.args.self.items.items)) a.is c.make_list_unchecked.ensures.built)
     (subst (λ (U : TypeTree). IfErr c.make_list_unchecked.result (FullList g.V.WasmValue.is_of g.V.WasmValue.is_full U c.args.self.items.items)) a.is c.make_list_unchecked.ensures.full)
     (c.or_error_at.ensures (node kind.List c.args.span (node_trees children)) refl)

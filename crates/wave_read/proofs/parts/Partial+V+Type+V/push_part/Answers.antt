@@ -2,9 +2,9 @@ use Rattle.wave_read.proofs.PartByPart.OneMore.{no_items, where_ok}
 use Rattle.wave_read.proofs.parts.Partial+V+Type+V.push_part.Goals as goal
 
 pub returns-in-Items-clause-grown : goal.returns-in-Items-clause-grown
-returns-in-Items-clause-grown g c = where_ok _ _ c.push_part.result (λ done kept. λ w T source of children n takes parts due.
+returns-in-Items-clause-grown g c = where_ok _ _ c.push_part.result (λ done kept. λ w T source of children n takes parts expected.
     let h = rw c.in-Items.is at parts in
-    (h.0, kept w T source children n (rw h.0 at takes) h.1 (rw c.in-Items.is at due)))
+    (h.0, kept w T source children n (rw h.0 at takes) h.1 (rw c.in-Items.is at expected)))
     c.push_part.ensures
 
 pub returns-in-Items-clause-bare : goal.returns-in-Items-clause-bare

@@ -8,7 +8,7 @@ use Rattle.wave_read.specs.PlainReading.{IsPlain}
 use Rattle.wave_read.specs.Reading.{IsReadAs}
 use Rattle.wave_read.specs.PartsOfKinds.{AreParts, AreBareOrRead}
 use Rattle.wave_read.specs.declared.parts.Partial.{Partial}
-use Rattle.wave_read.proofs.ReadErrors.DoomedValues.{told}
+use Rattle.wave_read.proofs.ReadErrors.RejectedValues.{reported}
 use Rattle.wave_read.proofs.PartByPart.ReadByKind.{items_read, row_read, some_was_read, result_was_read, case_read, fields_read, entries_read}
 use Rattle.wave_read.proofs.parts.Partial+V+Type+V.whole.Goals as goal
 
@@ -43,7 +43,7 @@ whole-requires-in-Entries g c =
 pub returns-in-Faulty-clause-read : goal.returns-in-Faulty-clause-read
 returns-in-Faulty-clause-read g c = λ w T source of children parts.
     let h = subst (λ (x : Partial g.row.V-Type.Denot g.row.V.Denot). AreParts g.V.Type.WasmType.tree g.V.WasmValue.tree g.V.WasmValue.is_of g.V.WasmValue.is_full w T source of children x) c.in-Faulty.is parts in
-    told g.V.WasmValue.tree g.V.WasmValue.is_of g.V.WasmValue.is_full in_text w T source of children c.in-Faulty.fault c.args.span c.tell.result h c.tell.ensures
+    reported g.V.WasmValue.tree g.V.WasmValue.is_of g.V.WasmValue.is_full in_text w T source of children c.in-Faulty.fault c.args.span c.report.result h c.report.ensures
 
 pub returns-in-Simple-clause-read : goal.returns-in-Simple-clause-read
 returns-in-Simple-clause-read g c = λ w T source of children parts.

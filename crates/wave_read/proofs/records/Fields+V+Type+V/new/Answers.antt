@@ -14,7 +14,7 @@ returns g c = λ w source.
       begun = record {
         labels = tt;
         known = tt;
-        due = tt;
+        expected = tt;
         distinct = λ apart. tt;
         kept = λ apart. subst (AreKeptAs g.V.Type.WasmType.tree g.V.WasmValue.tree g.V.WasmValue.is_of g.V.WasmValue.is_full w source []) (sym empty) (none_kept g.V.WasmValue.tree g.V.WasmValue.is_of g.V.WasmValue.is_full w g.V.Type.WasmType.tree source c.in_ok-types.types.items);
       };

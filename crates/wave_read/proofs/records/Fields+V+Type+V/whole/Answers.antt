@@ -3,7 +3,7 @@ use Rattle.wave_wasm.specs.Types.{TypeTree, HasDistinctNames}
 use Rattle.wave_wasm.specs.ConstructorContracts.{TypedRecord}
 use Rattle.wave_grammar.specs.NodeTree.{node, node_trees}
 use Rattle.wave_grammar.specs.declared.form.NodeType.TheVariants as kind
-use Rattle.wave_read.proofs.RecordReading.WholeRecords.{record_typed, whole_made, whole_unfilled}
+use Rattle.wave_read.proofs.RecordReading.WholeRecords.{record_typed, whole_built, whole_unfilled}
 use Rattle.wave_read.proofs.records.Fields+V+Type+V.whole.Goals as goal
 
 pub returns-in_err-fields : goal.returns-in_err-fields
@@ -18,4 +18,4 @@ make_record_unchecked-requires g c =
 
 pub returns : goal.returns
 returns g c = λ w T source children h.
-    whole_made g.V.WasmValue.tree g.V.WasmValue.is_of g.V.WasmValue.is_full w g.V.Type.WasmType.tree T source children c.args.self h c.args.span c.in_ok-fields.fields.items c.make_record_unchecked.result c.or_error_at.result c.in_ok-fields.ensures.full c.make_record_unchecked.ensures.made c.make_record_unchecked.ensures.full (c.or_error_at.ensures (node kind.TupleSet c.args.span (node_trees children)) refl)
+    whole_built g.V.WasmValue.tree g.V.WasmValue.is_of g.V.WasmValue.is_full w g.V.Type.WasmType.tree T source children c.args.self h c.args.span c.in_ok-fields.fields.items c.make_record_unchecked.result c.or_error_at.result c.in_ok-fields.ensures.full c.make_record_unchecked.ensures.built c.make_record_unchecked.ensures.full (c.or_error_at.ensures (node kind.TupleSet c.args.span (node_trees children)) refl)

@@ -5,7 +5,7 @@ use Rattle.wave_read.proofs.ItemReading.Tuples.{each_beyond, item_refused}
 use Rattle.wave_read.proofs.tuples.TupleItems+V+Type+V.push_failed.Goals as goal
 
 pub returns-then-is_none : goal.returns-then-is_none
-returns-then-is_none g c = λ w T source children n takes a due. record {
+returns-then-is_none g c = λ w T source children n takes a expected. record {
   is = a.is;
   kind = a.kind;
   parts = a.parts;
@@ -14,5 +14,5 @@ returns-then-is_none g c = λ w T source children n takes a due. record {
 }
 
 pub returns : goal.returns
-returns g c = λ w T source children n takes a due.
-    item_refused g.V.WasmValue.tree g.V.WasmValue.is_of g.V.WasmValue.is_full in_text w g.V.Type.WasmType.tree source T c.args.self.now.types.items children c.args.self.now.items.items n c.args.error g.met.V.WasmValue.full_parts a.kind a.parts (ap is_some (sym c.next.ensures) ∙ c.if-is_none.ensures) a.read due
+returns g c = λ w T source children n takes a expected.
+    item_refused g.V.WasmValue.tree g.V.WasmValue.is_of g.V.WasmValue.is_full in_text w g.V.Type.WasmType.tree source T c.args.self.now.types.items children c.args.self.now.items.items n c.args.error g.met.V.WasmValue.full_parts a.kind a.parts (ap is_some (sym c.next.ensures) ∙ c.if-is_none.ensures) a.read expected

@@ -29,6 +29,6 @@ pub returns : goal.returns
 returns g c = λ w T source children a.
     let wanted : c.len-want.result ≡ length (shown_all g.V.Type.WasmType.tree c.args.self.types.items) = omega (arith, as_shown g.V.Type.WasmType.tree c.args.self.types.items) in
     tuple_read g.V.WasmValue.tree g.V.WasmValue.is_of g.V.WasmValue.is_full in_text w T (shown_all g.V.Type.WasmType.tree c.args.self.types.items) source c.args.span children c.args.self.items.items c.len-want.result c.args.self.count c.make_tuple_unchecked.result c.or_error_at.result a.kind a.parts wanted a.count c.if-count-want.false a.read
-    (subst (λ (U : TypeTree). IfOk c.make_tuple_unchecked.result (MakesTuple g.V.WasmValue.tree g.V.WasmValue.is_of U c.args.self.items.items)) a.is c.make_tuple_unchecked.ensures.made)
+    (subst (λ (U : TypeTree). IfOk c.make_tuple_unchecked.result (MakesTuple g.V.WasmValue.tree g.V.WasmValue.is_of U c.args.self.items.items)) a.is c.make_tuple_unchecked.ensures.built)
     (subst (λ (U : TypeTree). IfErr c.make_tuple_unchecked.result (FullTuple g.V.WasmValue.is_of g.V.WasmValue.is_full U c.args.self.items.items)) a.is c.make_tuple_unchecked.ensures.full)
     (c.or_error_at.ensures (node kind.Tuple c.args.span (node_trees children)) refl)

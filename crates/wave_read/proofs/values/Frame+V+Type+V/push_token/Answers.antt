@@ -6,7 +6,7 @@ use Rattle.wave_read.proofs.PartByPart.OneMore.{where_ok}
 use Rattle.wave_read.proofs.values.Frame+V+Type+V.push_token.Goals as goal
 
 pub returns-clause-kept : goal.returns-clause-kept
-returns-clause-kept g c = where_ok _ _ c.push_part.result (λ done step. λ w due source whole children here takes kept. step w due source whole children (leaf_node c.args.leaf.now) takes kept
-    (subst (λ d. IsReadSparing g.V.WasmValue.tree g.V.WasmValue.is_of g.V.WasmValue.is_full w w (shown g.V.Type.WasmType.tree d) source (leaf_node c.args.leaf.now) c.token-made.result) c.next.ensures
-    (c.token-made.ensures w w source c.requires.0 here)))
+returns-clause-kept g c = where_ok _ _ c.push_part.result (λ done step. λ w expected source whole children here takes kept. step w expected source whole children (leaf_node c.args.leaf.now) takes kept
+    (subst (λ d. IsReadSparing g.V.WasmValue.tree g.V.WasmValue.is_of g.V.WasmValue.is_full w w (shown g.V.Type.WasmType.tree d) source (leaf_node c.args.leaf.now) c.token-built.result) c.next.ensures
+    (c.token-built.ensures w w source c.requires.0 here)))
     c.push_part.ensures.kept

@@ -15,8 +15,8 @@ returns-in_default g c =
       node = tt;
       around = tt;
       kind = tt;
-      none = λ T due U read is.
-          let same = some_is (g.V.Type.WasmType.tree c.in_ok-self.field-0.now) T (sym (ap (shown g.V.Type.WasmType.tree) c.in_ok-self.was) ∙ due) in
+      none = λ T expected U read is.
+          let same = some_is (g.V.Type.WasmType.tree c.in_ok-self.field-0.now) T (sym (ap (shown g.V.Type.WasmType.tree) c.in_ok-self.was) ∙ expected) in
           no_record g.V.Type.WasmType.tree T node_type.TupleSet found.0 found.1 (subst (λ (W : TypeTree). IsAround g.V.Type.WasmType.tree W node_type.TupleSet found.0 found.1) same c.wrapper_and_type.ensures)
           (λ kind. c.in_default.not-Record (c.kind.ensures ∙ kind)) U (subst (λ (k : NodeType). IsReadAt T k U) is read) refl;
     }

@@ -4,7 +4,7 @@ use Rattle.wave_read.proofs.PartByPart.OneMore.{where_ok, where_err}
 use Rattle.wave_read.proofs.values.ValueBuilderBuilder.push_part.Goals as goal
 
 pub returns-clause-kept : goal.returns-clause-kept
-returns-clause-kept g c = where_ok _ _ c.push_part.result (λ done step. step in_text (shown g.V.Type.WasmType.tree c.args.self.due)) c.push_part.ensures.kept
+returns-clause-kept g c = where_ok _ _ c.push_part.result (λ done step. step in_text (shown g.V.Type.WasmType.tree c.args.self.expected)) c.push_part.ensures.kept
 
 pub returns-clause-memory : goal.returns-clause-memory
-returns-clause-memory g c = where_err _ _ c.push_part.result (λ error wants. wants in_text (shown g.V.Type.WasmType.tree c.args.self.due)) c.push_part.ensures.memory
+returns-clause-memory g c = where_err _ _ c.push_part.result (λ error wants. wants in_text (shown g.V.Type.WasmType.tree c.args.self.expected)) c.push_part.ensures.memory

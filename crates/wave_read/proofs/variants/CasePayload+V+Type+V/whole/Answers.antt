@@ -2,7 +2,7 @@ use Rattle.wave_grammar.specs.FaultOrder.{in_text}
 use Rattle.std.proofs.Common.{refl}
 use Rattle.wave_grammar.specs.NodeTree.{node, node_trees}
 use Rattle.wave_grammar.specs.declared.form.NodeType.TheVariants as kind
-use Rattle.wave_read.proofs.PayloadReading.CaseAnswers.{whole_made, whole_typed}
+use Rattle.wave_read.proofs.PayloadReading.CaseAnswers.{whole_built, whole_typed}
 use Rattle.wave_read.proofs.variants.CasePayload+V+Type+V.whole.Goals as goal
 
 pub make_variant_unchecked-requires : goal.make_variant_unchecked-requires
@@ -12,5 +12,5 @@ make_variant_unchecked-requires g c =
 
 pub returns : goal.returns
 returns g c = λ w T source children h.
-    whole_made g.V.Type.WasmType.tree g.V.WasmValue.tree g.V.WasmValue.is_of g.V.WasmValue.is_full in_text w T source children c.args.self c.args.span (c.in-Some-Some.name, c.in-Some-Some.field-0-1-0) c.in-Some-Some.val c.make_variant_unchecked.result c.or_error_at.result
-    c.in-Some-Some.is-0 c.in-Some-Some.is-1 h c.make_variant_unchecked.ensures.made c.make_variant_unchecked.ensures.full (c.or_error_at.ensures (node kind.VariantWithPayload c.args.span (node_trees children)) refl)
+    whole_built g.V.Type.WasmType.tree g.V.WasmValue.tree g.V.WasmValue.is_of g.V.WasmValue.is_full in_text w T source children c.args.self c.args.span (c.in-Some-Some.name, c.in-Some-Some.field-0-1-0) c.in-Some-Some.val c.make_variant_unchecked.result c.or_error_at.result
+    c.in-Some-Some.is-0 c.in-Some-Some.is-1 h c.make_variant_unchecked.ensures.built c.make_variant_unchecked.ensures.full (c.or_error_at.ensures (node kind.VariantWithPayload c.args.span (node_trees children)) refl)

@@ -27,35 +27,35 @@ use Rattle.wave_read.specs.Leaves.{leaf_node}
 use Rattle.wave_read.specs.PlainReading.{IsReadSparing}
 use Rattle.wave_read.proofs.LeafReading.PlainTypes.{no_row_spares}
 use Rattle.wave_read.specs.Flat.{ReadsNoRecord}
-use Rattle.wave_read.specs.KeptParts.{AreKeptWhereDue}
-use Rattle.wave_read.specs.PartsOfKinds.{AreDoomedAtOnce}
+use Rattle.wave_read.specs.KeptParts.{AreKeptWhereExpected}
+use Rattle.wave_read.specs.PartsOfKinds.{AreRefusedAtOnce}
 use Rattle.wave_tree.proofs.NodeReading.Children.{child_below, key_child, value_child, if_true, if_false, more_children, key_alone, whole_at}
 use Rattle.wave_tree.proofs.NodeReading.FaultOrder.{read_by_type}
-use Rattle.wave_tree.proofs.NodeReading.BuilderAnswers.{due_read, set_no_row, record_read, field_told, left_told}
+use Rattle.wave_tree.proofs.NodeReading.BuilderAnswers.{expected_read, set_no_row, record_read, field_reported, left_reported}
 use Rattle.wave_tree.proofs.NodeReading.Records.{part_at, as_parts, still_held, held_value, none_before, removed_next, unknown_blame, fields_kept, record_typed, record_done, held_belongs, held_below, depth_of_maybe}
-use Rattle.wave_tree.proofs.ast.Node.+making.Goals.{make_of_parts-then-takes_key+in_ok-push_key, make_of_parts-else-takes_key+in_ok-made+in_ok-push_part}
+use Rattle.wave_tree.proofs.ast.Node.+making.Goals.{make_of_parts-then-takes_key+in_ok-push_key, make_of_parts-else-takes_key+in_ok-built+in_ok-push_part}
 use Rattle.wave_tree.proofs.ast.Node.+making.Goals as goal
-use Rattle.wave_read.proofs.PayloadReading.Surrounding.{due_within}
-use Rattle.wave_read.proofs.ReadErrors.HandedOn.{made_in, no_memory, same_or_memory, none_of, typed_of}
+use Rattle.wave_read.proofs.PayloadReading.Surrounding.{expected_within}
+use Rattle.wave_read.proofs.ReadErrors.HandedOn.{built_in, no_memory, same_or_memory, none_of, typed_of}
 
--- ---- at the type that is due
+-- ---- at the type that is expected
 
 pub make-returns-in-Some : goal.make-returns-in-Some
 make-returns-in-Some g t c =
     let set : type_of c.args.self.now ≡ kind.TupleSet = sym c.ty.ensures ∙ c.in-Some.ensures.node in (
-      record_read g.V.WasmValue.tree g.V.WasmValue.is_of g.V.WasmValue.is_full by_type by_type g.V.Type.WasmType.tree c.args.src.now c.args.self.now (shown g.V.Type.WasmType.tree c.args.builder.due) c.in-Some.around c.in-Some.ty c.wrapped.result set c.in-Some.ensures.around
-          (λ T is. c.wrapped.ensures by_type by_type T c.args.src.now c.args.self.now is (sym c.span.ensures) c.read_record-made.ensures),
-      no_row_spares (shown g.V.Type.WasmType.tree c.args.builder.due) c.args.self.now c.wrapped.result (set_no_row (type_of c.args.self.now) set),
+      record_read g.V.WasmValue.tree g.V.WasmValue.is_of g.V.WasmValue.is_full by_type by_type g.V.Type.WasmType.tree c.args.src.now c.args.self.now (shown g.V.Type.WasmType.tree c.args.builder.expected) c.in-Some.around c.in-Some.ty c.wrapped.result set c.in-Some.ensures.around
+          (λ T is. c.wrapped.ensures by_type by_type T c.args.src.now c.args.self.now is (sym c.span.ensures) c.read_record-built.ensures),
+      no_row_spares (shown g.V.Type.WasmType.tree c.args.builder.expected) c.args.self.now c.wrapped.result (set_no_row (type_of c.args.self.now) set),
     )
 
 pub make-wrapped-requires : goal.make-wrapped-requires
 make-wrapped-requires g t c =
     let set : type_of c.args.self.now ≡ kind.TupleSet = sym c.ty.ensures ∙ c.in-Some.ensures.node in
-    due_within g.V.Type.WasmType.tree g.V.WasmValue.is_of kind.TupleSet c.read_record-made.result (shown g.V.Type.WasmType.tree c.args.builder.due) c.in-Some.around c.in-Some.ty c.in-Some.ensures.around c.read_record-made.ensures.typed
+    expected_within g.V.Type.WasmType.tree g.V.WasmValue.is_of kind.TupleSet c.read_record-built.result (shown g.V.Type.WasmType.tree c.args.builder.expected) c.in-Some.around c.in-Some.ty c.in-Some.ensures.around c.read_record-built.ensures.typed
 
 pub read-returns-in-Ok : goal.read-returns-in-Ok
 read-returns-in-Ok g t c =
-    due_read g.V.WasmValue.tree g.V.WasmValue.is_of g.V.WasmValue.is_full by_type by_type g.V.Type.WasmType.tree c.args.src.now c.args.self.now c.new.result.due c.args.ty c.in-Ok.made c.new.ensures c.in-Ok.ensures.0
+    expected_read g.V.WasmValue.tree g.V.WasmValue.is_of g.V.WasmValue.is_full by_type by_type g.V.Type.WasmType.tree c.args.src.now c.args.self.now c.new.result.expected c.args.ty c.in-Ok.built c.new.ensures c.in-Ok.ensures.0
 
 pub read-returns-in-Err : goal.read-returns-in-Err
 read-returns-in-Err g t c = no_memory g.V.WasmValue.tree g.V.WasmValue.is_of g.V.WasmValue.is_full by_type by_type (g.V.Type.WasmType.tree c.args.ty.now) c.args.src.now c.args.self.now c.read_error.result c.read_error.ensures
@@ -137,14 +137,14 @@ pub read_record-returns : goal.read_record-returns
 read_record-returns g t c =
     let known : kind_of (g.V.Type.WasmType.tree c.args.ty.now) ≡ kinds.Record = assumption in
     let is_record : RecordType (g.V.Type.WasmType.tree c.args.ty.now) (shown_fields g.V.Type.WasmType.tree c.in-Ok.types.items) = record_is (g.V.Type.WasmType.tree c.args.ty.now) (shown_fields g.V.Type.WasmType.tree c.in-Ok.types.items) (sym known) c.in-Ok.ensures in
-    let made = c.or_error_at.ensures c.args.self.now (sym c.span.ensures) in
+    let built = c.or_error_at.ensures c.args.self.now (sym c.span.ensures) in
     let value : IsValueOf c.args.src.now c.args.self.now = assumption in
     let answer : Answers g.V.WasmValue.tree g.V.WasmValue.is_of g.V.WasmValue.is_full by_type by_type (g.V.Type.WasmType.tree c.args.ty.now) c.args.src.now c.args.self.now c.or_error_at.result = λ p is distinct.
     let read = c.loop-i.invariant.read (fields_at c.args.src.now (children_of c.args.self.now)) c.in-Ok-fields.ensures.held (entry_list (record_nodes c.args.src.now c.args.self.now p is c.in-Ok-fields.ensures.given.is_set).given) (given_fields c.args.src.now c.args.self.now p (fields_at c.args.src.now (children_of c.args.self.now)) is c.in-Ok-fields.ensures.given) (fields_distinct (g.V.Type.WasmType.tree c.args.ty.now) (shown_fields g.V.Type.WasmType.tree c.in-Ok.types.items) is_record distinct) in
-    record_done g.V.WasmValue.tree g.V.WasmValue.is_of g.V.WasmValue.is_full by_type (g.V.Type.WasmType.tree c.args.ty.now) (shown_fields g.V.Type.WasmType.tree c.in-Ok.types.items) c.args.src.now c.args.self.now p (fields_at c.args.src.now (children_of c.args.self.now)) c.loop-i.i c.in-Ok-fields.nodes c.loop-i.nodes c.loop-i.fields.items c.make_record_unchecked.result c.or_error_at.result is_record distinct is c.in-Ok-fields.ensures.given c.in-Ok-fields.ensures.held (omega (arith, as_parts g.V.Type.WasmType.tree c.in-Ok.types.items)) c.loop-i.invariant.removed (c.is_empty.ensures.0 c.if-not-is_empty.false) read c.make_record_unchecked.ensures.made c.make_record_unchecked.ensures.full made in
+    record_done g.V.WasmValue.tree g.V.WasmValue.is_of g.V.WasmValue.is_full by_type (g.V.Type.WasmType.tree c.args.ty.now) (shown_fields g.V.Type.WasmType.tree c.in-Ok.types.items) c.args.src.now c.args.self.now p (fields_at c.args.src.now (children_of c.args.self.now)) c.loop-i.i c.in-Ok-fields.nodes c.loop-i.nodes c.loop-i.fields.items c.make_record_unchecked.result c.or_error_at.result is_record distinct is c.in-Ok-fields.ensures.given c.in-Ok-fields.ensures.held (omega (arith, as_parts g.V.Type.WasmType.tree c.in-Ok.types.items)) c.loop-i.invariant.removed (c.is_empty.ensures.0 c.if-not-is_empty.false) read c.make_record_unchecked.ensures.built c.make_record_unchecked.ensures.full built in
     record {
       answer = answer;
-      within = λ value. made_in c.args.src.now c.args.self.now c.make_record_unchecked.result c.or_error_at.result (inl value) made;
+      within = λ value. built_in c.args.src.now c.args.self.now c.make_record_unchecked.result c.or_error_at.result (inl value) built;
       typed = typed_of g.V.WasmValue.tree g.V.WasmValue.is_of g.V.WasmValue.is_full by_type by_type (g.V.Type.WasmType.tree c.args.ty.now) c.args.src.now c.args.self.now c.or_error_at.result value answer;
     }
 
@@ -162,7 +162,7 @@ read_field-returns-in-Some-clause-answer g t c =
 pub read_field-returns-in-Some-clause-within : goal.read_field-returns-in-Some-clause-within
 read_field-returns-in-Some-clause-within g t c =
     let held : IsFieldNode c.args.src.now (shown_node c.args.node) = assumption in
-    field_told c.args.self.now (shown_node c.args.node) c.in-Some.node.now c.read.result (ap shown_node c.in-Some.is)
+    field_reported c.args.self.now (shown_node c.args.node) c.in-Some.node.now c.read.result (ap shown_node c.in-Some.is)
     (c.read.ensures.within (subst (λ (o : Option (Bor NodeTree)). IsFieldNode c.args.src.now (shown_node o)) c.in-Some.is held))
 
 pub read_field-returns-in-None-clause-answer : goal.read_field-returns-in-None-clause-answer
@@ -171,7 +171,7 @@ read_field-returns-in-None-clause-answer g t c =
 
 pub read_field-returns-in-None-clause-within : goal.read_field-returns-in-None-clause-within
 read_field-returns-in-None-clause-within g t c =
-    left_told c.args.self.now (shown_node c.args.node) c.left_out.result c.span.result (sym c.span.ensures) c.left_out.ensures.within
+    left_reported c.args.self.now (shown_node c.args.node) c.left_out.result c.span.result (sym c.span.ensures) c.left_out.ensures.within
 
 -- ---- the parts of other values
 
@@ -179,15 +179,15 @@ pub make_of_parts-returns-in-Some : goal.make_of_parts-returns-in-Some
 make_of_parts-returns-in-Some g t c =
     let form : IsOfParts (type_of c.args.self.now) = assumption in
     let parts : IsOfParts c.ty-ty.result = subst IsOfParts (sym c.ty-ty.ensures) form in
-    c.in-Some.ensures.refused by_type (shown g.V.Type.WasmType.tree c.args.builder.due) c.args.src.now form
-    (subst (λ (k : NodeType). AreKeptWhereDue g.V.Type.WasmType.tree g.V.WasmValue.tree g.V.WasmValue.is_of g.V.WasmValue.is_full by_type (shown g.V.Type.WasmType.tree c.args.builder.due) c.args.src.now k [] c.begin-parts.result) c.ty-ty.ensures (c.begin-parts.ensures.begun by_type c.args.src.now parts))
-    (λ T due. subst (λ (k : NodeType). AreDoomedAtOnce g.V.Type.WasmType.tree g.V.WasmValue.tree g.V.WasmValue.is_of g.V.WasmValue.is_full T k c.begin-parts.result.parts) c.ty-ty.ensures (c.begin-parts.ensures.doomed T due))
+    c.in-Some.ensures.refused by_type (shown g.V.Type.WasmType.tree c.args.builder.expected) c.args.src.now form
+    (subst (λ (k : NodeType). AreKeptWhereExpected g.V.Type.WasmType.tree g.V.WasmValue.tree g.V.WasmValue.is_of g.V.WasmValue.is_full by_type (shown g.V.Type.WasmType.tree c.args.builder.expected) c.args.src.now k [] c.begin-parts.result) c.ty-ty.ensures (c.begin-parts.ensures.begun by_type c.args.src.now parts))
+    (λ T expected. subst (λ (k : NodeType). AreRefusedAtOnce g.V.Type.WasmType.tree g.V.WasmValue.tree g.V.WasmValue.is_of g.V.WasmValue.is_full T k c.begin-parts.result.parts) c.ty-ty.ensures (c.begin-parts.ensures.rejected T expected))
 
 pub make-make_of_parts-requires : goal.make-make_of_parts-requires
 make-make_of_parts-requires g t c κs within =
     let value : IsValueOf c.args.src.now c.args.self.now = assumption in
     let other : type_of c.args.self.now ≢ kind.Flags = λ e. failed {X = type_of c.args.self.now ≡ kind.Flags} c.is_of.result c.if-is_of.false c.is_of.ensures.1 e in
-    let none = subst (λ (k : NodeType). (T : TypeTree) → shown g.V.Type.WasmType.tree c.args.builder.due ≡ Some T → ReadsNoRecord T k) c.ty.ensures c.in_default.ensures.none in
+    let none = subst (λ (k : NodeType). (T : TypeTree) → shown g.V.Type.WasmType.tree c.args.builder.expected ≡ Some T → ReadsNoRecord T k) c.ty.ensures c.in_default.ensures.none in
     (omega arith, (within.0, (within.1, (value, (if_true _ c.has_parts.result (c.has_parts.ensures c.args.src.now value other) c.if-has_parts.true, none)))))
 
 pub make-make_of_token-requires-clause-form : goal.make-make_of_token-requires-clause-form
@@ -219,38 +219,38 @@ make_of_parts-loop-i-preserved g t c =
     let value : IsValueOf c.args.src.now c.args.self.now = assumption in
     let form : IsOfParts (type_of c.args.self.now) = assumption in
     let lt : c.loop-i.i < length (children_of c.args.self.now) = subst (λ (l : List NodeTree). c.loop-i.i < length l) c.nodes-nodes.ensures c.loop-i-test.true in
-    let told = c.takes_key.ensures c.args.src.now value form lt in
+    let reported = c.takes_key.ensures c.args.src.now value form lt in
     let more = more_children c.args.self.now c.nodes-nodes.result.now c.loop-i.i c.index-nodes-i.result c.nodes-nodes.ensures c.loop-i-test.true c.index-nodes-i.is in
     elim c.if-takes_key.branch [
       | make_of_parts-then-takes_key+in_ok-push_key w ↦
-          let next : TakesKey (type_of c.args.self.now) (take c.loop-i.i (children_of c.args.self.now)) = if_true _ c.takes_key.result told w.if-takes_key.true in
+          let next : TakesKey (type_of c.args.self.now) (take c.loop-i.i (children_of c.args.self.now)) = if_true _ c.takes_key.result reported w.if-takes_key.true in
           let key : IsKeyOf c.args.src.now c.index-nodes-i.result = key_child c.args.src.now c.args.self.now c.nodes-nodes.result.now c.loop-i.i c.index-nodes-i.result value c.nodes-nodes.ensures next c.loop-i-test.true c.index-nodes-i.is in
           let here : leaf_node w.leaf-key.result ≡ c.index-nodes-i.result = w.leaf-key.ensures.node ∙ sym (key_alone c.args.src.now c.index-nodes-i.result key) in
-          subst (λ p. AreKeptWhereDue g.V.Type.WasmType.tree g.V.WasmValue.tree g.V.WasmValue.is_of g.V.WasmValue.is_full by_type (shown g.V.Type.WasmType.tree c.args.builder.due) c.args.src.now (type_of c.args.self.now) (take (c.loop-i.i + 1) (children_of c.args.self.now)) p) (sym w.parts-is)
-          (subst (λ (l : List NodeTree). AreKeptWhereDue g.V.Type.WasmType.tree g.V.WasmValue.tree g.V.WasmValue.is_of g.V.WasmValue.is_full by_type (shown g.V.Type.WasmType.tree c.args.builder.due) c.args.src.now (type_of c.args.self.now) l w.push_key.new.self) (ap (λ (x : NodeTree). take c.loop-i.i (children_of c.args.self.now) ++ x ∷ []) here ∙ more)
-          (w.in_ok-push_key.ensures.kept by_type (shown g.V.Type.WasmType.tree c.args.builder.due) c.args.src.now (type_of c.args.self.now) (take c.loop-i.i (children_of c.args.self.now)) w.leaf-key.ensures.text next c.loop-i.invariant))
-      | make_of_parts-else-takes_key+in_ok-made+in_ok-push_part w ↦
-          let next : TakesPart (type_of c.args.self.now) (take c.loop-i.i (children_of c.args.self.now)) = if_false _ c.takes_key.result told w.if-takes_key.false in
-          let made = subst (λ (o : Option _). IsReadSparing g.V.WasmValue.tree g.V.WasmValue.is_of g.V.WasmValue.is_full by_type by_type (shown g.V.Type.WasmType.tree o) c.args.src.now c.index-nodes-i.result w.in_ok-made.made) w.next.ensures w.in_ok-made.ensures in
-          subst (λ p. AreKeptWhereDue g.V.Type.WasmType.tree g.V.WasmValue.tree g.V.WasmValue.is_of g.V.WasmValue.is_full by_type (shown g.V.Type.WasmType.tree c.args.builder.due) c.args.src.now (type_of c.args.self.now) (take (c.loop-i.i + 1) (children_of c.args.self.now)) p) (sym w.parts-is)
-          (subst (λ (l : List NodeTree). AreKeptWhereDue g.V.Type.WasmType.tree g.V.WasmValue.tree g.V.WasmValue.is_of g.V.WasmValue.is_full by_type (shown g.V.Type.WasmType.tree c.args.builder.due) c.args.src.now (type_of c.args.self.now) l w.push_part.new.self) more
-          (w.in_ok-push_part.ensures.kept by_type (shown g.V.Type.WasmType.tree c.args.builder.due) c.args.src.now (type_of c.args.self.now) (take c.loop-i.i (children_of c.args.self.now)) c.index-nodes-i.result next c.loop-i.invariant made))
+          subst (λ p. AreKeptWhereExpected g.V.Type.WasmType.tree g.V.WasmValue.tree g.V.WasmValue.is_of g.V.WasmValue.is_full by_type (shown g.V.Type.WasmType.tree c.args.builder.expected) c.args.src.now (type_of c.args.self.now) (take (c.loop-i.i + 1) (children_of c.args.self.now)) p) (sym w.parts-is)
+          (subst (λ (l : List NodeTree). AreKeptWhereExpected g.V.Type.WasmType.tree g.V.WasmValue.tree g.V.WasmValue.is_of g.V.WasmValue.is_full by_type (shown g.V.Type.WasmType.tree c.args.builder.expected) c.args.src.now (type_of c.args.self.now) l w.push_key.new.self) (ap (λ (x : NodeTree). take c.loop-i.i (children_of c.args.self.now) ++ x ∷ []) here ∙ more)
+          (w.in_ok-push_key.ensures.kept by_type (shown g.V.Type.WasmType.tree c.args.builder.expected) c.args.src.now (type_of c.args.self.now) (take c.loop-i.i (children_of c.args.self.now)) w.leaf-key.ensures.text next c.loop-i.invariant))
+      | make_of_parts-else-takes_key+in_ok-built+in_ok-push_part w ↦
+          let next : TakesPart (type_of c.args.self.now) (take c.loop-i.i (children_of c.args.self.now)) = if_false _ c.takes_key.result reported w.if-takes_key.false in
+          let built = subst (λ (o : Option _). IsReadSparing g.V.WasmValue.tree g.V.WasmValue.is_of g.V.WasmValue.is_full by_type by_type (shown g.V.Type.WasmType.tree o) c.args.src.now c.index-nodes-i.result w.in_ok-built.built) w.next.ensures w.in_ok-built.ensures in
+          subst (λ p. AreKeptWhereExpected g.V.Type.WasmType.tree g.V.WasmValue.tree g.V.WasmValue.is_of g.V.WasmValue.is_full by_type (shown g.V.Type.WasmType.tree c.args.builder.expected) c.args.src.now (type_of c.args.self.now) (take (c.loop-i.i + 1) (children_of c.args.self.now)) p) (sym w.parts-is)
+          (subst (λ (l : List NodeTree). AreKeptWhereExpected g.V.Type.WasmType.tree g.V.WasmValue.tree g.V.WasmValue.is_of g.V.WasmValue.is_full by_type (shown g.V.Type.WasmType.tree c.args.builder.expected) c.args.src.now (type_of c.args.self.now) l w.push_part.new.self) more
+          (w.in_ok-push_part.ensures.kept by_type (shown g.V.Type.WasmType.tree c.args.builder.expected) c.args.src.now (type_of c.args.self.now) (take c.loop-i.i (children_of c.args.self.now)) c.index-nodes-i.result next c.loop-i.invariant built))
     ]
 
 pub make_of_parts-whole-requires : goal.make_of_parts-whole-requires
-make_of_parts-whole-requires g t c = (by_type, shown g.V.Type.WasmType.tree c.args.builder.due, c.args.src.now, type_of c.args.self.now, take c.loop-i.i (children_of c.args.self.now), c.loop-i.invariant)
+make_of_parts-whole-requires g t c = (by_type, shown g.V.Type.WasmType.tree c.args.builder.expected, c.args.src.now, type_of c.args.self.now, take c.loop-i.i (children_of c.args.self.now), c.loop-i.invariant)
 
 pub make_of_parts-returns : goal.make_of_parts-returns
 make_of_parts-returns g t c =
     let form : IsOfParts (type_of c.args.self.now) = assumption in
     let parts : IsOfParts c.ty-ty.result = subst IsOfParts (sym c.ty-ty.ensures) form in
-    let no_record : (T : TypeTree) → shown g.V.Type.WasmType.tree c.args.builder.due ≡ Some T → ReadsNoRecord T (type_of c.args.self.now) = assumption in
+    let no_record : (T : TypeTree) → shown g.V.Type.WasmType.tree c.args.builder.expected ≡ Some T → ReadsNoRecord T (type_of c.args.self.now) = assumption in
     let ended : length (children_of c.args.self.now) ≤ c.loop-i.i = subst (λ (l : List NodeTree). length l ≤ c.loop-i.i) c.nodes-nodes.ensures c.loop-i-test.false in
-    let all = subst (λ (l : List NodeTree). AreKeptWhereDue g.V.Type.WasmType.tree g.V.WasmValue.tree g.V.WasmValue.is_of g.V.WasmValue.is_full by_type (shown g.V.Type.WasmType.tree c.args.builder.due) c.args.src.now (type_of c.args.self.now) l c.loop-i.parts) (take_all c.loop-i.i (children_of c.args.self.now) ended) c.loop-i.invariant in
-    let read = subst (λ (n : NodeTree). IsReadSparing g.V.WasmValue.tree g.V.WasmValue.is_of g.V.WasmValue.is_full in_text by_type (shown g.V.Type.WasmType.tree c.args.builder.due) c.args.src.now n c.whole.result) (whole_at c.args.self.now (type_of c.args.self.now) c.span.result refl c.span.ensures)
-    (c.whole.ensures by_type (shown g.V.Type.WasmType.tree c.args.builder.due) c.args.src.now (type_of c.args.self.now) (children_of c.args.self.now) all) in
-    read_by_type g.V.WasmValue.tree g.V.WasmValue.is_of g.V.WasmValue.is_full by_type (shown g.V.Type.WasmType.tree c.args.builder.due) c.args.src.now c.args.self.now c.whole.result no_record
-    (λ T due.
-    let begun = subst (λ (o : Option TypeTree). AreKeptWhereDue g.V.Type.WasmType.tree g.V.WasmValue.tree g.V.WasmValue.is_of g.V.WasmValue.is_full by_type o c.args.src.now c.ty-ty.result [] c.begin-parts.result) due (c.begin-parts.ensures.begun by_type c.args.src.now parts) in
-    c.in_default.ensures.counted by_type T c.args.src.now form (subst (λ (k : NodeType). AreKeptWhereDue g.V.Type.WasmType.tree g.V.WasmValue.tree g.V.WasmValue.is_of g.V.WasmValue.is_full by_type (Some T) c.args.src.now k [] c.begin-parts.result) c.ty-ty.ensures begun)
-    (subst (λ (k : NodeType). AreDoomedAtOnce g.V.Type.WasmType.tree g.V.WasmValue.tree g.V.WasmValue.is_of g.V.WasmValue.is_full T k c.begin-parts.result.parts) c.ty-ty.ensures (c.begin-parts.ensures.doomed T due))) read
+    let all = subst (λ (l : List NodeTree). AreKeptWhereExpected g.V.Type.WasmType.tree g.V.WasmValue.tree g.V.WasmValue.is_of g.V.WasmValue.is_full by_type (shown g.V.Type.WasmType.tree c.args.builder.expected) c.args.src.now (type_of c.args.self.now) l c.loop-i.parts) (take_all c.loop-i.i (children_of c.args.self.now) ended) c.loop-i.invariant in
+    let read = subst (λ (n : NodeTree). IsReadSparing g.V.WasmValue.tree g.V.WasmValue.is_of g.V.WasmValue.is_full in_text by_type (shown g.V.Type.WasmType.tree c.args.builder.expected) c.args.src.now n c.whole.result) (whole_at c.args.self.now (type_of c.args.self.now) c.span.result refl c.span.ensures)
+    (c.whole.ensures by_type (shown g.V.Type.WasmType.tree c.args.builder.expected) c.args.src.now (type_of c.args.self.now) (children_of c.args.self.now) all) in
+    read_by_type g.V.WasmValue.tree g.V.WasmValue.is_of g.V.WasmValue.is_full by_type (shown g.V.Type.WasmType.tree c.args.builder.expected) c.args.src.now c.args.self.now c.whole.result no_record
+    (λ T expected.
+    let begun = subst (λ (o : Option TypeTree). AreKeptWhereExpected g.V.Type.WasmType.tree g.V.WasmValue.tree g.V.WasmValue.is_of g.V.WasmValue.is_full by_type o c.args.src.now c.ty-ty.result [] c.begin-parts.result) expected (c.begin-parts.ensures.begun by_type c.args.src.now parts) in
+    c.in_default.ensures.counted by_type T c.args.src.now form (subst (λ (k : NodeType). AreKeptWhereExpected g.V.Type.WasmType.tree g.V.WasmValue.tree g.V.WasmValue.is_of g.V.WasmValue.is_full by_type (Some T) c.args.src.now k [] c.begin-parts.result) c.ty-ty.ensures begun)
+    (subst (λ (k : NodeType). AreRefusedAtOnce g.V.Type.WasmType.tree g.V.WasmValue.tree g.V.WasmValue.is_of g.V.WasmValue.is_full T k c.begin-parts.result.parts) c.ty-ty.ensures (c.begin-parts.ensures.rejected T expected))) read

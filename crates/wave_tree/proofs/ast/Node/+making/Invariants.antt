@@ -8,7 +8,7 @@ use Rattle.wave_grammar.specs.NodeAccessors.{shown_node}
 use Rattle.wave_grammar.specs.NodeFields.{HoldsFields}
 use Rattle.wave_grammar.proofs.Fields.Entries.{AreFieldsOf}
 use Rattle.wave_grammar.proofs.Fields.Reading.{PartsDistinct, FieldsRead}
-use Rattle.wave_read.specs.KeptParts.{AreKeptWhereDue}
+use Rattle.wave_read.specs.KeptParts.{AreKeptWhereExpected}
 use Rattle.wave_tree.proofs.NodeReading.Records.{Removed, depth_of_maybe}
 use Rattle.wave_tree.proofs.ast.Node.+making.Given as goal
 
@@ -29,7 +29,7 @@ decreases-read_field g l = depth_of_maybe (shown_node l.node)
 
 abbrev pub invariant-make_of_parts-loop-i : goal.invariant-make_of_parts-loop-i
 invariant-make_of_parts-loop-i g l =
-    AreKeptWhereDue g.V.Type.WasmType.tree g.V.WasmValue.tree g.V.WasmValue.is_of g.V.WasmValue.is_full by_type (shown g.V.Type.WasmType.tree l.builder.due) l.src (type_of l.self) (take l.i (children_of l.self)) l.parts
+    AreKeptWhereExpected g.V.Type.WasmType.tree g.V.WasmValue.tree g.V.WasmValue.is_of g.V.WasmValue.is_full by_type (shown g.V.Type.WasmType.tree l.builder.expected) l.src (type_of l.self) (take l.i (children_of l.self)) l.parts
 
 abbrev pub invariant-read_record-loop-i : goal.invariant-read_record-loop-i
 invariant-read_record-loop-i g l = record {

@@ -1,6 +1,6 @@
 use Rattle.wave_grammar.specs.FaultOrder.{by_type}
 use Rattle.wave_grammar.proofs.OneFault.FaultyTrees.{refused}
-use Rattle.wave_grammar.proofs.NodeMeaning.Keys.{keyword_key, keyword_no_value, value_node, key_node, key_read, key_told_none, simple_distinct}
+use Rattle.wave_grammar.proofs.NodeMeaning.Keys.{keyword_key, keyword_no_value, value_node, key_node, key_read, key_reported_none, simple_distinct}
 use Rattle.wave_grammar.proofs.ErrorSpans.Nodes.{all_stand, all_kinds, all_in_text}
 use Rattle.wave_tree.proofs.ast.Node.to_wasm_value.Goals as goal
 
@@ -15,7 +15,7 @@ returns-then-is_keyword-clause-answer g c = rw c.or_error.ensures (λ t is disti
 
 pub returns-then-is_keyword-clause-key : goal.returns-then-is_keyword-clause-key
 returns-then-is_keyword-clause-key g c = rw c.or_error.ensures (λ K p key is token.
-    key_told_none g.V.WasmValue.tree g.V.WasmValue.is_of g.V.WasmValue.is_full by_type by_type K p key c.read_keyword.result (c.read_keyword.ensures.answer K p key is token))
+    key_reported_none g.V.WasmValue.tree g.V.WasmValue.is_of g.V.WasmValue.is_full by_type by_type K p key c.read_keyword.result (c.read_keyword.ensures.answer K p key is token))
 
 pub returns-then-is_keyword-clause-kind : goal.returns-then-is_keyword-clause-kind
 returns-then-is_keyword-clause-kind g c = rw c.or_error.ensures (all_kinds c.args.self.now c.read_keyword.result c.read_keyword.ensures.within)
@@ -36,7 +36,7 @@ returns-clause-answer g c = rw c.or_error-2.ensures (λ t is distinct.
 pub returns-clause-key : goal.returns-clause-key
 returns-clause-key g c = rw c.or_error-2.ensures (λ K p key is token.
     let node = key_node c.args.src.now c.args.self.now p key c.if-is_keyword.ensures token in
-    key_told_none g.V.WasmValue.tree g.V.WasmValue.is_of g.V.WasmValue.is_full by_type by_type K p key c.read.result
+    key_reported_none g.V.WasmValue.tree g.V.WasmValue.is_of g.V.WasmValue.is_full by_type by_type K p key c.read.result
     (key_read g.V.WasmValue.tree g.V.WasmValue.is_of g.V.WasmValue.is_full by_type by_type (g.V.Type.WasmType.tree c.args.ty.now) K c.args.src.now c.args.self.now p key c.read.result is c.if-is_keyword.ensures token (c.read.ensures.answer token.0.0 node (simple_distinct (g.V.Type.WasmType.tree c.args.ty.now) K is))))
 
 pub returns-clause-keyword : goal.returns-clause-keyword

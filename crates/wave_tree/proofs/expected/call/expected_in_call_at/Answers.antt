@@ -25,7 +25,7 @@ returns c =
       by k (ap (λ (l : Lexed). l.end) is),
       subst (λ (l : Lexed). IsExpectedFrom l c.args.at (MayFollowInCall 100) (AreParams 100) new) is
           (subst (λ (l : Lexed). IsExpectedFrom l c.args.at (MayFollowInCall 100) (AreParams 100) new) c.into_lexer-first.ensures
-          (in_call c.into_lexer-first.result c.args.at c.front_of-front.result c.in_ok-tuple.tuple new c.front_of-front.ensures c.in_ok-tuple.ensures c.in_ok-classes_in_call.ensures c.end_in_call.ensures refl)),
+          (in_call c.into_lexer-first.result c.args.at c.prefix_of-prefix.result c.in_ok-tuple.tuple new c.prefix_of-prefix.ensures c.in_ok-tuple.ensures c.in_ok-classes_in_call.ensures c.end_in_call.ensures refl)),
     )
   where
     by : (k : ℕ) → c.in-Ok.names.end ≡ k → k ≤ c.args.at

@@ -1,7 +1,7 @@
 use Rattle.std.proofs.Common.{◌≡◌, ℕ, ◌+◌, ◌-◌, ◌*◌, length, List, ◌++◌}
 use Rattle.wave_grammar.specs.ParserPosition.{Place}
 use Rattle.wave_grammar.specs.PrefixAutomaton.{Expectation, StackSymbol, first_item}
-use Rattle.wave_grammar.specs.PrefixAutomaton as due
+use Rattle.wave_grammar.specs.PrefixAutomaton as expectation
 use Rattle.wave_grammar.specs.NodeTree.{NodeTree}
 use Rattle.wave_grammar.specs.NodeParts.{TakesKey, TakesPart}
 use Rattle.wave_grammar.specs.declared.form.NodeType.TheVariants as kind
@@ -51,7 +51,7 @@ decreases-parse_braces g l = 7 * l.levels + 2
 abbrev pub invariant-parse_entries-entries : goal.invariant-parse_entries-entries
 invariant-parse_entries-entries g l = record {
   asks : AsksFor l.fn.self l.self;
-  led : (n : ℕ) (s : List StackSymbol) → n ≡ l.levels + 1 + length s → Reached n due.behind_key s l.fn.self.place due.behind_key s l.self.place;
+  led : (n : ℕ) (s : List StackSymbol) → n ≡ l.levels + 1 + length s → Reached n expectation.behind_key s l.fn.self.place expectation.behind_key s l.self.place;
   tree : (children : List NodeTree) × g.P.Builder.are_parts l.builder l.fn.self.place.lexer.source kind.TupleSet children l.parts × TakesKey kind.TupleSet children
       × ((cs : List NodeTree) (r : Place) → AreKeyedParts l.levels l.key l.self.place cs r → AreKeyedParts l.levels l.fn.first l.fn.self.place (children ++ cs) r);
 }

@@ -1,14 +1,14 @@
 use Rattle.std.proofs.Common.{◌≡◌, inl, inr, sym, ap, subst, ◌∙◌, refl, [], ◌∷◌}
 use Rattle.wave_lex.specs.declared.lex.Token.TheVariants as class
 use Rattle.wave_grammar.specs.ParserPosition.{Place}
-use Rattle.wave_grammar.specs.PrefixAutomaton as due
+use Rattle.wave_grammar.specs.PrefixAutomaton as expectation
 use Rattle.wave_grammar.specs.SyntaxErrors.{LeadsBehindValue, IsSyntaxError}
 use Rattle.wave_tree.specs.Private.ParsedNodes.{IsOfItems}
 use Rattle.wave_tree.specs.ParsedNodes.{TakesClass}
 use Rattle.wave_tree.specs.ParserState.{Fails}
 use Rattle.wave_tree.specs.UntypedCall.{RefusesTuple}
 use Rattle.wave_tree.proofs.ParserCorrectness.BuiltNodes.{as_node}
-use Rattle.wave_tree.proofs.ParserCorrectness.Steps.{expected}
+use Rattle.wave_tree.proofs.ParserCorrectness.Steps.{not_expected}
 use Rattle.wave_lex.specs.Errors.{Diagnostic, LiesInText}
 use Rattle.wave_tree.proofs.ErrorSpans.Syntax.{back_lies, back_same, tuple_lies}
 use Rattle.wave_tree.proofs.TextReading.Calls.{tuple_taken}
@@ -19,15 +19,15 @@ returns-in-Err-clause-refused c = λ apart. inl (subst (λ (e : Diagnostic). Fai
 
 pub returns-in-Err-expect-clause-refused : goal.returns-in-Err-expect-clause-refused
 returns-in-Err-expect-clause-refused c =
-    expected c.expect.new.self.place c.next_is.new.self.place c.expect-then-next_is.new.self.place class.ParenClose c.in-Err-expect.error c.next_is.ensures.stays (c.next_is.ensures.answer.0 c.if-next_is.true) c.in-Err-expect.ensures.takes
+    not_expected c.expect.new.self.place c.next_is.new.self.place c.expect-then-next_is.new.self.place class.ParenClose c.in-Err-expect.error c.next_is.ensures.stays (c.next_is.ensures.answer.0 c.if-next_is.true) c.in-Err-expect.ensures.takes
 
 pub returns-in-Err-expect-clause-within : goal.returns-in-Err-expect-clause-within
 returns-in-Err-expect-clause-within c =
-    expected c.expect.new.self.place c.next_is.new.self.place c.expect-then-next_is.new.self.place class.ParenClose c.in-Err-expect.error c.next_is.ensures.stays (c.next_is.ensures.answer.0 c.if-next_is.true) c.in-Err-expect.ensures.takes
+    not_expected c.expect.new.self.place c.next_is.new.self.place c.expect-then-next_is.new.self.place class.ParenClose c.in-Err-expect.error c.next_is.ensures.stays (c.next_is.ensures.answer.0 c.if-next_is.true) c.in-Err-expect.ensures.takes
 
 -- what is refused after a `(`, where no `)` stands
-behind_open : (e : Diagnostic) (old m looked new : Place) → TakesClass class.ParenOpen old m → looked ≡ m → ((q : Place) → TakesClass class.ParenClose m q → ⊥) → IsSyntaxError e 101 due.first_item (due.tuple ∷ []) looked new → RefusesTuple e old new
-behind_open e old m looked new opens stays none h = inr (m, opens, none, subst (λ (z : Place). IsSyntaxError e 101 due.first_item (due.tuple ∷ []) z new) stays h)
+behind_open : (e : Diagnostic) (old m looked new : Place) → TakesClass class.ParenOpen old m → looked ≡ m → ((q : Place) → TakesClass class.ParenClose m q → ⊥) → IsSyntaxError e 101 expectation.first_item (expectation.tuple ∷ []) looked new → RefusesTuple e old new
+behind_open e old m looked new opens stays none h = inr (m, opens, none, subst (λ (z : Place). IsSyntaxError e 101 expectation.first_item (expectation.tuple ∷ []) z new) stays h)
 
 pub returns-in-Err-parse_items-clause-refused : goal.returns-in-Err-parse_items-clause-refused
 returns-in-Err-parse_items-clause-refused c = λ apart.
@@ -47,5 +47,5 @@ pub returns-in-Ok-parse_items-clause-taken : goal.returns-in-Ok-parse_items-clau
 returns-in-Ok-parse_items-clause-taken c =
     let new = c.parse_items.new.self.place in
     tuple_taken c.args.self.now.place c.expect.new.self.place new c.in-Ok-parse_items.tuple c.start_here-start.ensures.sound c.in_default.ensures.takes
-    (subst (λ (z : Place). LeadsBehindValue 101 due.first_item (due.tuple ∷ []) z new []) c.next_is.ensures.stays (c.in-Ok-parse_items.ensures.led 101 [] refl))
+    (subst (λ (z : Place). LeadsBehindValue 101 expectation.first_item (expectation.tuple ∷ []) z new []) c.next_is.ensures.stays (c.in-Ok-parse_items.ensures.led 101 [] refl))
     (subst (λ (z : Place). IsOfItems 100 class.ParenClose z new c.in-Ok-parse_items.tuple) c.next_is.ensures.stays (as_node (IsOfItems 100 class.ParenClose c.next_is.new.self.place new) c.in-Ok-parse_items.tuple c.in-Ok-parse_items.ensures.tree))

@@ -19,8 +19,8 @@ returns-in-Ok-Ok-clause-value g c =
     let full = g.V.WasmValue.is_full in
     let T = g.V.Type.WasmType.tree c.args.ty.now in
     let old = c.args.self.now.place in
-    let made = typed_answered tree of full g.V.Type.WasmType.tree c.args.levels old c.parse_node.new.self.place c.in-Ok-Ok.field-0 c.new-builder.result.due _ c.new-builder.ensures c.start_here-start.ensures.sound (c.in-Ok-Ok.ensures.led c.args.levels [] (omega arith)) c.in-Ok-Ok.ensures.tree in
-    answered_value tree of full T c.args.levels old c.parse_node.new.self.place c.in-Ok-Ok.value (subst (IsAnswered tree of full T c.args.levels old c.parse_node.new.self.place) c.in-Ok-Ok.field-0-is made.0)
+    let built = typed_answered tree of full g.V.Type.WasmType.tree c.args.levels old c.parse_node.new.self.place c.in-Ok-Ok.field-0 c.new-builder.result.expected _ c.new-builder.ensures c.start_here-start.ensures.sound (c.in-Ok-Ok.ensures.led c.args.levels [] (omega arith)) c.in-Ok-Ok.ensures.tree in
+    answered_value tree of full T c.args.levels old c.parse_node.new.self.place c.in-Ok-Ok.value (subst (IsAnswered tree of full T c.args.levels old c.parse_node.new.self.place) c.in-Ok-Ok.field-0-is built.0)
 
 pub returns-in-Ok-Err : goal.returns-in-Ok-Err
 returns-in-Ok-Err g c =
@@ -29,21 +29,21 @@ returns-in-Ok-Err g c =
     let full = g.V.WasmValue.is_full in
     let T = g.V.Type.WasmType.tree c.args.ty.now in
     let old = c.args.self.now.place in
-    let made = typed_answered tree of full g.V.Type.WasmType.tree c.args.levels old c.parse_node.new.self.place c.in-Ok-Err.field-0 c.new-builder.result.due _ c.new-builder.ensures c.start_here-start.ensures.sound (c.in-Ok-Err.ensures.led c.args.levels [] (omega arith)) c.in-Ok-Err.ensures.tree in
-    let told = subst (λ (e : Diagnostic). IsAnswered tree of full T c.args.levels old c.parse_node.new.self.place (Err e)) (sym c.into_error.ensures) (subst (IsAnswered tree of full T c.args.levels old c.parse_node.new.self.place) c.in-Ok-Err.field-0-is made.0) in
+    let built = typed_answered tree of full g.V.Type.WasmType.tree c.args.levels old c.parse_node.new.self.place c.in-Ok-Err.field-0 c.new-builder.result.expected _ c.new-builder.ensures c.start_here-start.ensures.sound (c.in-Ok-Err.ensures.led c.args.levels [] (omega arith)) c.in-Ok-Err.ensures.tree in
+    let reported = subst (λ (e : Diagnostic). IsAnswered tree of full T c.args.levels old c.parse_node.new.self.place (Err e)) (sym c.into_error.ensures) (subst (IsAnswered tree of full T c.args.levels old c.parse_node.new.self.place) c.in-Ok-Err.field-0-is built.0) in
     record {
       value = search rules;
       refused = λ apart.
           inr (back_same (λ e (q : Stream). IsTypeRefused full T c.args.levels e old q.place) c.into_error.result c.refuse.result c.parse_node.new.self c.refuse.new.self (c.refuse.ensures.other apart)
-          (answered_refused tree of full T c.args.levels old c.parse_node.new.self.place c.into_error.result told (λ m. apart (c.refuse.ensures.kind ∙ m))));
-      within = back_lies _ old.lexer c.into_error.result c.refuse.result c.start_here-start.ensures.place c.refuse.ensures.within (λ apart. answered_within tree of full T c.args.levels old c.parse_node.new.self.place (Err c.into_error.result) told);
+          (answered_refused tree of full T c.args.levels old c.parse_node.new.self.place c.into_error.result reported (λ m. apart (c.refuse.ensures.kind ∙ m))));
+      within = back_lies _ old.lexer c.into_error.result c.refuse.result c.start_here-start.ensures.place c.refuse.ensures.within (λ apart. answered_within tree of full T c.args.levels old c.parse_node.new.self.place (Err c.into_error.result) reported);
       caused = λ was.
           let apart : c.refuse.result.kind ≢ because.OutOfMemory = λ m. cc in
           back_same (λ e (q : Stream). IsCausedBetween c.args.levels old q.place e) c.into_error.result c.refuse.result c.parse_node.new.self c.refuse.new.self (c.refuse.ensures.other apart)
-          (answered_caused tree of full T c.args.levels old c.parse_node.new.self.place c.into_error.result told) was;
+          (answered_caused tree of full T c.args.levels old c.parse_node.new.self.place c.into_error.result reported) was;
       memory = search rules;
       spares = λ plain row none memory.
-          subst (λ r. IfErr r (λ e. e.kind ≢ because.OutOfMemory)) c.in-Ok-Err.field-0-is (made.1 plain row) (ap (λ (e : Diagnostic). e.kind) (sym c.into_error.ensures) ∙ (sym c.refuse.ensures.kind ∙ memory));
+          subst (λ r. IfErr r (λ e. e.kind ≢ because.OutOfMemory)) c.in-Ok-Err.field-0-is (built.1 plain row) (ap (λ (e : Diagnostic). e.kind) (sym c.into_error.ensures) ∙ (sym c.refuse.ensures.kind ∙ memory));
       asks = search rules;
     }
 

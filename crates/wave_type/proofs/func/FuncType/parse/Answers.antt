@@ -1,7 +1,7 @@
 use Rattle.std.proofs.Common.{◌∙◌, ap}
 use Rattle.wave_type.specs.Private.TypeTokens.{texts_of}
 use Rattle.wave_type.specs.FunctionSpelling.{SpellsFunction}
-use Rattle.wave_type.specs.TypeFaults.{due_of_function}
+use Rattle.wave_type.specs.TypeFaults.{expected_of_function}
 use Rattle.wave_type.proofs.TypeFaults.WholeTexts.{text_spells, text_fault, no_function_of}
 use Rattle.wave_type.proofs.func.FuncType.parse.Goals as goal
 
@@ -15,4 +15,4 @@ returns-clause-refused c =
 
 pub returns-clause-fault : goal.returns-clause-fault
 returns-clause-fault c =
-    text_fault c.args.text.now c.in-Ok.tokens.items c.new-reader.result c.in-Ok.ensures (c.new-reader.ensures ∙ ap texts_of c.as_slice.ensures.value) c.in-Err-whole_function.kind c.whole_function.new.reader c.count.result c.refusal.result c.count.ensures c.refusal.ensures.stands (due_of_function 100) c.in-Err-whole_function.ensures.refused
+    text_fault c.args.text.now c.in-Ok.tokens.items c.new-reader.result c.in-Ok.ensures (c.new-reader.ensures ∙ ap texts_of c.as_slice.ensures.value) c.in-Err-whole_function.kind c.whole_function.new.reader c.count.result c.refusal.result c.count.ensures c.refusal.ensures.stands (expected_of_function 100) c.in-Err-whole_function.ensures.refused

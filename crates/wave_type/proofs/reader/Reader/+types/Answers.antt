@@ -2,7 +2,7 @@ use Rattle.std.proofs.Common.{rules, ◌≡◌, ◌-◌, ℕ, List, ◌∷◌, �
 use Rattle.wave_wasm.specs.Borrowed.{named}
 use Rattle.wave_type.specs.Private.TypeTokens.{GoesOn}
 use Rattle.wave_type.specs.Private.TypeReading.{after, part_names, list_read, fixed_behind, payloads_read, err_behind, kind_read, type_read}
-use Rattle.wave_type.specs.TypeFaults.{no_more, a_length, err_type, Expectation, mark_due, type_due, ok_due, part_due, close_due, due_behind, refused}
+use Rattle.wave_type.specs.TypeFaults.{no_more, a_length, err_type, Expectation, mark_expected, type_expected, ok_expected, part_expected, close_expected, expected_behind, refused}
 use Rattle.wave_type.specs.TypeSpelling.{Tokens}
 use Rattle.wave_type.proofs.TypeFaults.TokenSteps.{fails_onward, fails_before, mark_runs, kind_runs, key_runs, err_is_type, ok_is_type, field_fails, case_fails, comma_runs, payload_runs}
 use Rattle.wave_type.proofs.TypeReading.PartSteps.{named_more, has_part_names, level_less}
@@ -15,7 +15,7 @@ pub ty-returns : goal.ty-returns
 ty-returns t c =
     let n = c.args.levels in
     let some = c.in_ok-kind.ensures.taken.1 in
-    answers_onward (λ ty. ty) c.of_kind.result c.args.self.now c.kind.new.self c.of_kind.new.self (type_read n c.args.self.now) (kind_read (type_read (n - 1)) c.in_ok-kind.kind c.kind.new.self) (λ dues. type_due n ∷ dues) (λ dues. due_behind (n - 1) c.in_ok-kind.kind ++ dues) (level_less n c.args.self.now c.kind.new.self c.in_ok-kind.kind some c.in_ok-kind.ensures.taken.0) (λ dues. kind_runs n c.args.self.now c.kind.new.self c.in_ok-kind.kind dues some c.in_ok-kind.ensures.taken.0) c.of_kind.ensures
+    answers_onward (λ ty. ty) c.of_kind.result c.args.self.now c.kind.new.self c.of_kind.new.self (type_read n c.args.self.now) (kind_read (type_read (n - 1)) c.in_ok-kind.kind c.kind.new.self) (λ expectations. type_expected n ∷ expectations) (λ expectations. expected_behind (n - 1) c.in_ok-kind.kind ++ expectations) (level_less n c.args.self.now c.kind.new.self c.in_ok-kind.kind some c.in_ok-kind.ensures.taken.0) (λ expectations. kind_runs n c.args.self.now c.kind.new.self c.in_ok-kind.kind expectations some c.in_ok-kind.ensures.taken.0) c.of_kind.ensures
 
 -- ---- types
 
@@ -136,36 +136,36 @@ cases-loop-part-preserved t c =
 -- ---- forms
 
 pub list-returns-in_err-ends : goal.list-returns-in_err-ends
-list-returns-in_err-ends t c = answers_err _ _ c.in_err-ends.field-0.0 _ _ _ _ (search rules) (inr (λ dues. mark_runs (codes "<") c.args.self.now c.expect.new.self _ c.in_ok-expect.ensures.taken ∙ (read_runs c.args.levels c.expect.new.self c.ty.new.self c.in_ok-element.element c.in_ok-element.ensures _ ∙ c.in_err-ends.ensures.refused a_length dues)))
+list-returns-in_err-ends t c = answers_err _ _ c.in_err-ends.field-0.0 _ _ _ _ (search rules) (inr (λ expectations. mark_runs (codes "<") c.args.self.now c.expect.new.self _ c.in_ok-expect.ensures.taken ∙ (read_runs c.args.levels c.expect.new.self c.ty.new.self c.in_ok-element.element c.in_ok-element.ensures _ ∙ c.in_err-ends.ensures.refused a_length expectations)))
 
 pub list-returns : goal.list-returns
 list-returns t c =
     let n = c.args.levels in
-    let rest = λ (dues : List Expectation). close_due (codes ">") a_length ∷ dues in
+    let rest = λ (expectations : List Expectation). close_expected (codes ">") a_length ∷ expectations in
     let more : GoesOn (codes ">") c.ty.new.self c.ends.new.self = goes_so (codes ">") c.ty.new.self c.ends.new.self c.in_ok-ends.field-0 c.in_ok-ends.ensures.taken c.if-branch.false in
-    answers_onward (λ ty. ty) c.fixed.result c.args.self.now c.ends.new.self c.fixed.new.self (list_read (type_read n) c.args.self.now) (fixed_behind c.in_ok-element.element c.ends.new.self) (λ dues. mark_due (codes "<") ∷ type_due n ∷ rest dues) (λ dues. part_due (codes ">") a_length ∷ dues) (list_goes_on (type_read n) c.args.self.now c.expect.new.self c.ty.new.self c.ends.new.self c.in_ok-element.element c.in_ok-expect.ensures.taken c.in_ok-element.ensures more) (λ dues. mark_runs (codes "<") c.args.self.now c.expect.new.self (type_due n ∷ rest dues) c.in_ok-expect.ensures.taken ∙ (read_runs n c.expect.new.self c.ty.new.self c.in_ok-element.element c.in_ok-element.ensures (rest dues) ∙ comma_runs (codes ">") a_length c.ty.new.self c.ends.new.self dues more)) c.fixed.ensures
+    answers_onward (λ ty. ty) c.fixed.result c.args.self.now c.ends.new.self c.fixed.new.self (list_read (type_read n) c.args.self.now) (fixed_behind c.in_ok-element.element c.ends.new.self) (λ expectations. mark_expected (codes "<") ∷ type_expected n ∷ rest expectations) (λ expectations. part_expected (codes ">") a_length ∷ expectations) (list_goes_on (type_read n) c.args.self.now c.expect.new.self c.ty.new.self c.ends.new.self c.in_ok-element.element c.in_ok-expect.ensures.taken c.in_ok-element.ensures more) (λ expectations. mark_runs (codes "<") c.args.self.now c.expect.new.self (type_expected n ∷ rest expectations) c.in_ok-expect.ensures.taken ∙ (read_runs n c.expect.new.self c.ty.new.self c.in_ok-element.element c.in_ok-element.ensures (rest expectations) ∙ comma_runs (codes ">") a_length c.ty.new.self c.ends.new.self expectations more)) c.fixed.ensures
 
 pub option-returns-in_err-close : goal.option-returns-in_err-close
-option-returns-in_err-close t c = answers_err _ _ c.in_err-close.field-0.0 _ _ _ _ (search rules) (inr (λ dues. mark_runs (codes "<") c.args.self.now c.expect.new.self _ c.in_ok-expect.ensures.taken ∙ (read_runs c.args.levels c.expect.new.self c.ty.new.self c.in_ok-some.some c.in_ok-some.ensures _ ∙ c.in_err-close.ensures.refused dues)))
+option-returns-in_err-close t c = answers_err _ _ c.in_err-close.field-0.0 _ _ _ _ (search rules) (inr (λ expectations. mark_runs (codes "<") c.args.self.now c.expect.new.self _ c.in_ok-expect.ensures.taken ∙ (read_runs c.args.levels c.expect.new.self c.ty.new.self c.in_ok-some.some c.in_ok-some.ensures _ ∙ c.in_err-close.ensures.refused expectations)))
 
 pub map-returns-in_err-close : goal.map-returns-in_err-close
-map-returns-in_err-close t c = answers_err _ _ c.in_err-close.field-0.0 _ _ _ _ (search rules) (inr (λ dues. mark_runs (codes "<") c.args.self.now c.expect.new.self _ c.in_ok-expect.ensures.taken ∙ (key_runs c.expect.new.self c.key.new.self c.in_ok-key.key _ c.in_ok-key.ensures.taken ∙ (mark_runs (codes ",") c.key.new.self c.expect-2.new.self _ c.in_ok-expect-2.ensures.taken ∙ (read_runs c.args.levels c.expect-2.new.self c.ty.new.self c.in_ok-value.value c.in_ok-value.ensures _ ∙ c.in_err-close.ensures.refused dues)))))
+map-returns-in_err-close t c = answers_err _ _ c.in_err-close.field-0.0 _ _ _ _ (search rules) (inr (λ expectations. mark_runs (codes "<") c.args.self.now c.expect.new.self _ c.in_ok-expect.ensures.taken ∙ (key_runs c.expect.new.self c.key.new.self c.in_ok-key.key _ c.in_ok-key.ensures.taken ∙ (mark_runs (codes ",") c.key.new.self c.expect-2.new.self _ c.in_ok-expect-2.ensures.taken ∙ (read_runs c.args.levels c.expect-2.new.self c.ty.new.self c.in_ok-value.value c.in_ok-value.ensures _ ∙ c.in_err-close.ensures.refused expectations)))))
 
 pub err-returns-in_err-close : goal.err-returns-in_err-close
-err-returns-in_err-close t c = answers_err _ _ c.in_err-close.field-0.0 _ _ _ _ (search rules) (inr (λ dues. read_runs c.args.levels c.args.self.now c.ty.new.self c.in_ok-err.err c.in_ok-err.ensures _ ∙ c.in_err-close.ensures.refused dues))
+err-returns-in_err-close t c = answers_err _ _ c.in_err-close.field-0.0 _ _ _ _ (search rules) (inr (λ expectations. read_runs c.args.levels c.args.self.now c.ty.new.self c.in_ok-err.err c.in_ok-err.ensures _ ∙ c.in_err-close.ensures.refused expectations))
 
 pub payload-returns-in_err-expect : goal.payload-returns-in_err-expect
-payload-returns-in_err-expect t c = answers_err _ _ c.in_err-expect.field-0.0 _ _ _ _ (search rules) (inr (λ dues. payload_runs c.args.levels c.args.self.now c.takes.new.self dues c.if-not-takes.ensures ∙ (read_runs c.args.levels c.takes.new.self c.ty.new.self c.in_ok-ty.ty c.in_ok-ty.ensures _ ∙ mark_refused (codes ")") c.ty.new.self c.expect.new.self c.in_err-expect.field-0.0 c.in_err-expect.ensures.refused dues)))
+payload-returns-in_err-expect t c = answers_err _ _ c.in_err-expect.field-0.0 _ _ _ _ (search rules) (inr (λ expectations. payload_runs c.args.levels c.args.self.now c.takes.new.self expectations c.if-not-takes.ensures ∙ (read_runs c.args.levels c.takes.new.self c.ty.new.self c.in_ok-ty.ty c.in_ok-ty.ensures _ ∙ mark_refused (codes ")") c.ty.new.self c.expect.new.self c.in_err-expect.field-0.0 c.in_err-expect.ensures.refused expectations)))
 
 -- where `_` doesn't stand next
-ok_run : (n : ℕ) (ts m : Tokens) (dues : List Expectation) → (after (codes "_") ts ≡ None) × (m ≡ ts) → refused ts (ok_due n ∷ dues) ≡ refused m (type_due n ∷ close_due (codes ">") (err_type n) ∷ dues)
-ok_run n ts m dues (none, same) = ok_is_type n ts dues none ∙ ap (λ us. refused us (type_due n ∷ close_due (codes ">") (err_type n) ∷ dues)) (sym same)
+ok_run : (n : ℕ) (ts m : Tokens) (expectations : List Expectation) → (after (codes "_") ts ≡ None) × (m ≡ ts) → refused ts (ok_expected n ∷ expectations) ≡ refused m (type_expected n ∷ close_expected (codes ">") (err_type n) ∷ expectations)
+ok_run n ts m expectations (none, same) = ok_is_type n ts expectations none ∙ ap (λ us. refused us (type_expected n ∷ close_expected (codes ">") (err_type n) ∷ expectations)) (sym same)
 
 pub payloads-returns-in_err-ok : goal.payloads-returns-in_err-ok
-payloads-returns-in_err-ok t c = answers_err _ _ c.in_err-ok.field-0.0 _ _ _ _ (search rules) (fails_onward (λ dues. ok_due c.args.levels ∷ dues) (λ dues. type_due c.args.levels ∷ close_due (codes ">") (err_type c.args.levels) ∷ dues) c.args.self.now c.takes.new.self c.ty.new.self c.in_err-ok.field-0.0 (λ dues. ok_run c.args.levels c.args.self.now c.takes.new.self dues c.if-takes.ensures) (fails_before (type_due c.args.levels) (λ dues. close_due (codes ">") (err_type c.args.levels) ∷ dues) c.takes.new.self c.ty.new.self c.in_err-ok.field-0.0 c.in_err-ok.ensures))
+payloads-returns-in_err-ok t c = answers_err _ _ c.in_err-ok.field-0.0 _ _ _ _ (search rules) (fails_onward (λ expectations. ok_expected c.args.levels ∷ expectations) (λ expectations. type_expected c.args.levels ∷ close_expected (codes ">") (err_type c.args.levels) ∷ expectations) c.args.self.now c.takes.new.self c.ty.new.self c.in_err-ok.field-0.0 (λ expectations. ok_run c.args.levels c.args.self.now c.takes.new.self expectations c.if-takes.ensures) (fails_before (type_expected c.args.levels) (λ expectations. close_expected (codes ">") (err_type c.args.levels) ∷ expectations) c.takes.new.self c.ty.new.self c.in_err-ok.field-0.0 c.in_err-ok.ensures))
 
 pub payloads-returns-in_err-ends : goal.payloads-returns-in_err-ends
-payloads-returns-in_err-ends t c = answers_err _ _ c.in_err-ends.field-0.0 _ _ _ _ (search rules) (inr (λ dues. ok_run c.args.levels c.args.self.now c.takes.new.self dues c.if-takes.ensures ∙ (read_runs c.args.levels c.takes.new.self c.ty.new.self c.in_ok-ok.ok c.in_ok-ok.ensures _ ∙ c.in_err-ends.ensures.refused (err_type c.args.levels) dues)))
+payloads-returns-in_err-ends t c = answers_err _ _ c.in_err-ends.field-0.0 _ _ _ _ (search rules) (inr (λ expectations. ok_run c.args.levels c.args.self.now c.takes.new.self expectations c.if-takes.ensures ∙ (read_runs c.args.levels c.takes.new.self c.ty.new.self c.in_ok-ok.ok c.in_ok-ok.ensures _ ∙ c.in_err-ends.ensures.refused (err_type c.args.levels) expectations)))
 
 pub payloads-returns : goal.payloads-returns
 payloads-returns t c =
@@ -173,10 +173,10 @@ payloads-returns t c =
     let old = c.args.self.now in
     let m = c.ty.new.self in
     let k = c.ends.new.self in
-    let rest = λ (dues : List Expectation). close_due (codes ">") (err_type n) ∷ dues in
+    let rest = λ (expectations : List Expectation). close_expected (codes ">") (err_type n) ∷ expectations in
     let more : GoesOn (codes ">") m k = goes_so (codes ">") m k c.in_ok-ends.field-0 c.in_ok-ends.ensures.taken c.if-branch.false in
     let read : type_read n old ≡ Some (c.in_ok-ok.ok, m) = ap (type_read n) (sym c.if-takes.ensures.1) ∙ c.in_ok-ok.ensures in
-    answers_onward (λ ty. ty) c.err-2.result old k c.err-2.new.self (payloads_read (type_read n) old (after (codes "_") old)) (err_behind (type_read n) (Some c.in_ok-ok.ok) k) (λ dues. ok_due n ∷ dues) (λ dues. type_due n ∷ close_due (codes ">") no_more ∷ dues) (ok_goes_on (type_read n) old m k c.in_ok-ok.ok c.if-takes.ensures.0 read more) (λ dues. ok_is_type n old dues c.if-takes.ensures.0 ∙ (read_runs n old m c.in_ok-ok.ok read (rest dues) ∙ (comma_runs (codes ">") (err_type n) m k dues more ∙ err_is_type n (codes ">") k dues))) c.err-2.ensures
+    answers_onward (λ ty. ty) c.err-2.result old k c.err-2.new.self (payloads_read (type_read n) old (after (codes "_") old)) (err_behind (type_read n) (Some c.in_ok-ok.ok) k) (λ expectations. ok_expected n ∷ expectations) (λ expectations. type_expected n ∷ close_expected (codes ">") no_more ∷ expectations) (ok_goes_on (type_read n) old m k c.in_ok-ok.ok c.if-takes.ensures.0 read more) (λ expectations. ok_is_type n old expectations c.if-takes.ensures.0 ∙ (read_runs n old m c.in_ok-ok.ok read (rest expectations) ∙ (comma_runs (codes ">") (err_type n) m k expectations more ∙ err_is_type n (codes ">") k expectations))) c.err-2.ensures
 
 pub tuple-returns-in-None : goal.tuple-returns-in-None
 tuple-returns-in-None t c = absurd (types_are_some (type_read c.args.levels) c.expect.new.self c.types.new.self c.in_ok-types.types.items c.in_ok-types.ensures (sym c.in_ok-ty.ensures ∙ c.in-None.is))

@@ -3,7 +3,7 @@ use Rattle.std.specs.Prelude.{MatchBool}
 use Rattle.wave_type.specs.declared.error.TypeErrorKind.{TypeErrorKind}
 use Rattle.wave_type.specs.Private.TypeReading.{after, closed}
 use Rattle.wave_type.specs.Private.TypeTokens.{GoesOn, IsRefused, misplaced}
-use Rattle.wave_type.specs.TypeFaults.{Part, close_due}
+use Rattle.wave_type.specs.TypeFaults.{Part, close_expected}
 use Rattle.wave_type.specs.TypeSpelling.{Tokens}
 use Rattle.wave_type.proofs.TypeFaults.TokenSteps.{ends_behind, ends_here, goes_on, close_fails}
 use Rattle.wave_type.proofs.reader.Reader.ends.Goals as goal
@@ -21,9 +21,9 @@ returns-clause-taken c =
     let comma : after (codes ",") c.args.self.now ≡ Some c.expect.new.self = ap (after (codes ",")) (sym c.if-takes.ensures.1) ∙ c.in_ok-expect.ensures.taken in
     after_comma c.args.mark.now c.args.self.now c.expect.new.self c.takes-2.new.self c.takes-2.result c.if-takes.ensures.0 comma c.takes-2.ensures
 
-refuses : (mark : List ℕ) (ts m l : Tokens) (kind : TypeErrorKind) → after mark ts ≡ None → m ≡ ts → after (codes ",") m ≡ None → kind ≡ misplaced m → l ≡ m → (part : Part) → IsRefused (close_due mark part) ts kind l
+refuses : (mark : List ℕ) (ts m l : Tokens) (kind : TypeErrorKind) → after mark ts ≡ None → m ≡ ts → after (codes ",") m ≡ None → kind ≡ misplaced m → l ≡ m → (part : Part) → IsRefused (close_expected mark part) ts kind l
 refuses mark ts m l kind none same comma is end part =
-    subst (λ k. IsRefused (close_due mark part) ts k l) (sym (is ∙ ap misplaced same)) (subst (λ us. IsRefused (close_due mark part) ts (misplaced ts) us) (sym (end ∙ same)) (close_fails mark part ts none (ap (after (codes ",")) (sym same) ∙ comma)))
+    subst (λ k. IsRefused (close_expected mark part) ts k l) (sym (is ∙ ap misplaced same)) (subst (λ us. IsRefused (close_expected mark part) ts (misplaced ts) us) (sym (end ∙ same)) (close_fails mark part ts none (ap (after (codes ",")) (sym same) ∙ comma)))
 
 pub returns-in_err-expect-clause-refused : goal.returns-in_err-expect-clause-refused
 returns-in_err-expect-clause-refused c =

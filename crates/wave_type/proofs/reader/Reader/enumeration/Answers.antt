@@ -1,6 +1,6 @@
 use Rattle.std.proofs.Common.{codes, ap, ◌∙◌, sym}
 use Rattle.wave_wasm.specs.Borrowed.{texts}
-use Rattle.wave_type.specs.TypeMade.{enum_type}
+use Rattle.wave_type.specs.TypeConstructors.{enum_type}
 use Rattle.wave_type.proofs.TypeReading.ReaderSteps.{enum_is_some}
 use Rattle.wave_type.proofs.reader.Reader.enumeration.Goals as goal
 

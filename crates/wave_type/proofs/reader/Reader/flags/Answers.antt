@@ -1,6 +1,6 @@
 use Rattle.std.proofs.Common.{codes, ap, ◌∙◌, sym}
 use Rattle.wave_wasm.specs.Borrowed.{texts}
-use Rattle.wave_type.specs.TypeMade.{flags_type}
+use Rattle.wave_type.specs.TypeConstructors.{flags_type}
 use Rattle.wave_type.proofs.TypeReading.ReaderSteps.{flags_are_some}
 use Rattle.wave_type.proofs.reader.Reader.flags.Goals as goal
 

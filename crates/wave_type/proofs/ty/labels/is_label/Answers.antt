@@ -1,6 +1,6 @@
 use Rattle.std.proofs.Common.{◌∙◌}
-use Rattle.wave_type.proofs.DistinctNames.LabelTest.{front_tells}
+use Rattle.wave_type.proofs.DistinctNames.LabelTest.{prefix_tells}
 use Rattle.wave_type.proofs.ty.labels.is_label.Goals as goal
 
 pub returns : goal.returns
-returns c = c.eq.ensures ∙ front_tells _ _ c.longest_prefix.ensures
+returns c = c.eq.ensures ∙ prefix_tells _ _ c.longest_prefix.ensures

@@ -3,7 +3,7 @@ use Rattle.std.proofs.lemmas.Result.{err_from_is_err_and}
 use Rattle.wave_value.specs.TypedValue.{IsAt}
 use Rattle.wave_value.specs.Private.ValueModel.{ListFits}
 use Rattle.wave_value.proofs.ValueModel.Lists.{all_more, all_items}
-use Rattle.wave_value.proofs.ConstructorAnswers.ListsAndEnums.{is_at, not_at, length_refused, list_fits, list_taken, list_made, list_refused}
+use Rattle.wave_value.proofs.ConstructorAnswers.ListsAndEnums.{is_at, not_at, length_refused, list_fits, list_taken, list_built, list_refused}
 use Rattle.wave_value.proofs.value.Value.list_of.Goals as goal
 
 pub returns-in_err-check_length-clause-refused : goal.returns-in_err-check_length-clause-refused
@@ -23,8 +23,8 @@ pub invariant_of-result : goal.invariant_of-result
 invariant_of-result g c =
     subst (λ T. ListFits T c.args.vals.items) (sym c.in_ok-clone.ensures.cases) (list_fits c.args.ty.now _ c.args.vals.items c.in-Some.ensures c.in_ok-check_length.ensures.counted (all_items (IsAt c.in-Some.element.now) c.deref-val-items.result.now _ c.loop-val.val-index c.deref-val-items.ensures.value c.loop-val-test.false c.loop-val.invariant))
 
-pub returns-clause-made : goal.returns-clause-made
-returns-clause-made g c = list_made _ _ _ c.in_ok-clone.ensures.cases (invariant_of-result g c)
+pub returns-clause-built : goal.returns-clause-built
+returns-clause-built g c = list_built _ _ _ c.in_ok-clone.ensures.cases (invariant_of-result g c)
 
 pub returns-clause-taken : goal.returns-clause-taken
 returns-clause-taken g c =

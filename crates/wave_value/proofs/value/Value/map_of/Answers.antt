@@ -1,7 +1,7 @@
 use Rattle.wave_value.specs.Private.ValueModel.{EntryAt}
 use Rattle.wave_value.proofs.ValueModel.Lists.{all_more, all_items}
 use Rattle.wave_value.proofs.ConstructorAnswers.ListsAndEnums.{is_at, not_at}
-use Rattle.wave_value.proofs.ConstructorAnswers.Maps.{map_taken, map_made, key_refused, value_refused}
+use Rattle.wave_value.proofs.ConstructorAnswers.Maps.{map_taken, map_built, key_refused, value_refused}
 use Rattle.wave_value.proofs.value.Value.map_of.Goals as goal
 
 pub returns-then-not-is_at-clause-refused : goal.returns-then-not-is_at-clause-refused
@@ -16,9 +16,9 @@ pub loop-entry-preserved : goal.loop-entry-preserved
 loop-entry-preserved g c =
     all_more (EntryAt c.in-Some.key.now c.in-Some.value.now) c.deref-entry-items.result.now c.loop-entry.entry-index c.entry-item.result c.loop-entry-test.true c.entry-item.is (is_at _ _ _ c.if-not-is_at.false c.is_at.ensures, is_at _ _ _ c.if-not-is_at-2.false c.is_at-in-loop-entry.ensures) c.loop-entry.invariant
 
-pub returns-clause-made : goal.returns-clause-made
-returns-clause-made g c =
-    map_made c.args.ty.now c.in_ok-clone.field-0 c.in-Some.key.now c.in-Some.value.now c.args.entries.items c.in_ok-clone.ensures.cases c.in-Some.ensures (all_items (EntryAt c.in-Some.key.now c.in-Some.value.now) c.deref-entry-items.result.now c.args.entries.items c.loop-entry.entry-index c.deref-entry-items.ensures.value c.loop-entry-test.false c.loop-entry.invariant)
+pub returns-clause-built : goal.returns-clause-built
+returns-clause-built g c =
+    map_built c.args.ty.now c.in_ok-clone.field-0 c.in-Some.key.now c.in-Some.value.now c.args.entries.items c.in_ok-clone.ensures.cases c.in-Some.ensures (all_items (EntryAt c.in-Some.key.now c.in-Some.value.now) c.deref-entry-items.result.now c.args.entries.items c.loop-entry.entry-index c.deref-entry-items.ensures.value c.loop-entry-test.false c.loop-entry.invariant)
 
 pub returns-clause-taken : goal.returns-clause-taken
 returns-clause-taken g c =

@@ -1,7 +1,7 @@
 use Rattle.std.proofs.Common.{arith, sym, ap, ◌∙◌, ◌≡◌, length}
 use Rattle.wave_type.specs.TypeModel.{tuple_part}
 use Rattle.wave_value.proofs.ConstructorAnswers.ListsAndEnums.{is_at, not_at}
-use Rattle.wave_value.proofs.ConstructorAnswers.Tuples.{each_fits, tuple_taken, each_more, each_at, tuple_made, count_refused, tuple_refused}
+use Rattle.wave_value.proofs.ConstructorAnswers.Tuples.{each_fits, tuple_taken, each_more, each_at, tuple_built, count_refused, tuple_refused}
 use Rattle.wave_value.proofs.value.Value.tuple_of.Goals as goal
 
 pub returns-then-want-got-clause-refused : goal.returns-then-want-got-clause-refused
@@ -21,8 +21,8 @@ pub invariant_of-result : goal.invariant_of-result
 invariant_of-result g c =
     each_fits c.in_ok-clone.field-0 c.in-Some.types.now.items c.args.vals.items (c.in-Some.ensures ∙ ap tuple_part (sym c.in_ok-clone.ensures.cases)) (each_at _ _ c.loop-i.i (omega arith) (omega arith) c.loop-i.invariant)
 
-pub returns-clause-made : goal.returns-clause-made
-returns-clause-made g c = tuple_made _ _ _ c.in_ok-clone.ensures.cases (invariant_of-result g c)
+pub returns-clause-built : goal.returns-clause-built
+returns-clause-built g c = tuple_built _ _ _ c.in_ok-clone.ensures.cases (invariant_of-result g c)
 
 pub returns-clause-taken : goal.returns-clause-taken
 returns-clause-taken g c =

@@ -1,5 +1,5 @@
 use Rattle.std.proofs.lemmas.Result.{err_from_is_err_and}
-use Rattle.wave_value.proofs.ConstructorAnswers.VariantsAndFlags.{variant_fits, variant_made, variant_taken, payload_refused, unknown}
+use Rattle.wave_value.proofs.ConstructorAnswers.VariantsAndFlags.{variant_fits, variant_built, variant_taken, payload_refused, unknown}
 use Rattle.wave_value.proofs.value.Value.variant_of.Goals as goal
 
 pub returns-in_err-val-in-Some-clause-refused : goal.returns-in_err-val-in-Some-clause-refused
@@ -11,9 +11,9 @@ pub invariant_of-result : goal.invariant_of-result
 invariant_of-result g c =
     variant_fits c.args.ty.now _ _ _ _ _ _ c.in_ok-clone-in-Some.ensures.cases c.in-Some.ensures c.variant_case.ensures c.in_ok-val-in-Some.ensures.boxed c.in_ok-val-in-Some.ensures.taken
 
-pub returns-in_ok-clone-in-Some-clause-made : goal.returns-in_ok-clone-in-Some-clause-made
-returns-in_ok-clone-in-Some-clause-made g c =
-    variant_made _ _ _ _ _ _ c.in_ok-clone-in-Some.ensures.cases c.in-Some.ensures c.in_ok-val-in-Some.ensures.boxed (invariant_of-result g c)
+pub returns-in_ok-clone-in-Some-clause-built : goal.returns-in_ok-clone-in-Some-clause-built
+returns-in_ok-clone-in-Some-clause-built g c =
+    variant_built _ _ _ _ _ _ c.in_ok-clone-in-Some.ensures.cases c.in-Some.ensures c.in_ok-val-in-Some.ensures.boxed (invariant_of-result g c)
 
 pub returns-in_ok-clone-in-Some-clause-taken : goal.returns-in_ok-clone-in-Some-clause-taken
 returns-in_ok-clone-in-Some-clause-taken g c = variant_taken _ _ _ _ _ c.in-Some.ensures c.variant_case.ensures c.in_ok-val-in-Some.ensures.taken

@@ -10,7 +10,7 @@ use Rattle.wave_wasm.specs.Values.{Value, maybe_value, depth, depth_of_maybe}
 use Rattle.wave_wasm.specs.Private.Values.{IsLeaf}
 use Rattle.wave_wasm.proofs.CanonicalText.WrittenParts.{writing_more, writing_refused, writing_refused_text, start_refused, start_written, writing_as, writing_none, refused_before, refused_grounded, refused_unsupported, writing_last, nothing_written}
 use Rattle.wave_wasm.proofs.CanonicalText.Rows.{writing_rest, refused_rows, rest_writable, rest_item}
-use Rattle.wave_wasm.proofs.CanonicalText.Sequences.{writing_start, writing_close, item_blocks, item_passes, items_pass, part_depth, all_at, writing_front_start, writing_front, writing_front_close, front_split, front_writable, front_blocks, front_passes, last_decides, front_depth, last_depth, none_taken}
+use Rattle.wave_wasm.proofs.CanonicalText.Sequences.{writing_start, writing_close, item_blocks, item_passes, items_pass, part_depth, all_at, writing_prefix_start, writing_prefix, writing_prefix_close, prefix_split, prefix_writable, prefix_blocks, prefix_passes, last_decides, prefix_depth, last_depth, none_taken}
 use Rattle.wave_wasm.proofs.CanonicalText.ValueParts.{map_map, all_map, list_sequence, tuple_sequence, record_is, variant_text, variant_writable, ok_text, ok_writable, err_text, err_writable, no_text_of_kind, of_list_kind}
 use Rattle.wave_wasm.proofs.TypesOfValues.MatchedKinds.{leaf_of}
 use Rattle.wave_wasm.proofs.CanonicalText.Records.{writing_field, writing_skipped, none_writable, writing_record_close}
@@ -32,9 +32,9 @@ write_items-returns-in_err-written g t c =
     let f : Bor g.row.V.Denot → List ℕ = λ v. text (g.V.WasmValue.tree v.now) in
     let tree : Bor g.row.V.Denot → Value = λ v. g.V.WasmValue.tree v.now in
     let p = err_from_is_err_and c.from_residual-in_err-written.result c.from_residual-in_err-written.ensures.1 in
-    let ys = c.as_slice-front.result.now in
-    let split = front_split c.args.items.items c.pop.new.self.items ys c.pop.result c.in-Some.last c.pop.ensures.items c.as_slice-front.ensures.value c.in-Some.is in
-    let w = writing_front_start f c.args.items.items ys c.in-Some.last _ _ (ap (λ z. enclosed c.args.opening.now z c.args.closing.now) (map_map text tree c.args.items.items)) split c.in_ok-write_text.ensures.ok in
+    let ys = c.as_slice-others.result.now in
+    let split = prefix_split c.args.items.items c.pop.new.self.items ys c.pop.result c.in-Some.last c.pop.ensures.items c.as_slice-others.ensures.value c.in-Some.is in
+    let w = writing_prefix_start f c.args.items.items ys c.in-Some.last _ _ (ap (λ z. enclosed c.args.opening.now z c.args.closing.now) (map_map text tree c.args.items.items)) split c.in_ok-write_text.ensures.ok in
     rw (p.1, p.2) (refused_rows f ys _ _ w c.in_err-written.ensures.err)
 
 pub write_items-loop-item-init : goal.write_items-loop-item-init
@@ -42,21 +42,21 @@ write_items-loop-item-init g t c =
     let f : Bor g.row.V.Denot → List ℕ = λ v. text (g.V.WasmValue.tree v.now) in
     let tree : Bor g.row.V.Denot → Value = λ v. g.V.WasmValue.tree v.now in
     let ok : Bor g.row.V.Denot → Bool = λ v. has_text (g.V.WasmValue.tree v.now) in
-    let ys = c.as_slice-front.result.now in
-    let split = front_split c.args.items.items c.pop.new.self.items ys c.pop.result c.in-Some.last c.pop.ensures.items c.as_slice-front.ensures.value c.in-Some.is in
-    let w = writing_front_start f c.args.items.items ys c.in-Some.last _ _ (ap (λ z. enclosed c.args.opening.now z c.args.closing.now) (map_map text tree c.args.items.items)) split c.in_ok-write_text.ensures.ok in
+    let ys = c.as_slice-others.result.now in
+    let split = prefix_split c.args.items.items c.pop.new.self.items ys c.pop.result c.in-Some.last c.pop.ensures.items c.as_slice-others.ensures.value c.in-Some.is in
+    let w = writing_prefix_start f c.args.items.items ys c.in-Some.last _ _ (ap (λ z. enclosed c.args.opening.now z c.args.closing.now) (map_map text tree c.args.items.items)) split c.in_ok-write_text.ensures.ok in
     record {
       writing = writing_rest f ys c.in_ok-written.written _ _ w c.in_ok-written.ensures.ok;
-      writable = ap (λ b. b && ok c.in-Some.last) (rest_writable ok ys c.in_ok-written.written c.in_ok-written.ensures.writable) ∙ sym (all_map has_text tree c.args.items.items ∙ (ap (list_all ok) split ∙ front_writable ok ys c.in-Some.last));
+      writable = ap (λ b. b && ok c.in-Some.last) (rest_writable ok ys c.in_ok-written.written c.in_ok-written.ensures.writable) ∙ sym (all_map has_text tree c.args.items.items ∙ (ap (list_all ok) split ∙ prefix_writable ok ys c.in-Some.last));
     }
 
 pub write_items-write_value-requires : goal.write_items-write_value-requires
 write_items-write_value-requires g t c κs within =
     let tree : Bor g.row.V.Denot → Value = λ v. g.V.WasmValue.tree v.now in
-    let ys = c.as_slice-front.result.now in
-    let split = front_split c.args.items.items c.pop.new.self.items ys c.pop.result c.in-Some.last c.pop.ensures.items c.as_slice-front.ensures.value c.in-Some.is in
+    let ys = c.as_slice-others.result.now in
+    let split = prefix_split c.args.items.items c.pop.new.self.items ys c.pop.result c.in-Some.last c.pop.ensures.items c.as_slice-others.ensures.value c.in-Some.is in
     let r = rest_item ys c.in_ok-written.written c.loop-item.item-index c.item-item.result c.loop-item-test.true c.item-item.is in
-    let h = front_depth depth tree c.args.items.items ys c.in-Some.last (c.in_ok-written.written + c.loop-item.item-index) c.item-item.result split r.0 r.1 in
+    let h = prefix_depth depth tree c.args.items.items ys c.in-Some.last (c.in_ok-written.written + c.loop-item.item-index) c.item-item.result split r.0 r.1 in
     (omega (arith, h), within)
 
 pub write_items-returns-in_err-write_value : goal.write_items-returns-in_err-write_value
@@ -64,31 +64,31 @@ write_items-returns-in_err-write_value g t c =
     let f : Bor g.row.V.Denot → List ℕ = λ v. text (g.V.WasmValue.tree v.now) in
     let ok : Bor g.row.V.Denot → Bool = λ v. has_text (g.V.WasmValue.tree v.now) in
     let p = err_from_is_err_and c.from_residual-in_err-write_value.result c.from_residual-in_err-write_value.ensures.1 in
-    let w = writing_front f _ c.loop-item.item-index c.item-item.result _ _ c.loop-item-test.true c.item-item.is c.loop-item.invariant.writing in
-    rw (p.1, p.2) (writing_refused _ w (front_blocks ok _ _ c.loop-item.item-index c.item-item.result _ c.loop-item-test.true c.item-item.is c.loop-item.invariant.writable) c.in_err-write_value.ensures.err)
+    let w = writing_prefix f _ c.loop-item.item-index c.item-item.result _ _ c.loop-item-test.true c.item-item.is c.loop-item.invariant.writing in
+    rw (p.1, p.2) (writing_refused _ w (prefix_blocks ok _ _ c.loop-item.item-index c.item-item.result _ c.loop-item-test.true c.item-item.is c.loop-item.invariant.writable) c.in_err-write_value.ensures.err)
 
 pub write_items-returns-in_err-write_text-2 : goal.write_items-returns-in_err-write_text-2
 write_items-returns-in_err-write_text-2 g t c =
     let f : Bor g.row.V.Denot → List ℕ = λ v. text (g.V.WasmValue.tree v.now) in
     let p = err_from_is_err_and c.from_residual-in_err-write_text-2.result c.from_residual-in_err-write_text-2.ensures.1 in
-    let w = writing_front f _ c.loop-item.item-index c.item-item.result _ _ c.loop-item-test.true c.item-item.is c.loop-item.invariant.writing in
+    let w = writing_prefix f _ c.loop-item.item-index c.item-item.result _ _ c.loop-item-test.true c.item-item.is c.loop-item.invariant.writing in
     rw (p.1, p.2) (writing_refused_text _ (writing_more w c.in_ok-write_value.ensures.ok) c.in_err-write_text-2.ensures)
 
 pub write_items-loop-item-preserved : goal.write_items-loop-item-preserved
 write_items-loop-item-preserved g t c =
     let f : Bor g.row.V.Denot → List ℕ = λ v. text (g.V.WasmValue.tree v.now) in
     let ok : Bor g.row.V.Denot → Bool = λ v. has_text (g.V.WasmValue.tree v.now) in
-    let w = writing_front f _ c.loop-item.item-index c.item-item.result _ _ c.loop-item-test.true c.item-item.is c.loop-item.invariant.writing in
+    let w = writing_prefix f _ c.loop-item.item-index c.item-item.result _ _ c.loop-item-test.true c.item-item.is c.loop-item.invariant.writing in
     record {
       writing = writing_more (writing_more w c.in_ok-write_value.ensures.ok) c.in_ok-write_text-2.ensures.ok;
-      writable = front_passes ok _ _ c.loop-item.item-index c.item-item.result _ c.loop-item-test.true c.item-item.is c.loop-item.invariant.writable c.in_ok-write_value.ensures.writable;
+      writable = prefix_passes ok _ _ c.loop-item.item-index c.item-item.result _ c.loop-item-test.true c.item-item.is c.loop-item.invariant.writable c.in_ok-write_value.ensures.writable;
     }
 
 pub write_items-write_value-requires-2 : goal.write_items-write_value-requires-2
 write_items-write_value-requires-2 g t c κs within =
     let tree : Bor g.row.V.Denot → Value = λ v. g.V.WasmValue.tree v.now in
-    let ys = c.as_slice-front.result.now in
-    let split = front_split c.args.items.items c.pop.new.self.items ys c.pop.result c.in-Some.last c.pop.ensures.items c.as_slice-front.ensures.value c.in-Some.is in
+    let ys = c.as_slice-others.result.now in
+    let split = prefix_split c.args.items.items c.pop.new.self.items ys c.pop.result c.in-Some.last c.pop.ensures.items c.as_slice-others.ensures.value c.in-Some.is in
     let h = last_depth depth tree c.args.items.items ys c.in-Some.last split in
     (omega (arith, h), within)
 
@@ -97,7 +97,7 @@ write_items-returns-in_err-write_value-2 g t c =
     let f : Bor g.row.V.Denot → List ℕ = λ v. text (g.V.WasmValue.tree v.now) in
     let ok : Bor g.row.V.Denot → Bool = λ v. has_text (g.V.WasmValue.tree v.now) in
     let p = err_from_is_err_and c.from_residual-in_err-write_value-2.result c.from_residual-in_err-write_value-2.ensures.1 in
-    let w = writing_front_close f _ c.loop-item.item-index _ _ c.loop-item-test.false c.loop-item.invariant.writing in
+    let w = writing_prefix_close f _ c.loop-item.item-index _ _ c.loop-item-test.false c.loop-item.invariant.writing in
     let all = last_decides ok _ _ c.loop-item.item-index _ c.loop-item-test.false c.loop-item.invariant.writable in
     rw (p.1, p.2) (writing_refused _ w (λ h. all ∙ h) c.in_err-write_value-2.ensures.err)
 
@@ -105,7 +105,7 @@ pub write_items-returns : goal.write_items-returns
 write_items-returns g t c =
     let f : Bor g.row.V.Denot → List ℕ = λ v. text (g.V.WasmValue.tree v.now) in
     let ok : Bor g.row.V.Denot → Bool = λ v. has_text (g.V.WasmValue.tree v.now) in
-    let w = writing_front_close f _ c.loop-item.item-index _ _ c.loop-item-test.false c.loop-item.invariant.writing in
+    let w = writing_prefix_close f _ c.loop-item.item-index _ _ c.loop-item-test.false c.loop-item.invariant.writing in
     let all = last_decides ok _ _ c.loop-item.item-index _ c.loop-item-test.false c.loop-item.invariant.writable in
     writing_last (writing_more w c.in_ok-write_value-2.ensures.ok) (all ∙ c.in_ok-write_value-2.ensures.writable) c.write_text-2.ensures
 

@@ -5,7 +5,7 @@ use Rattle.wave_wasm.specs.Text.{text, has_text}
 use Rattle.wave_wasm.specs.Borrowed.{shown, shown_all}
 use Rattle.wave_wasm.specs.Values.{Value, maybe_value, depth, depth_of_maybe}
 use Rattle.wave_wasm.proofs.CanonicalText.WrittenParts.{Writing}
-use Rattle.wave_wasm.proofs.CanonicalText.Sequences.{parted, fronted, depths}
+use Rattle.wave_wasm.proofs.CanonicalText.Sequences.{parted, prefixed, depths}
 use Rattle.wave_wasm.proofs.CanonicalText.ValueParts.{fields_left}
 use Rattle.wave_wasm.proofs.writer.Writer.+write.Given as goal
 
@@ -43,7 +43,7 @@ abbrev pub invariant-write_items-loop-item : goal.invariant-write_items-loop-ite
 invariant-write_items-loop-item g l =
     let left = drop l.item-index l.item-items in
     record {
-      writing : Writing (enclosed l.opening (map text (shown_all g.V.WasmValue.tree l.fn.items.items)) l.closing) (fronted (map (λ v. text (g.V.WasmValue.tree v.now)) left) (text (g.V.WasmValue.tree l.last)) ++ l.closing) (g.W.TextWrite.output l.fn.self) (g.W.TextWrite.output l.self);
+      writing : Writing (enclosed l.opening (map text (shown_all g.V.WasmValue.tree l.fn.items.items)) l.closing) (prefixed (map (λ v. text (g.V.WasmValue.tree v.now)) left) (text (g.V.WasmValue.tree l.last)) ++ l.closing) (g.W.TextWrite.output l.fn.self) (g.W.TextWrite.output l.self);
       writable : (list_all (λ v. has_text (g.V.WasmValue.tree v.now)) left && has_text (g.V.WasmValue.tree l.last)) ≡ list_all has_text (shown_all g.V.WasmValue.tree l.fn.items.items);
     }
 

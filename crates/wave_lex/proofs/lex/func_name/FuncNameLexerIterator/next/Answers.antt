@@ -1,13 +1,13 @@
 use Rattle.std.proofs.Common.{ℕ, List, drop, refl, sym, subst, ◌∙◌, Some, None}
 use Rattle.wave_lex.specs.LongestMatch.{Greatest, IsPrefixOf}
 use Rattle.wave_lex.specs.Tokens.{function_name, any}
-use Rattle.wave_lex.proofs.LongestPrefix.ByComputing.{front_positive}
-use Rattle.wave_lex.proofs.LongestPrefix.MachineWalks.{front_boundary}
+use Rattle.wave_lex.proofs.LongestPrefix.ByComputing.{prefix_positive}
+use Rattle.wave_lex.proofs.LongestPrefix.MachineWalks.{prefix_boundary}
 use Rattle.wave_lex.proofs.Tokenization.LexerSteps.{stands_behind, first_scalar, less_behind}
 use Rattle.wave_lex.proofs.lex.func_name.FuncNameLexerIterator.next.Goals as goal
 
 pub invariant_of-self : goal.invariant_of-self
-invariant_of-self c = stands_behind _ _ _ _ _ c.range_from-rest.ensures.value c.self.invariant (front_boundary function_name _ _ c.range_from-rest.utf8 c.in-Some.ensures.0)
+invariant_of-self c = stands_behind _ _ _ _ _ c.range_from-rest.ensures.value c.self.invariant (prefix_boundary function_name _ _ c.range_from-rest.utf8 c.in-Some.ensures.0)
 
 pub returns-in-Some-clause-steps : goal.returns-in-Some-clause-steps
 returns-in-Some-clause-steps c =
@@ -19,14 +19,14 @@ returns-in-Some-clause-steps c =
 
 pub returns-in-Some-clause-goes : goal.returns-in-Some-clause-goes
 returns-in-Some-clause-goes c =
-    let some = front_positive function_name _ _ refl c.in-Some.ensures.0 in
+    let some = prefix_positive function_name _ _ refl c.in-Some.ensures.0 in
     let less = less_behind _ _ _ _ _ c.range_from-rest.ensures.value c.self.invariant c.in-Some.ensures.0.fits some in
     rw (← c.self.view_is) (record { on = λ _. (tt, tt, less); keeps = tt; rests = λ _. tt })
 
 pub invariant_of-self-2 : goal.invariant_of-self-2
 invariant_of-self-2 c =
     let first = first_scalar _ _ _ (sym c.chars.ensures.rest ∙ c.in_ok-first.ensures.steps.0) in
-    stands_behind _ _ _ _ _ c.range_from-rest.ensures.value c.self.invariant (front_boundary any _ _ c.range_from-rest.utf8 (subst (λ (z : ℕ). IsPrefixOf any c.range_from-rest.result.now z) (sym c.len_utf8.ensures.value) first))
+    stands_behind _ _ _ _ _ c.range_from-rest.ensures.value c.self.invariant (prefix_boundary any _ _ c.range_from-rest.utf8 (subst (λ (z : ℕ). IsPrefixOf any c.range_from-rest.result.now z) (sym c.len_utf8.ensures.value) first))
 
 pub returns-clause-steps : goal.returns-clause-steps
 returns-clause-steps c =

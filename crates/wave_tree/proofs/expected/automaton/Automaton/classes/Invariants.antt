@@ -6,4 +6,4 @@ use Rattle.wave_tree.proofs.expected.automaton.Automaton.classes.Given as goal
 abbrev pub invariant-loop-class : goal.invariant-loop-class
 invariant-loop-class l =
     let s = stack_of l.self.forms.items in
-    ArePassing (may_stand l.self.due (innermost s) (l.self.levels - length s)) (take l.class-index each) l.classes.items
+    ArePassing (may_stand l.self.state (innermost s) (l.self.levels - length s)) (take l.class-index each) l.classes.items

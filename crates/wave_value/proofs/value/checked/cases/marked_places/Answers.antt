@@ -9,18 +9,18 @@ use Rattle.wave_value.proofs.value.checked.cases.marked_places.Goals as goal
 
 pub loop-i-preserved : goal.loop-i-preserved
 loop-i-preserved c =
-    let told = c.mark.ensures (texts c.args.names.now) (texts (take c.loop-i.i c.args.all.now)) c.loop-i.invariant.marks in
+    let reported = c.mark.ensures (texts c.args.names.now) (texts (take c.loop-i.i c.args.all.now)) c.loop-i.invariant.marks in
     record {
-      marks = marks_more c.mark.new.marks (texts c.args.names.now) c.args.all.now c.loop-i.i _ c.loop-i-test.true told.0;
-      places = subst (PlacesSoFar (texts c.args.names.now) c.args.all.now _) (sym c.in_ok-push.ensures.items) (place_found (texts c.args.names.now) c.args.all.now c.loop-i.i _ _ _ c.loop-i-test.true told.1 c.if-not-mark.false c.loop-i.invariant.places);
+      marks = marks_more c.mark.new.marks (texts c.args.names.now) c.args.all.now c.loop-i.i _ c.loop-i-test.true reported.0;
+      places = subst (PlacesSoFar (texts c.args.names.now) c.args.all.now _) (sym c.in_ok-push.ensures.items) (place_found (texts c.args.names.now) c.args.all.now c.loop-i.i _ _ _ c.loop-i-test.true reported.1 c.if-not-mark.false c.loop-i.invariant.places);
     }
 
 pub loop-i-preserved-then-not-mark : goal.loop-i-preserved-then-not-mark
 loop-i-preserved-then-not-mark c =
-    let told = c.mark.ensures (texts c.args.names.now) (texts (take c.loop-i.i c.args.all.now)) c.loop-i.invariant.marks in
+    let reported = c.mark.ensures (texts c.args.names.now) (texts (take c.loop-i.i c.args.all.now)) c.loop-i.invariant.marks in
     record {
-      marks = marks_more c.mark.new.marks (texts c.args.names.now) c.args.all.now c.loop-i.i _ c.loop-i-test.true told.0;
-      places = place_passed (texts c.args.names.now) c.args.all.now c.loop-i.i _ _ _ c.loop-i-test.true told.1 c.if-not-mark.true c.loop-i.invariant.places;
+      marks = marks_more c.mark.new.marks (texts c.args.names.now) c.args.all.now c.loop-i.i _ c.loop-i-test.true reported.0;
+      places = place_passed (texts c.args.names.now) c.args.all.now c.loop-i.i _ _ _ c.loop-i-test.true reported.1 c.if-not-mark.true c.loop-i.invariant.places;
     }
 
 pub returns-in_err-check_marked-clause-refused : goal.returns-in_err-check_marked-clause-refused
