@@ -1,14 +1,14 @@
 -- The bytes that leave a machine in its state, and marks.
 use Rattle.std.proofs.Common.{◌≡◌, ℕ, ◌≤◌, ◌<◌, ◌+◌, ◌-◌, Bool, true, false, nat_eq, zero, suc, List, [], ◌∷◌, ◌++◌, ◌⊎◌, inl, inr, refl, sym, ap, subst, ◌∙◌, length, take, drop, arith, get_or, Option, Some, None, unwrap_or, length-take-le, get_or-take, get_or-drop}
 use Rattle.std.specs.Prelude.{◌≢◌, not, if◌then◌else◌, encode_utf8, encode_utf8_all}
-use Rattle.std.specs.Str.{IsUtf8}
+use Rattle.std.specs.Str.{IsUtf8, chars}
 use Rattle.std.proofs.lemmas.Bool.{cases_lt}
 use Rattle.std.proofs.lemmas.Bool.Decides.{nat_tests}
 use Rattle.std.proofs.Math.Seq.{get_or-append_right}
-use Rattle.std.proofs.lemmas.Str.{encode_ascii}
+use Rattle.std.proofs.lemmas.Str.{encode_ascii, IsUtf8-take, IsUtf8-drop, encodes-chars}
 use Rattle.std.specs.Str.{IsCharBoundary}
 use Rattle.std.proofs.Common.{length-append, length-drop}
-use Rattle.memchr.specs.Find.{IsFirstByte, is_byte3}
+use Rattle.memchr.specs.Find.{IsFirstByte, is_byte, is_byte3}
 use Rattle.wave_lex.specs.Regex.{Regex, nothing, empty, is_within}
 use Rattle.wave_lex.specs.Derive.{nullable, derivative, derivative_by, after_next}
 use Rattle.wave_lex.specs.LongestMatch.{Greatest, IsPrefixOf}
@@ -27,9 +27,10 @@ use Rattle.wave_lex.specs.declared.machine.whitespace.WhitespaceState.TheVariant
 use Rattle.wave_lex.specs.declared.machine.escape.EscapeState.TheVariants as escape
 use Rattle.wave_lex.specs.declared.machine.string.StringState.{StringState}
 use Rattle.wave_lex.specs.declared.machine.string.StringState.TheVariants as string
+use Rattle.wave_lex.proofs.LongestPrefix.ByComputing.{ascii_spelled}
 use Rattle.wave_lex.proofs.LongestPrefix.MachineWalks.{after_all_append, after_all_nothing}
 use Rattle.wave_lex.proofs.Machines.Steps.{whitespace_steps, number_steps, label_token_steps, string_steps}
-use Rattle.wave_lex.proofs.QuickScan.Prefixes.{prefix_behind, PassesNone, behind_run, ascii_leads, empty_prefix, first_byte, leads_on, run_stays, run_leads, run_ends}
+use Rattle.wave_lex.proofs.QuickScan.Prefixes.{prefix_behind, PassesNone, cut_here, lead_boundary, ascii_leads, empty_prefix, first_byte, leads_on, run_stays, run_leads, run_ends}
 
 -- ---- blanks
 
@@ -39,6 +40,18 @@ blank_ascii b e = grind (arith, nat_tests)
 pub blank_stays : (b : ℕ) → is_blank b ≡ true → derivative b (whitespace_rest whitespace.Start) ≡ whitespace_rest whitespace.Start
 blank_stays b e =
     whitespace_steps whitespace.Start b ∙ ap (λ (z : Bool). after_next WhitespaceState whitespace_rest (if z then Some whitespace.Start else (if nat_eq b 47 then Some whitespace.Slash else None))) e
+
+-- ---- comments
+
+-- not a line feed
+abbrev pub in_line : ℕ → Bool
+in_line c = not (nat_eq c 10)
+
+in_line_past : (c : ℕ) → 128 ≤ c → in_line c ≡ true
+in_line_past c l = grind (arith, nat_tests)
+
+in_line_steps : (c : ℕ) → in_line c ≡ true → whitespace_step whitespace.Comment c ≡ Some whitespace.Comment
+in_line_steps c e = grind (arith, nat_tests)
 
 -- ---- digits
 
@@ -96,49 +109,122 @@ plain_past c h = grind (arith, nat_tests)
 plain_one : (c : ℕ) → is_plain c ≡ true → derivative c (string_rest string.Inside) ≡ string_rest string.Inside
 plain_one c e = string_steps string.Inside c ∙ ap (after_next StringState string_rest) (plain_steps c e)
 
--- each byte is plain
-abbrev pub ArePlain : List ℕ → Type 0
-ArePlain s = (i : ℕ) → i < length s → is_plain (get_or s i 0) ≡ true
+-- all bytes past ASCII pass the test, and a scalar that passes it leaves the shape as it is
+pub record Keeps (test : ℕ → Bool) (q : Regex) : Type 0 where
+  pub past : (c : ℕ) → 128 ≤ c → test c ≡ true
+  pub stays : (c : ℕ) → test c ≡ true → derivative c q ≡ q
 
--- a scalar of plain bytes leaves a string as it is
-plain_scalar : (c : ℕ) (t : List ℕ) → ArePlain (encode_utf8 c ++ t) → derivative c (string_rest string.Inside) ≡ string_rest string.Inside
-plain_scalar c t h = plain_one c (elim (cases_lt c 128) as (λ _. is_plain c ≡ true) [
-  | inr l ↦ plain_past c (omega arith)
+-- each byte passes the test
+abbrev pub Pass : (ℕ → Bool) → List ℕ → Type 0
+Pass test s = (i : ℕ) → i < length s → test (get_or s i 0) ≡ true
+
+-- a scalar of bytes that pass leaves the shape as it is
+scalar_stays : (test : ℕ → Bool) (q : Regex) (c : ℕ) (t : List ℕ) → Keeps test q → Pass test (encode_utf8 c ++ t) → derivative c q ≡ q
+scalar_stays test q c t k h = k.stays c (elim (cases_lt c 128) as (λ _. test c ≡ true) [
+  | inr l ↦ k.past c (omega arith)
   | inl l ↦ let one_byte : encode_utf8 c ++ t ≡ c ∷ t = ap (λ (z : List ℕ). z ++ t) (encode_ascii c l) in
-      let there : ArePlain (c ∷ t) = subst ArePlain one_byte h in
+      let there : Pass test (c ∷ t) = subst (Pass test) one_byte h in
       there 0 (omega arith)
 ])
 
--- what is after some plain bytes is plain
-plain_behind : (x t : List ℕ) → ArePlain (x ++ t) → ArePlain t
-plain_behind x t h = λ i l.
+-- what is after some bytes that pass does
+pass_behind : (test : ℕ → Bool) (x t : List ℕ) → Pass test (x ++ t) → Pass test t
+pass_behind test x t h = λ i l.
     let long : length (x ++ t) ≡ length x + length t = length-append x t in
     let less : length x + i < length (x ++ t) = omega arith in
     let past : length x ≤ length x + i = omega arith in
     let back : length x + i - length x ≡ i = omega arith in
-    sym (ap is_plain (get_or-append_right x t (length x + i) 0 past ∙ ap (λ (z : ℕ). get_or t z 0) back)) ∙ h (length x + i) less
+    sym (ap test (get_or-append_right x t (length x + i) 0 past ∙ ap (λ (z : ℕ). get_or t z 0) back)) ∙ h (length x + i) less
+
+-- scalars of bytes that pass leave the shape as it is
+scalars_stay : (test : ℕ → Bool) (q : Regex) (ds : List ℕ) → Keeps test q → Pass test (encode_utf8_all ds) → derivative_by ds q ≡ q
+scalars_stay test q [] k h = refl
+scalars_stay test q (d ∷ ds) k h =
+    ap (λ (z : Regex). derivative_by ds z) (scalar_stays test q d (encode_utf8_all ds) k h) ∙ scalars_stay test q ds k (pass_behind test (encode_utf8 d) (encode_utf8_all ds) h)
+
+-- bytes that pass at the start, up to where a scalar ends
+pub run_kept : (test : ℕ → Bool) (q : Regex) (s : List ℕ) (n : ℕ) → Keeps test q → IsUtf8 s → n ≤ length s → ((i : ℕ) → i < n → test (get_or s i 0) ≡ true) → IsCharBoundary s n → LeadsTo q q s n
+run_kept test q s n k u l h cut =
+    let bytes : encode_utf8_all (chars (take n s)) ≡ take n s = encodes-chars (take n s) (IsUtf8-take s n u cut) in
+    let long : length (take n s) ≡ n = length-take-le n s l in
+    record {
+      scalars = chars (take n s);
+      fits = l;
+      spelled = bytes;
+      has = scalars_stay test q (chars (take n s)) k (subst (Pass test) (sym bytes) (λ i w.
+          let less : i < n = omega arith in
+          ap test (get_or-take n s i 0 less) ∙ h i less));
+    }
 
 -- plain bytes leave a string as it is
-pub plains_stay : (ds : List ℕ) → ArePlain (encode_utf8_all ds) → derivative_by ds (string_rest string.Inside) ≡ string_rest string.Inside
-plains_stay [] h = refl
-plains_stay (d ∷ ds) h =
-    ap (λ (z : Regex). derivative_by ds z) (plain_scalar d (encode_utf8_all ds) h) ∙ plains_stay ds (plain_behind (encode_utf8 d) (encode_utf8_all ds) h)
+pub plain_kept : Keeps is_plain (string_rest string.Inside)
+plain_kept = record { past = plain_past; stays = plain_one }
+
+-- what stands in a comment leaves it as it is
+comment_kept : Keeps in_line (whitespace_rest whitespace.Comment)
+comment_kept = record {
+  past = in_line_past;
+  stays = λ c e. whitespace_steps whitespace.Comment c ∙ ap (after_next WhitespaceState whitespace_rest) (in_line_steps c e);
+}
+
+two_slashes : (s : List ℕ) → 2 ≤ length s → get_or s 0 0 ≡ 47 → get_or s 1 0 ≡ 47 → s ≡ 47 ∷ 47 ∷ drop 2 s
+two_slashes [] l e f = let w : ⊥ = omega arith in absurd w
+two_slashes (a ∷ []) l e f = let w : ⊥ = omega arith in absurd w
+two_slashes (a ∷ b ∷ s) l e f = ap (λ z. z ∷ b ∷ s) e ∙ ap (λ z. 47 ∷ z ∷ s) f
+
+-- two slashes lead into a comment
+slashes_lead : (s t : List ℕ) → s ≡ 47 ∷ 47 ∷ t → LeadsTo whitespace (whitespace_rest whitespace.Comment) s 2
+slashes_lead s t e = subst (λ z. LeadsTo whitespace (whitespace_rest whitespace.Comment) z 2) (sym e) (record { scalars = 47 ∷ 47 ∷ []; fits = omega arith; spelled = ascii_spelled (47 ∷ 47 ∷ []) refl; has = refl })
+
+-- a comment with its line feed leads back to where it began
+pub comment_leads : (s t : List ℕ) (k : ℕ) → IsUtf8 s → 2 ≤ length s → get_or s 0 0 ≡ 47 → get_or s 1 0 ≡ 47 → t ≡ drop 2 s → IsFirstByte (is_byte 10) t (Some k) → LeadsTo whitespace whitespace s (k + 3)
+comment_leads s t k u l e f rest (found, feed) =
+    let opens = slashes_lead s (drop 2 s) (two_slashes s l e f) in
+    let valid : IsUtf8 t = subst IsUtf8 (sym rest) (IsUtf8-drop s 2 u (lead_boundary whitespace (whitespace_rest whitespace.Comment) s 2 u opens)) in
+    let there : get_or t k 0 ≡ 10 = is_there k t feed in
+    let inside = run_kept in_line (whitespace_rest whitespace.Comment) t k comment_kept valid (omega (arith, found.high)) (λ i w. passed_line (get_or t i 0) (found.before i (omega arith) w)) (cut_here t k (omega (arith, found.high)) (λ _. omega arith)) in
+    let some : 0 < length (drop k t) = omega (arith, found.high, length-drop k t) in
+    let closes = first_byte (whitespace_rest whitespace.Comment) whitespace 10 (drop k t) (drop k t) refl (omega arith) (whitespace_steps whitespace.Comment 10) some (get_or-drop k t 0 0 ∙ (ap (λ z. get_or t z 0) (n_plus_zero k) ∙ there)) in
+    let same : 2 + (k + 1) ≡ k + 3 = omega arith in
+    subst (λ z. LeadsTo whitespace whitespace s z) same
+    (leads_on whitespace (whitespace_rest whitespace.Comment) whitespace s t 2 (k + 1) rest opens (leads_on (whitespace_rest whitespace.Comment) (whitespace_rest whitespace.Comment) whitespace t (drop k t) k 1 refl inside closes))
+  where
+    n_plus_zero : (k : ℕ) → k + 0 ≡ k
+    n_plus_zero k = omega arith
+
+    is_there : (k : ℕ) (t : List ℕ) → is_byte 10 (get_or t k 0) ≡ true → get_or t k 0 ≡ 10
+    is_there k t e = grind (arith, nat_tests)
+
+    passed_line : (c : ℕ) → ¬ (is_byte 10 c ≡ true) → in_line c ≡ true
+    passed_line c h = by_test (is_byte 10 c) refl
+      where
+        by_test : (b : Bool) → is_byte 10 c ≡ b → in_line c ≡ true
+        by_test true e = absurd (h e)
+        by_test false e = ap not e
+
+-- blanks lead to what may follow in whitespace
+pub blanks_lead : (s b : List ℕ) (n : ℕ) → b ≡ s → n ≤ length b → ((i : ℕ) → i < n → is_blank (get_or b i 0) ≡ true) → LeadsTo whitespace whitespace s n
+blanks_lead s b n e l h = subst (λ (z : List ℕ). LeadsTo whitespace whitespace z n) e
+    (ascii_leads whitespace whitespace b n l (λ i k. blank_ascii (get_or b i 0) (h i k)) (run_stays whitespace b n l (λ i k. blank_stays (get_or b i 0) (h i k))))
+
+-- so does the comment with the blanks after it
+pub comment_step : (s b t u : List ℕ) (k n : ℕ) → b ≡ s → IsUtf8 s → 2 ≤ length b → get_or b 0 0 ≡ 47 → get_or b 1 0 ≡ 47 → t ≡ drop 2 b → IsFirstByte (is_byte 10) t (Some k) → u ≡ drop (k + 3) b → n ≤ length u
+    → ((i : ℕ) → i < n → is_blank (get_or u i 0) ≡ true) → LeadsTo whitespace whitespace s (k + 3 + n)
+comment_step s b t u k n e valid l f g rest found behind fits blank = subst (λ z. LeadsTo whitespace whitespace z (k + 3 + n)) e
+    (leads_on whitespace whitespace whitespace b u (k + 3) n behind (comment_leads b t k (subst IsUtf8 (sym e) valid) l f g rest found) (blanks_lead u u n refl fits blank))
+
+-- what stands after those blanks
+pub behind_comment : (s b u : List ℕ) (place line n : ℕ) → b ≡ drop place s → u ≡ drop line b → (n < length u → is_blank (get_or u n 0) ≡ false) → place + (line + n) < length s
+    → is_blank (get_or s (place + (line + n)) 0) ≡ false
+behind_comment s b u place line n e f stops l =
+    let long : length u ≡ length b - line = ap length f ∙ length-drop line b in
+    let whole : length b ≡ length s - place = ap length e ∙ length-drop place s in
+    sym (ap is_blank (ap (λ z. get_or z n 0) f ∙ (get_or-drop line b n 0 ∙ (ap (λ z. get_or z (line + n) 0) e ∙ get_or-drop place s (line + n) 0)))) ∙ stops (omega arith)
 
 -- a list is its first number and the others
 first_and_others : (s : List ℕ) (n b : ℕ) → 0 < length s → get_or s 0 0 ≡ b → take (suc n) s ≡ b ∷ take n (drop 1 s)
 first_and_others [] n b l e = let w : ⊥ = omega arith in absurd w
 first_and_others (a ∷ s) n b l e = ap (λ (z : ℕ). z ∷ take n s) e
-
--- the first of a list and the next ones are plain
-plain_cons : (b : ℕ) (s : List ℕ) → is_plain b ≡ true → ArePlain s → ArePlain (b ∷ s)
-plain_cons b s e h zero l = e
-plain_cons b s e h (suc i) l = h i (omega arith)
-
--- the first n of a list are plain
-pub plain_taken : (s : List ℕ) (n : ℕ) → n ≤ length s → ((i : ℕ) → i < n → is_plain (get_or s i 0) ≡ true) → ArePlain (take n s)
-plain_taken s zero l h = λ i k. let w : ⊥ = omega arith in absurd w
-plain_taken [] (suc n) l h = λ i k. let w : ⊥ = omega arith in absurd w
-plain_taken (b ∷ s) (suc n) l h = plain_cons b (take n s) (h 0 (omega arith)) (plain_taken s n (omega arith) (λ j m. h (suc j) (omega arith)))
 
 -- what is not plain is ASCII
 pub not_plain_ascii : (c : ℕ) → is_plain c ≡ false → c < 128
@@ -262,21 +348,6 @@ mark_here s b m e a l f = subst (λ (z : List ℕ). Greatest (IsPrefixOf (one m)
 
 -- ---- what the code counts
 
--- after a run of ASCII
-run_cut : (P : ℕ → Bool) (s b : List ℕ) (n : ℕ) → ((c : ℕ) → P c ≡ true → c < 128) → b ≡ s → IsUtf8 s → n ≤ length b → ((i : ℕ) → i < n → P (get_or b i 0) ≡ true) → IsCharBoundary s n
-run_cut P s b n a e u l h = subst (λ (z : List ℕ). IsCharBoundary z n) e (behind_run b n (subst IsUtf8 (sym e) u) l (λ i k. a (get_or b i 0) (h i k)))
-
-pub blanks_cut : (s b : List ℕ) (n : ℕ) → b ≡ s → IsUtf8 s → n ≤ length b → ((i : ℕ) → i < n → is_blank (get_or b i 0) ≡ true) → IsCharBoundary s n
-blanks_cut s b n e u l h = run_cut is_blank s b n blank_ascii e u l h
-
-pub lowers_cut : (s b : List ℕ) (n : ℕ) → b ≡ s → IsUtf8 s → n ≤ length b → ((i : ℕ) → i < n → is_lower (get_or b i 0) ≡ true) → IsCharBoundary s n
-lowers_cut s b n e u l h = run_cut is_lower s b n lower_ascii e u l h
-
--- blanks lead to what may follow in whitespace
-pub blanks_lead : (s b : List ℕ) (n : ℕ) → b ≡ s → n ≤ length b → ((i : ℕ) → i < n → is_blank (get_or b i 0) ≡ true) → LeadsTo whitespace whitespace s n
-blanks_lead s b n e l h = subst (λ (z : List ℕ). LeadsTo whitespace whitespace z n) e
-    (ascii_leads whitespace whitespace b n l (λ i k. blank_ascii (get_or b i 0) (h i k)) (run_stays whitespace b n l (λ i k. blank_stays (get_or b i 0) (h i k))))
-
 -- digits lead from the sign to what may follow in the whole part of a number
 whole_leads : (d : List ℕ) (p k : ℕ) → 0 < k → k ≤ length d → ((i : ℕ) → i < k → is_digit (get_or d i 0) ≡ true) → get_or d 0 0 ≢ 48 → LeadsTo (number_rest (after_sign p)) (number_rest n.Whole) d k
 whole_leads d p k some fits h f =
@@ -304,11 +375,16 @@ whitespace_dead c e f = whitespace_steps whitespace.Start c ∙ ap (after_next W
 blank_past : (c : ℕ) → 128 ≤ c → is_blank c ≡ false
 blank_past c l = grind (arith, nat_tests)
 
--- blanks are the whitespace, where no slash follows
-pub blanks_end : (s b : List ℕ) (n : ℕ) → b ≡ s → n ≤ length b → ((i : ℕ) → i < n → is_blank (get_or b i 0) ≡ true) → (n < length b → is_blank (get_or b n 0) ≡ false)
-    → (n < length b → get_or b n 0 ≢ 47) → Greatest (IsPrefixOf whitespace s) (Some n)
-blanks_end s b n e l h stops other = subst (λ (z : List ℕ). Greatest (IsPrefixOf whitespace z) (Some n)) e
-    (run_ends whitespace whitespace b n (blanks_lead b b n refl l h) refl (λ c k. whitespace_dead c (blank_past c k) (λ w. let x : c ≡ 47 = w in omega arith)) (λ k. whitespace_dead (get_or b n 0) (stops k) (other k)))
+-- what leads back to where whitespace began is the whitespace, where neither a blank nor a slash follows
+pub whitespace_ends : (s b : List ℕ) (n : ℕ) → b ≡ s → LeadsTo whitespace whitespace s n → (n < length s → is_blank (get_or s n 0) ≡ false) → (n < length b → get_or b n 0 ≢ 47) → Greatest (IsPrefixOf whitespace s) (Some n)
+whitespace_ends s b n e leads stops other =
+    run_ends whitespace whitespace s n leads refl (λ c k. whitespace_dead c (blank_past c k) (λ w. let x : c ≡ 47 = w in omega arith))
+    (λ k. whitespace_dead (get_or s n 0) (stops k) (subst (λ z. n < length z → get_or z n 0 ≢ 47) e other k))
+
+-- so are blanks
+pub blanks_end : (s b : List ℕ) (n : ℕ) → b ≡ s → n ≤ length b → ((i : ℕ) → i < n → is_blank (get_or b i 0) ≡ true) → (n < length b → is_blank (get_or b n 0) ≡ false) → (n < length b → get_or b n 0 ≢ 47)
+    → Greatest (IsPrefixOf whitespace s) (Some n)
+blanks_end s b n e l h stops other = whitespace_ends s b n e (blanks_lead s b n e l h) (subst (λ z. n < length z → is_blank (get_or z n 0) ≡ false) e stops) other
 
 behind_blanks : (c : ℕ) → 32 < c → is_blank c ≡ false
 behind_blanks c l = grind (arith, nat_tests)

@@ -1,11 +1,10 @@
 -- Plain bytes and escapes lead a string back to where it stood.
 use Rattle.std.proofs.Common.{◌≡◌, ℕ, ◌≤◌, ◌<◌, ◌+◌, Bool, true, false, nat_eq, zero, suc, List, [], ◌∷◌, ◌++◌, refl, sym, ap, subst, ◌∙◌, length, take, drop, arith, get_or, is_some, Option, Some, None, length-append, length-drop, length-take-le, get_or-drop}
-use Rattle.std.specs.Prelude.{◌||◌, not, nat_lt, if◌then◌else◌, encode_utf8_all}
+use Rattle.std.specs.Prelude.{◌||◌, not, nat_lt, if◌then◌else◌}
 use Rattle.std.specs.Char.{digit_value}
-use Rattle.std.specs.Str.{IsUtf8, chars, IsCharBoundary}
+use Rattle.std.specs.Str.{IsUtf8}
 use Rattle.std.specs.Str.Parse.{AllDigits}
 use Rattle.std.proofs.lemmas.Bool.Decides.{nat_tests}
-use Rattle.std.proofs.lemmas.Str.{IsUtf8-take, encodes-chars}
 use Rattle.std.proofs.Math.Seq.{take-append_seam}
 use Rattle.wave_lex.specs.Regex.{Regex}
 use Rattle.wave_lex.specs.Derive.{derivative, derivative_by, after_next}
@@ -28,7 +27,7 @@ use Rattle.wave_lex.proofs.Machines.Steps.{string_steps}
 use Rattle.wave_lex.proofs.StringDecoding.Parts.{AllAscii, ascii_append, digit_ascii, digits_ascii, short_ascii}
 use Rattle.wave_lex.proofs.StringDecoding.EscapesFound.{all_digits, closed_at}
 use Rattle.wave_lex.proofs.QuickScan.Prefixes.{cut_here, first_byte, leads_on, run_ends}
-use Rattle.wave_lex.proofs.QuickScan.ByteRuns.{ArePlain, plains_stay, plain_taken, not_plain_ascii}
+use Rattle.wave_lex.proofs.QuickScan.ByteRuns.{run_kept, plain_kept, not_plain_ascii}
 
 -- ---- escapes
 
@@ -147,21 +146,10 @@ long_leads s d n w some few within digits closed =
 
 -- ---- plain bytes
 
--- plain bytes at the start
-plains_go : (s : List ℕ) (n : ℕ) → IsUtf8 s → n ≤ length s → ((i : ℕ) → i < n → is_plain (get_or s i 0) ≡ true) → IsCharBoundary s n → LeadsTo (string_rest string.Inside) (string_rest string.Inside) s n
-plains_go s n u l h cut =
-    let bytes : encode_utf8_all (chars (take n s)) ≡ take n s = encodes-chars (take n s) (IsUtf8-take s n u cut) in
-    record {
-      scalars = chars (take n s);
-      fits = l;
-      spelled = bytes;
-      has = plains_stay (chars (take n s)) (subst ArePlain (sym bytes) (plain_taken s n l h));
-    }
-
 -- what the code counts as plain
 pub plains_here : (s b : List ℕ) (n : ℕ) → b ≡ s → IsUtf8 s → IsPlainRun b n → LeadsTo (string_rest string.Inside) (string_rest string.Inside) s n
 plains_here s b n e u run = subst (λ (z : List ℕ). LeadsTo (string_rest string.Inside) (string_rest string.Inside) z n) e
-    (plains_go b n (subst IsUtf8 (sym e) u) run.within run.all (cut_here b n run.within (λ l. not_plain_ascii (get_or b n 0) (run.stops l))))
+    (run_kept is_plain (string_rest string.Inside) b n plain_kept (subst IsUtf8 (sym e) u) run.within run.all (cut_here b n run.within (λ l. not_plain_ascii (get_or b n 0) (run.stops l))))
 
 -- a quote leads into a string
 pub quote_leads : (s b : List ℕ) → b ≡ s → 0 < length b → get_or b 0 0 ≡ 34 → LeadsTo string (string_rest string.Inside) s 1

@@ -6,7 +6,7 @@ use Rattle.std.proofs.lemmas.Bool.{cases_lt}
 use Rattle.std.proofs.lemmas.Bool.Decides.{nat_tests}
 use Rattle.std.proofs.lemmas.List.{append_cancel_left, append-nil, take-append-drop}
 use Rattle.std.proofs.Math.Seq.{drop-append_seam, take-append-add, take-append_seam}
-use Rattle.std.proofs.lemmas.Str.{encodes-append, encode_ascii, IsCharBoundary-start, IsCharBoundary-end, IsCharBoundary-after_ascii, IsCharBoundary-before_ascii}
+use Rattle.std.proofs.lemmas.Str.{encodes-append, encode_ascii, IsCharBoundary-end, IsCharBoundary-before_ascii}
 use Rattle.wave_lex.specs.Tokens.{any}
 use Rattle.wave_lex.specs.Regex.{star, Regex, nothing, empty, Matches}
 use Rattle.wave_lex.specs.Derive.{nullable, derivative, derivative_by}
@@ -165,12 +165,6 @@ first_leads r q m (b ∷ s) a h l e = ascii_leads r q (b ∷ s) 1 (omega arith) 
 -- the same, of what the code takes as the bytes
 pub first_byte : (r q : Regex) (m : ℕ) (s b : List ℕ) → b ≡ s → m < 128 → derivative m r ≡ q → 0 < length b → get_or b 0 0 ≡ m → LeadsTo r q s 1
 first_byte r q m s b e a h l f = subst (λ (z : List ℕ). LeadsTo r q z 1) e (first_leads r q m b a h l f)
-
--- after a run of ASCII
-pub behind_run : (s : List ℕ) (n : ℕ) → IsUtf8 s → n ≤ length s → ((i : ℕ) → i < n → get_or s i 0 < 128) → IsCharBoundary s n
-behind_run s zero u l a = IsCharBoundary-start s u
-behind_run s (suc n) u l a = let same : suc n ≡ n + 1 = omega arith in
-    subst (λ (z : ℕ). IsCharBoundary s z) (sym same) (IsCharBoundary-after_ascii s n u (omega arith) (a n (omega arith)))
 
 -- a text may be split at its end and before ASCII
 pub cut_here : (s : List ℕ) (n : ℕ) → n ≤ length s → (n < length s → get_or s n 0 < 128) → IsCharBoundary s n

@@ -1,7 +1,7 @@
 //! How many bytes whitespace or a token takes at the start of a text. Runs of bytes that leave a machine
-//! in its state are counted at once; the machine reads what stands after them. The end of a multiline
-//! string is searched, and a char of one scalar that stands for itself is found at once.
-ghost use Rattle.std.specs.Prelude.{◌≡◌, ℕ, ◌<◌, ◌≤◌, true, false, Some, IfSome, is_some, length, drop, slice_index};
+//! in its state are counted at once; the machine reads what stands after them. The ends of a comment and
+//! of a multiline string are searched, and a char of one scalar that stands for itself is found at once.
+ghost use Rattle.std.specs.Prelude.{◌≡◌, ℕ, ◌+◌, ◌<◌, ◌≤◌, true, false, Some, IfSome, is_some, length, drop, slice_index};
 ghost use Rattle.wave_lex.specs.LongestMatch.{Greatest, IsPrefixOf};
 ghost use Rattle.wave_lex.specs.Strings.{short_escape};
 ghost use Rattle.wave_lex.specs.Private.Machines.{after_sign, begins_number, ends_whole, is_blank, is_plain};
@@ -9,7 +9,7 @@ ghost use Rattle.wave_lex.specs.Machines.{is_digit, is_lower, number_rest, strin
 ghost use Rattle.wave_lex.specs.Private.Reading.{LeadsTo, EndsWord, IsPlainRun, IsStep, IsWordStep};
 ghost use Rattle.wave_lex.specs.declared.machine.string.StringState.TheVariants.{Inside};
 ghost use Rattle.wave_lex.specs.Tokenization.{IsWhitespace};
-ghost use Rattle.wave_lex.specs.Tokens.{character, label_or_keyword, multiline_string, number, one, string};
+ghost use Rattle.wave_lex.specs.Tokens.{character, label_or_keyword, multiline_string, number, one, string, whitespace};
 
 use crate::machine::character::CharState;
 use crate::machine::label::{LabelState, LabelTokenState};
@@ -18,7 +18,7 @@ use crate::machine::number::NumberState;
 use crate::machine::string::StringState;
 use crate::machine::whitespace::WhitespaceState;
 use crate::strings::hex_length;
-use memchr::{memchr3, memmem};
+use memchr::{memchr, memchr3, memmem};
 
 /// How many bytes of a run are looked at in turn before the others are searched at once.
 const FEW: usize = 16;
@@ -41,10 +41,52 @@ pub fn whitespace_at(text: &str) -> usize
     if bytes[run] != b'/' {
         return run;
     }
-    let Some(more) = longest_prefix(WhitespaceState::Start, &text[run..]) else {
-        return run;
+    run + commented_at(&text[run..])
+}
+
+/// How many bytes the whitespace at the start takes, which may begin with comments.
+#[inline(never)]
+fn commented_at(text: &str) -> usize
+    ensures { IsWhitespace text.now result }
+{
+    let bytes = text.as_bytes();
+    let end = comments_end(text);
+    if end == bytes.len() {
+        return end;
+    }
+    if bytes[end] != b'/' {
+        return end;
+    }
+    let Some(more) = longest_prefix(WhitespaceState::Start, &text[end..]) else {
+        return end;
     };
-    run + more
+    end + more
+}
+
+/// Where the blanks at the start end, and the comments with a line feed and the blanks after them.
+fn comments_end(text: &str) -> usize
+    ensures leads { LeadsTo whitespace whitespace text.now result }
+    ensures stops { result < length text.now → is_blank (slice_index text.now result) ≡ false }
+{
+    let mut place = blanks(text.as_bytes());
+    while let Some(count) = comment_at(text, place) {
+        place += count;
+    }
+    place
+}
+
+/// How many bytes the comment takes that stands at this place, its line feed and the blanks after it.
+fn comment_at(text: &str, place: usize) -> Option<usize>
+    requires { LeadsTo whitespace whitespace text.now place }
+    ensures step { IsStep whitespace (drop place text.now) result }
+    ensures stops { IfSome result (λ k. place + k < length text.now → is_blank (slice_index text.now (place + k)) ≡ false) }
+{
+    let rest = &text.as_bytes()[place..];
+    if rest.len() < 2 || rest[0] != b'/' || rest[1] != b'/' {
+        return None;
+    }
+    let line = memchr(b'\n', &rest[2..])? + 3;
+    Some(line + blanks(&rest[line..]))
 }
 
 /// How many bytes the mark takes, where it stands at the start.

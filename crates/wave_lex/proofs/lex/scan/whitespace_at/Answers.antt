@@ -1,18 +1,15 @@
-use Rattle.std.proofs.Common.{refl, arith}
+use Rattle.std.proofs.Common.{arith}
 use Rattle.wave_lex.specs.Tokens.{whitespace}
-use Rattle.wave_lex.proofs.QuickScan.Prefixes.{prefix_there, prefix_behind}
-use Rattle.wave_lex.proofs.QuickScan.ByteRuns.{blanks_end, blanks_cut, blanks_lead, no_whitespace, one_blank}
+use Rattle.wave_lex.proofs.QuickScan.Prefixes.{prefix_behind, lead_boundary}
+use Rattle.wave_lex.proofs.QuickScan.ByteRuns.{blanks_end, blanks_lead, no_whitespace, one_blank}
 use Rattle.wave_lex.proofs.lex.scan.whitespace_at.Goals as goal
 
 pub range_from-requires : goal.range_from-requires
-range_from-requires c = λ _. blanks_cut _ _ _ c.as_bytes-bytes.ensures.value c.utf8.text c.blanks-run.ensures.within c.blanks-run.ensures.all
-
-pub returns-in_default : goal.returns-in_default
-returns-in_default c = absurd (prefix_there whitespace _ refl c.in_default.ensures)
+range_from-requires c = λ _. lead_boundary _ _ _ _ c.utf8.text (blanks_lead _ _ _ c.as_bytes-bytes.ensures.value c.blanks-run.ensures.within c.blanks-run.ensures.all)
 
 pub returns : goal.returns
 returns c = prefix_behind whitespace whitespace _ _ _ _ c.range_from.ensures.value
-    (blanks_lead _ _ _ c.as_bytes-bytes.ensures.value c.blanks-run.ensures.within c.blanks-run.ensures.all) c.in-Some.ensures
+    (blanks_lead _ _ _ c.as_bytes-bytes.ensures.value c.blanks-run.ensures.within c.blanks-run.ensures.all) c.commented_at.ensures
 
 pub returns-then-run-bytes : goal.returns-then-run-bytes
 returns-then-run-bytes c = blanks_end _ _ _ c.as_bytes-bytes.ensures.value c.blanks-run.ensures.within c.blanks-run.ensures.all c.blanks-run.ensures.stops (λ k. let w : ⊥ = omega arith in absurd w)
