@@ -5,6 +5,7 @@ pub mod fingerprints;
 pub mod keyword;
 pub mod laws;
 pub(crate) mod plain;
+pub(crate) mod room;
 pub(crate) mod rows;
 pub mod wasm;
 pub mod writer;

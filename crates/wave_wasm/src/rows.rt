@@ -9,6 +9,7 @@ ghost use Rattle.wave_wasm.specs.Private.Text.{whole_text};
 ghost use Rattle.wave_wasm.specs.Text.{bool_text, has_text, text};
 
 use crate::keyword::Keyword;
+use crate::room::{ROOM, put_bytes};
 use crate::wasm::{WasmTypeKind, WasmValue};
 use itoa::write_digits;
 
@@ -17,9 +18,6 @@ pub const FEW: usize = 8;
 
 /// How many at most.
 pub const AT_ONCE: usize = 16;
-
-/// How many bytes a row takes at most.
-pub const ROOM: usize = 368;
 
 /// How many bytes a whole number takes at most: a sign, 20 digits, a comma and a space.
 const NUMBER: usize = 23;
@@ -108,7 +106,7 @@ fn put_text(text: &str, room: &mut [u8; ROOM], end: usize) -> Option<usize>
     }
     put_comma(room, end);
     let start = end - 2 - text.len();
-    room[start..end - 2].copy_from_slice(text.as_bytes());
+    put_bytes(text.as_bytes(), room, start);
     Some(start)
 }
 

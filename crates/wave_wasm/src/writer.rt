@@ -2,7 +2,8 @@
 use crate::fingerprints::{all_differ, fingerprint};
 use crate::keyword::Keyword;
 use crate::plain::plain_end;
-use crate::rows::{AT_ONCE, FEW, ROOM, fill_row};
+use crate::room::{Gathered, ROOM};
+use crate::rows::{AT_ONCE, FEW, fill_row};
 use crate::wasm::{WasmTypeKind, WasmValue};
 use itoa::{Buffer, Integer};
 use std::alloc::{AllocError, AllocFailed, Global};
@@ -343,14 +344,16 @@ impl<W: TextWrite> Writer<W> {
         ensures { Writes (text (V.tree val.now)) (has_text (V.tree val.now)) result (W.output self.old) (W.output self.new) }
     {
         let names = val.unwrap_flags(alloc)?;
-        self.write_text("{")?;
+        let mut gathered = Gathered::new();
+        gathered.gather(&mut self.out, "{")?;
         let mut later = false;
         for name in &names {
-            self.write_separator(later)?;
+            gathered.gather_separator(&mut self.out, later)?;
             later = true;
-            self.write_text(*name)?;
+            gathered.gather(&mut self.out, *name)?;
         }
-        self.write_text("}")
+        gathered.gather(&mut self.out, "}")?;
+        self.write_text(gathered.as_str())
     }
 
     /// Writes the name of a case, after a `%` where it is a keyword.

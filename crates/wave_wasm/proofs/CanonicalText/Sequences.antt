@@ -56,10 +56,14 @@ pub writing_start : {X : Type 0} (f : X → List ℕ) (xs : List X) (start end :
 writing_start f xs start end {whole} {old} {new} is a = start_written (parted false (map f xs) ++ end) (is ∙ ap (λ z. start ++ (z ++ end)) (sym (parted_joined (map f xs)))) a
 
 -- what is left to write begins with the next item
-pub writing_item : {X : Type 0} (f : X → List ℕ) (xs : List X) (i : ℕ) (x : X) {whole : List ℕ} (later : Bool) (close : List ℕ) {old now : Output} → i < length xs → x ≡ get_or xs i x → Writing whole (parted later (map f (drop i xs)) ++ close) old now → Writing whole (comma_if later ++ (f x ++ (parted true (map f (drop (i + 1) xs)) ++ close))) old now
-writing_item f xs i x later close lt is w =
+pub parted_item : {X : Type 0} (f : X → List ℕ) (xs : List X) (i : ℕ) (x : X) (later : Bool) (close : List ℕ) → i < length xs → x ≡ get_or xs i x → parted later (map f (drop i xs)) ++ close ≡ comma_if later ++ (f x ++ (parted true (map f (drop (i + 1) xs)) ++ close))
+parted_item f xs i x later close lt is =
     let left = parted true (map f (drop (i + 1) xs)) in
-    writing_as (at_item (λ l. parted later (map f l) ++ close) xs i x lt is ∙ (append_assoc (comma_if later) (f x ++ left) close ∙ ap (λ s. comma_if later ++ s) (append_assoc (f x) left close))) w
+    at_item (λ l. parted later (map f l) ++ close) xs i x lt is ∙ (append_assoc (comma_if later) (f x ++ left) close ∙ ap (λ s. comma_if later ++ s) (append_assoc (f x) left close))
+
+-- so of a text that is being written
+pub writing_item : {X : Type 0} (f : X → List ℕ) (xs : List X) (i : ℕ) (x : X) {whole : List ℕ} (later : Bool) (close : List ℕ) {old now : Output} → i < length xs → x ≡ get_or xs i x → Writing whole (parted later (map f (drop i xs)) ++ close) old now → Writing whole (comma_if later ++ (f x ++ (parted true (map f (drop (i + 1) xs)) ++ close))) old now
+writing_item f xs i x later close lt is w = writing_as (parted_item f xs i x later close lt is) w
 
 -- after the last item only the close is left
 pub writing_close : {X : Type 0} (f : X → List ℕ) (xs : List X) (i : ℕ) {whole : List ℕ} (later : Bool) (close : List ℕ) {old now : Output} → length xs ≤ i → Writing whole (parted later (map f (drop i xs)) ++ close) old now → Writing whole close old now

@@ -6,4 +6,4 @@ use Rattle.wave_wasm.proofs.writer.Writer.write_flags.Given as goal
 
 abbrev pub invariant-loop-name : goal.invariant-loop-name
 invariant-loop-name g l =
-    Writing (text (g.V.WasmValue.tree l.val)) (parted l.later (map (λ n. n.now) (drop l.name-index l.name-items)) ++ codes "}") (g.W.TextWrite.output l.fn.self) (g.W.TextWrite.output l.self)
+    Writing (text (g.V.WasmValue.tree l.val)) (l.gathered ++ (parted l.later (map (λ n. n.now) (drop l.name-index l.name-items)) ++ codes "}")) (g.W.TextWrite.output l.fn.self) (g.W.TextWrite.output l.self-inside.out)
