@@ -22,9 +22,6 @@ pub enum Keyword {
     Nan,
 }
 
-/// How many bytes the longest of them takes.
-const LONGEST: usize = 5;
-
 impl Keyword {
     ghost use Rattle.std.specs.Prelude.{◌≡◌};
     ghost use Rattle.wave_wasm.specs.Keywords.{DecodesTo, keyword_text};
@@ -33,18 +30,21 @@ impl Keyword {
     pub fn decode(raw_label: &str) -> Option<Keyword>
         ensures { DecodesTo raw_label.now result }
     {
-        if raw_label.len() > LONGEST {
-            return None;
-        }
-        match raw_label {
-            "true" => Some(Keyword::True),
-            "false" => Some(Keyword::False),
-            "some" => Some(Keyword::Some),
-            "none" => Some(Keyword::None),
-            "ok" => Some(Keyword::Ok),
-            "err" => Some(Keyword::Err),
-            "inf" => Some(Keyword::Inf),
-            "nan" => Some(Keyword::Nan),
+        match raw_label.len() {
+            2 | 4 | 5 => match raw_label {
+                "true" => Some(Keyword::True),
+                "false" => Some(Keyword::False),
+                "some" => Some(Keyword::Some),
+                "none" => Some(Keyword::None),
+                "ok" => Some(Keyword::Ok),
+                _ => None,
+            },
+            3 => match raw_label {
+                "err" => Some(Keyword::Err),
+                "inf" => Some(Keyword::Inf),
+                "nan" => Some(Keyword::Nan),
+                _ => None,
+            },
             _ => None,
         }
     }

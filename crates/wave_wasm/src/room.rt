@@ -1,5 +1,5 @@
 //! A room on the stack for short texts, so that many are written at once.
-ghost use Rattle.std.specs.Prelude.{◌≡◌, ◌≤◌, ◌+◌, ◌++◌, IfErr, OnOk, [], drop, length, take, true};
+ghost use Rattle.std.specs.Prelude.{◌≡◌, ◌≤◌, ◌+◌, ◌-◌, ◌++◌, IfErr, IsUtf8, OnOk, [], drop, length, take, true};
 ghost use Rattle.wave_wasm.specs.WriterState.{Refused};
 ghost use Rattle.wave_wasm.specs.Private.Commas.{comma_if};
 ghost use Rattle.wave_wasm.specs.Private.WriterState.{Gathers};
@@ -49,6 +49,16 @@ fn put_run(bytes: &[u8], room: &mut [u8; ROOM], start: usize)
     room[start..start + bytes.len()].copy_from_slice(bytes);
 }
 
+/// The text in the room from `start` up to `end`.
+#[inline(always)]
+pub fn text_in(room: &[u8; ROOM], start: usize, end: usize) -> &str
+    requires within { (start ≤ end) × (end ≤ 368) }
+    requires utf8 { IsUtf8 (take (end - start) (drop start room.now)) }
+    ensures { result.now ≡ take (end - start) (drop start room.now) }
+{
+    unsafe { str::from_utf8_unchecked(&room[start..end]) }
+}
+
 /// A text that is gathered before it is written.
 #[derive(Drop)]
 pub struct Gathered {
@@ -80,7 +90,7 @@ impl Gathered {
     pub fn as_str(&self) -> &str
         ensures { result.now ≡ self.now }
     {
-        unsafe { str::from_utf8_unchecked(&self.room[..self.end]) }
+        text_in(&self.room, 0, self.end)
     }
 
     /// Gathers a text behind the others, which are written where there is no room for it.

@@ -2,7 +2,7 @@
 use crate::fingerprints::{all_differ, fingerprint};
 use crate::keyword::Keyword;
 use crate::plain::plain_end;
-use crate::room::{Gathered, ROOM};
+use crate::room::{Gathered, ROOM, text_in};
 use crate::rows::{AT_ONCE, FEW, fill_row};
 use crate::wasm::{WasmTypeKind, WasmValue};
 use itoa::{Buffer, Integer};
@@ -434,7 +434,7 @@ impl<W: TextWrite> Writer<W> {
         let Some(start) = fill_row(items, &mut room) else {
             return Ok(false);
         };
-        self.write_text(unsafe { str::from_utf8_unchecked(&room[start..]) })?;
+        self.write_text(text_in(&room, start, ROOM))?;
         Ok(true)
     }
 
