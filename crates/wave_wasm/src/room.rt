@@ -1,5 +1,5 @@
 //! A room on the stack for short texts, so that many are written at once.
-ghost use Rattle.std.specs.Prelude.{◌≡◌, ◌≤◌, ◌+◌, ◌-◌, ◌++◌, IfErr, IsUtf8, OnOk, [], drop, length, take, true};
+ghost use Rattle.std.specs.Prelude.{◌≡◌, ◌≤◌, ◌+◌, ◌-◌, ◌++◌, IfErr, IsUtf8, OnOk, [], codes, drop, length, take, true};
 ghost use Rattle.wave_wasm.specs.WriterState.{Refused};
 ghost use Rattle.wave_wasm.specs.Private.Commas.{comma_if};
 ghost use Rattle.wave_wasm.specs.Private.WriterState.{Gathers};
@@ -18,15 +18,24 @@ pub fn put_bytes(bytes: &[u8], room: &mut [u8; ROOM], start: usize)
     ensures before { take start room.new ≡ take start room.old }
     ensures put { drop start room.new ≡ bytes.now ++ drop (start + length bytes.now) room.old }
 {
-    match bytes.len() {
-        4..=7 => put_ends::<4>(bytes, room, start),
-        8..=16 => put_ends::<8>(bytes, room, start),
-        17..=32 => put_ends::<16>(bytes, room, start),
-        _ => put_run(bytes, room, start),
+    let len = bytes.len();
+    if len <= 16 {
+        if len >= 8 {
+            put_ends::<8>(bytes, room, start)
+        } else if len >= 4 {
+            put_ends::<4>(bytes, room, start)
+        } else {
+            put_run(bytes, room, start)
+        }
+    } else if len <= 32 {
+        put_ends::<16>(bytes, room, start)
+    } else {
+        put_run(bytes, room, start)
     }
 }
 
-/// So the first `K` of them and the last `K`, which are all.
+/// So the first `K` of them and the last `K`, which are all. Both are read before, so that nothing asks
+/// whether the room lies over them.
 #[inline(always)]
 fn put_ends<const K: usize>(bytes: &[u8], room: &mut [u8; ROOM], start: usize)
     requires fit { start + length bytes.now ≤ 368 }
@@ -35,8 +44,21 @@ fn put_ends<const K: usize>(bytes: &[u8], room: &mut [u8; ROOM], start: usize)
     ensures put { drop start room.new ≡ bytes.now ++ drop (start + length bytes.now) room.old }
 {
     let rest = bytes.len() - K;
-    put_run(&bytes[..K], room, start);
-    put_run(&bytes[rest..], room, start + rest);
+    let first = part_of::<K>(bytes, 0);
+    let last = part_of::<K>(bytes, rest);
+    put_run(&first, room, start);
+    put_run(&last, room, start + rest);
+}
+
+/// The `K` bytes from `start` on.
+#[inline(always)]
+fn part_of<const K: usize>(bytes: &[u8], start: usize) -> [u8; K]
+    requires { start + K ≤ length bytes.now }
+    ensures { result ≡ take K (drop start bytes.now) }
+{
+    let mut part = [0; K];
+    part.copy_from_slice(&bytes[start..start + K]);
+    part
 }
 
 /// So all of them at once.
@@ -106,21 +128,35 @@ impl Gathered {
         Ok(())
     }
 
-    /// So a comma where an item stands before.
+    /// So an item, behind a comma where it is a later one.
     #[inline(always)]
-    pub fn gather_separator<W: TextWrite>(
+    pub fn gather_item<W: TextWrite>(
         &mut self,
         out: &mut W,
         later: bool,
+        text: &str,
     ) -> Result<(), WriterError>
-        ensures ok { OnOk result (Gathers self.old (comma_if later) self.new (W.output out.old) (W.output out.new)) }
-        ensures err { IfErr result (λ e. Refused (self.old ++ comma_if later) true e (W.output out.old) (W.output out.new)) }
+        ensures ok { OnOk result (Gathers self.old (comma_if later ++ text.now) self.new (W.output out.old) (W.output out.new)) }
+        ensures err { IfErr result (λ e. Refused (self.old ++ (comma_if later ++ text.now)) true e (W.output out.old) (W.output out.new)) }
     {
-        if later {
-            self.gather(out, ", ")
-        } else {
-            Ok(())
+        if !later {
+            return self.gather(out, text);
         }
+        if text.len() + 2 > ROOM - self.end {
+            return self.gather_later(out, text);
+        }
+        self.put_later(text);
+        Ok(())
+    }
+
+    /// Gathers a comma and a text, for which there may be no room.
+    #[inline(never)]
+    fn gather_later<W: TextWrite>(&mut self, out: &mut W, text: &str) -> Result<(), WriterError>
+        ensures ok { OnOk result (Gathers self.old (codes ", " ++ text.now) self.new (W.output out.old) (W.output out.new)) }
+        ensures err { IfErr result (λ e. Refused (self.old ++ (codes ", " ++ text.now)) true e (W.output out.old) (W.output out.new)) }
+    {
+        self.gather(out, ", ")?;
+        self.gather(out, text)
     }
 
     /// Writes the texts that are gathered, and then gathers a text, or writes it where it is too long.
@@ -146,5 +182,17 @@ impl Gathered {
     {
         put_bytes(text.as_bytes(), &mut self.room, self.end);
         self.end += text.len();
+    }
+
+    /// So a comma and a text.
+    #[inline(always)]
+    fn put_later(&mut self, text: &str)
+        requires { length self.now + length text.now + 2 ≤ 368 }
+        ensures { self.new ≡ self.old ++ (codes ", " ++ text.now) }
+    {
+        let end = self.end;
+        put_bytes(b", ", &mut self.room, end);
+        put_bytes(text.as_bytes(), &mut self.room, end + 2);
+        self.end = end + 2 + text.len();
     }
 }

@@ -75,7 +75,9 @@ fn put_bool(val: bool, room: &mut [u8; ROOM], end: usize) -> Option<usize>
     }
 }
 
-/// So the name of a case, after a `%` where it is a keyword.
+/// So the name of a case, after a `%` where it is a keyword. It stands apart, so that the loop over numbers
+/// keeps its registers.
+#[inline(never)]
 fn put_case(case: &str, room: &mut [u8; ROOM], end: usize) -> Option<usize>
     requires { end ≤ 368 }
     ensures within { IfSome result (λ start. start ≤ end) }

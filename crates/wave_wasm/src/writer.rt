@@ -343,14 +343,13 @@ impl<W: TextWrite> Writer<W> {
         requires { kind_of (V.tree val.now) ≡ WasmTypeKind.Flags }
         ensures { Writes (text (V.tree val.now)) (has_text (V.tree val.now)) result (W.output self.old) (W.output self.new) }
     {
-        let names = val.unwrap_flags(alloc)?;
         let mut gathered = Gathered::new();
+        let names = val.unwrap_flags(alloc)?;
         gathered.gather(&mut self.out, "{")?;
         let mut later = false;
         for name in &names {
-            gathered.gather_separator(&mut self.out, later)?;
+            gathered.gather_item(&mut self.out, later, *name)?;
             later = true;
-            gathered.gather(&mut self.out, *name)?;
         }
         gathered.gather(&mut self.out, "}")?;
         self.write_text(gathered.as_str())

@@ -37,6 +37,10 @@ pub put_behind : (text room new : List ℕ) (end : ℕ) → take end new ≡ tak
 put_behind text room new end a b =
     take-add end (length text) new ∙ (ap (λ z. z ++ take (length text) (drop end new)) a ∙ ap (λ z. take end room ++ z) (ap (take (length text)) b ∙ take_at text (drop (end + length text) room) (length text) refl))
 
+-- so two texts in turn
+pub put_both : (one more room next new : List ℕ) (end : ℕ) → take (end + length one) next ≡ take end room ++ one → take (end + length one + length more) new ≡ take (end + length one) next ++ more → take (end + length one + length more) new ≡ take end room ++ (one ++ more)
+put_both one more room next new end a b = b ∙ (ap (λ z. z ++ more) a ∙ append_assoc (take end room) one more)
+
 -- ---- texts that are gathered
 
 -- of the text `whole`, all but what is gathered and `rest` was taken
@@ -50,8 +54,10 @@ pub gathering_start : {whole gathered : List ℕ} (rest : List ℕ) (old : Outpu
 gathering_start {whole} rest old none is = writing_as (is ∙ ap (λ z. z ++ rest) (sym none)) (writing_none whole old)
 
 -- what is left to write begins with the next item
-pub gathering_item : {X : Type 0} (f : X → List ℕ) (xs : List X) (i : ℕ) (d : X) (gathered : List ℕ) {whole : List ℕ} (later : Bool) (close : List ℕ) {old now : Output} → i < length xs → Writing whole (gathered ++ (parted later (map f (drop i xs)) ++ close)) old now → Writing whole (gathered ++ (comma_if later ++ (f (get_or xs i d) ++ (parted true (map f (drop (i + 1) xs)) ++ close)))) old now
-gathering_item f xs i d gathered later close lt w = writing_as (ap (λ z. gathered ++ z) (parted_item f xs i (get_or xs i d) later close lt (item_again xs i d lt))) w
+pub gathering_item : {X : Type 0} (f : X → List ℕ) (xs : List X) (i : ℕ) (d : X) (gathered : List ℕ) {whole : List ℕ} (later : Bool) (close : List ℕ) {old now : Output} → i < length xs → Writing whole (gathered ++ (parted later (map f (drop i xs)) ++ close)) old now → Writing whole (gathered ++ ((comma_if later ++ f (get_or xs i d)) ++ (parted true (map f (drop (i + 1) xs)) ++ close))) old now
+gathering_item f xs i d gathered later close lt w =
+    let begins = parted_item f xs i (get_or xs i d) later close lt (item_again xs i d lt) ∙ sym (append_assoc (comma_if later) (f (get_or xs i d)) (parted true (map f (drop (i + 1) xs)) ++ close)) in
+    writing_as (ap (λ z. gathered ++ z) begins) w
 
 -- after the last item only the close is left
 pub gathering_close : {X : Type 0} (f : X → List ℕ) (xs : List X) (i : ℕ) (gathered : List ℕ) {whole : List ℕ} (later : Bool) (close : List ℕ) {old now : Output} → length xs ≤ i → Writing whole (gathered ++ (parted later (map f (drop i xs)) ++ close)) old now → Writing whole (gathered ++ (close ++ [])) old now

@@ -42,7 +42,7 @@ label_utf8 name u = elim (cases_Bool (is_keyword name)) [
   | inr f ↦ rw f u
 ]
 
-comma_utf8 : (rest : List ℕ) → IsUtf8 rest → IsUtf8 (codes ", " ++ rest)
+pub comma_utf8 : (rest : List ℕ) → IsUtf8 rest → IsUtf8 (codes ", " ++ rest)
 comma_utf8 rest u = IsUtf8-append (codes ", ") rest (IsUtf8-from_ascii (codes ", ") (IsAscii-cons 44 (32 ∷ []) (omega arith) (IsAscii-cons 32 [] (omega arith) IsAscii-nil))) u
 
 -- ---- a row

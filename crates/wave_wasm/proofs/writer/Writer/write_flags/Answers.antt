@@ -23,30 +23,24 @@ loop-name-init g c =
     let whole = flags_text _ names c.requires (ap (map text_of) c.deref-name-items.ensures.value ∙ c.in_ok-names.ensures) ∙ ap (λ z. codes "{" ++ (z ++ codes "}")) (sym (parted_joined names)) in
     writing_gathered _ (gathering_start _ _ c.new-gathered.ensures whole) (rw c.self.view_is at c.in_ok-gather.ensures.ok)
 
-pub returns-in_err-gather_separator : goal.returns-in_err-gather_separator
-returns-in_err-gather_separator g c =
-    let p = err_from_is_err_and c.from_residual-in_err-gather_separator.result c.from_residual-in_err-gather_separator.ensures.1 in
+pub returns-in_err-gather_item : goal.returns-in_err-gather_item
+returns-in_err-gather_item g c =
+    let p = err_from_is_err_and c.from_residual-in_err-gather_item.result c.from_residual-in_err-gather_item.ensures.1 in
     let w = gathering_item text_of c.deref-name-items.result.now c.loop-name.name-index no_name _ _ _ c.loop-name-test.true c.loop-name.invariant in
-    rw (p.1, p.2) (gathered_refused c.loop-name.gathered _ _ w c.in_err-gather_separator.ensures.err)
-
-pub returns-in_err-gather-2 : goal.returns-in_err-gather-2
-returns-in_err-gather-2 g c =
-    let p = err_from_is_err_and c.from_residual-in_err-gather-2.result c.from_residual-in_err-gather-2.ensures.1 in
-    let w = gathering_item text_of c.deref-name-items.result.now c.loop-name.name-index no_name _ _ _ c.loop-name-test.true c.loop-name.invariant in
-    rw (p.1, p.2) (gathered_refused c.gather_separator.new.self _ _ (writing_gathered _ w c.in_ok-gather_separator.ensures.ok) c.in_err-gather-2.ensures.err)
+    rw (p.1, p.2) (gathered_refused c.loop-name.gathered _ _ w c.in_err-gather_item.ensures.err)
 
 pub loop-name-preserved : goal.loop-name-preserved
 loop-name-preserved g c =
     let w = gathering_item text_of c.deref-name-items.result.now c.loop-name.name-index no_name _ _ _ c.loop-name-test.true c.loop-name.invariant in
-    writing_gathered _ (writing_gathered _ w c.in_ok-gather_separator.ensures.ok) c.in_ok-gather-2.ensures.ok
+    writing_gathered _ w c.in_ok-gather_item.ensures.ok
 
-pub returns-in_err-gather-3 : goal.returns-in_err-gather-3
-returns-in_err-gather-3 g c =
-    let p = err_from_is_err_and c.from_residual-in_err-gather-3.result c.from_residual-in_err-gather-3.ensures.1 in
+pub returns-in_err-gather-2 : goal.returns-in_err-gather-2
+returns-in_err-gather-2 g c =
+    let p = err_from_is_err_and c.from_residual-in_err-gather-2.result c.from_residual-in_err-gather-2.ensures.1 in
     let w = gathering_close text_of c.deref-name-items.result.now c.loop-name.name-index _ _ (codes "}") c.loop-name-test.false c.loop-name.invariant in
-    rw (p.1, p.2) (gathered_refused c.loop-name.gathered (codes "}") _ w c.in_err-gather-3.ensures.err)
+    rw (p.1, p.2) (gathered_refused c.loop-name.gathered (codes "}") _ w c.in_err-gather-2.ensures.err)
 
 pub returns : goal.returns
 returns g c =
     let w = gathering_close text_of c.deref-name-items.result.now c.loop-name.name-index _ _ (codes "}") c.loop-name-test.false c.loop-name.invariant in
-    writing_last (gathered_all (writing_gathered [] w c.in_ok-gather-3.ensures.ok)) (flags_writable _ c.requires) (rw c.as_str.ensures at c.write_text.ensures)
+    writing_last (gathered_all (writing_gathered [] w c.in_ok-gather-2.ensures.ok)) (flags_writable _ c.requires) (rw c.as_str.ensures at c.write_text.ensures)
