@@ -7,7 +7,10 @@ ghost use Rattle.wave_wasm.specs.Borrowed.{texts, named};
 ghost use Rattle.wave_type.specs.Private.TypeModel.{IsSimple};
 ghost use Rattle.wave_type.specs.TypeConstructors.{simple_type, record_type, tuple_type, variant_type, enum_type, flags_type, map_type};
 
-use self::distinct::{cases_are_distinct, fields_are_distinct};
+use self::distinct::{
+    cases_are_distinct, fields_are_distinct, names_are_distinct, payload_is_distinct,
+    types_are_distinct,
+};
 use self::index::first_places;
 use std::alloc::{AllocError, Global};
 use std::collections::BTreeMap;
@@ -40,24 +43,24 @@ enum SimpleType {
     String,
 }
 
-// Beside names stands where each of them stands first, and beside fields and cases whether no name
-// stands twice within the type, their own types included.
+// Beside names stands where each of them stands first, and beside parts whether no name stands
+// twice within the type, the parts' own types included.
 #[cycle(types)]
 #[derive(Debug, Drop)]
 enum Shape {
     Simple(SimpleType),
     F32,
     F64,
-    List(Rc<Type>),
-    FixedLengthList(Rc<(Type, u32)>),
+    List(Rc<(Type, bool)>),
+    FixedLengthList(Rc<(Type, u32, bool)>),
     Record(Rc<(Vec<(String, Type)>, BTreeMap<String, usize>, bool)>),
-    Tuple(Rc<Vec<Type>>),
+    Tuple(Rc<(Vec<Type>, bool)>),
     Variant(Rc<(Vec<(String, Option<Type>)>, BTreeMap<String, usize>, bool)>),
     Enum(Rc<(Vec<String>, BTreeMap<String, usize>)>),
-    Option(Rc<Type>),
-    Result(Rc<(Option<Type>, Option<Type>)>),
+    Option(Rc<(Type, bool)>),
+    Result(Rc<(Option<Type>, Option<Type>, bool)>),
     Flags(Rc<(Vec<String>, BTreeMap<String, usize>)>),
-    Map(Rc<(Type, Type)>),
+    Map(Rc<(Type, Type, bool)>),
 }
 
 /// A type of component values. Its parts are shared by its clones.
@@ -197,8 +200,9 @@ impl Type {
         ensures { IfOk result (λ t. t ≡ type.list element) }
     {
         let _ = &element.shape;
+        let distinct = names_are_distinct(&element);
         Ok(Type {
-            shape: Shape::List(Rc::new(alloc, element)?),
+            shape: Shape::List(Rc::new(alloc, (element, distinct))?),
         })
     }
 
@@ -208,8 +212,9 @@ impl Type {
         ensures { IfOk result (λ t. t ≡ type.fixed element count) }
     {
         let _ = &element.shape;
+        let distinct = names_are_distinct(&element);
         Ok(Type {
-            shape: Shape::FixedLengthList(Rc::new(alloc, (element, count))?),
+            shape: Shape::FixedLengthList(Rc::new(alloc, (element, count, distinct))?),
         })
     }
 
@@ -218,8 +223,9 @@ impl Type {
         ensures { IfOk result (λ t. t ≡ type.option some) }
     {
         let _ = &some.shape;
+        let distinct = names_are_distinct(&some);
         Ok(Type {
-            shape: Shape::Option(Rc::new(alloc, some)?),
+            shape: Shape::Option(Rc::new(alloc, (some, distinct))?),
         })
     }
 
@@ -230,8 +236,9 @@ impl Type {
     {
         payload_is_own(&ok);
         payload_is_own(&err);
+        let distinct = payload_is_distinct(&ok) && payload_is_distinct(&err);
         Ok(Type {
-            shape: Shape::Result(Rc::new(alloc, (ok, err))?),
+            shape: Shape::Result(Rc::new(alloc, (ok, err, distinct))?),
         })
     }
 
@@ -244,8 +251,9 @@ impl Type {
             return Ok(None);
         }
         are_own(&types);
+        let distinct = types_are_distinct(&types);
         Ok(Some(Type {
-            shape: Shape::Tuple(Rc::new(alloc, types)?),
+            shape: Shape::Tuple(Rc::new(alloc, (types, distinct))?),
         }))
     }
 
@@ -334,8 +342,9 @@ impl Type {
             return Ok(None);
         }
         let _ = &value.shape;
+        let distinct = names_are_distinct(&value);
         Ok(Some(Type {
-            shape: Shape::Map(Rc::new(alloc, (key, value))?),
+            shape: Shape::Map(Rc::new(alloc, (key, value, distinct))?),
         }))
     }
 

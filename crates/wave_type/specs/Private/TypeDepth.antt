@@ -1,5 +1,5 @@
 -- Each part of a `Type` has a tree of less depth.
-use Rattle.std.specs.Prelude.{ℕ, suc, ◌≤◌, max, List, [], ◌∷◌, map, String, Option, Some, None}
+use Rattle.std.specs.Prelude.{ℕ, suc, ◌≤◌, max, Bool, List, [], ◌∷◌, map, String, Option, Some, None}
 use Rattle.std.proofs.Common.{arith, ◌+◌}
 use Rattle.wave_type.specs.declared.ty.Shape.{Shape}
 use Rattle.wave_type.specs.declared.ty.Shape.TheVariants as shapes
@@ -29,8 +29,8 @@ cases_most μ none some [] = omega arith
 cases_most μ none some ((n, None) ∷ cs) = omega (arith, none n, cases_most μ none some cs)
 cases_most μ none some ((n, Some t) ∷ cs) = omega (arith, some n t, cases_most μ none some cs)
 
-result_falls : (r : Rc (Option TypeTree × Option TypeTree) Global) (a b : Option TypeTree)
-    → let s = shapes.Result (record r { value = (a, b) }) in max (deep-Shape s) 0 ≤ depth (shape_tree s)
+result_falls : (r : Rc (Option TypeTree × Option TypeTree × Bool) Global) (a b : Option TypeTree)
+    → let s = shapes.Result (record r { value = (a, b, r.value.2) }) in max (deep-Shape s) 0 ≤ depth (shape_tree s)
 result_falls r None None = omega arith
 result_falls r None (Some u) = omega arith
 result_falls r (Some t) None = omega arith
@@ -47,7 +47,7 @@ deep_le-depth shapes.F64 h = omega arith
 deep_le-depth (shapes.List e) h = omega arith
 deep_le-depth (shapes.FixedLengthList p) h = omega arith
 deep_le-depth (shapes.Record fs) h = three_max (fields_most fs.value.0.items)
-deep_le-depth (shapes.Tuple ts) h = omega (arith, types_most ts.value.items)
+deep_le-depth (shapes.Tuple ts) h = omega (arith, types_most ts.value.0.items)
 deep_le-depth (shapes.Variant cs) h = three_max (cases_most _ (λ n. omega arith) (λ n t. omega arith) cs.value.0.items)
 deep_le-depth (shapes.Enum ns) h = omega arith
 deep_le-depth (shapes.Option t) h = omega arith

@@ -17,13 +17,13 @@ abbrev pub shape_tree : Shape → TypeTree
 shape_tree (shapes.Simple S) = type.simple (simple_of S)
 shape_tree shapes.F32 = type.unreadable type.f32
 shape_tree shapes.F64 = type.unreadable type.f64
-shape_tree (shapes.List E) = type.list E.value
+shape_tree (shapes.List E) = type.list E.value.0
 shape_tree (shapes.FixedLengthList p) = type.fixed p.value.0 p.value.1
 shape_tree (shapes.Record fs) = type.record_type (fields_of (map by_bytes fs.value.0.items))
-shape_tree (shapes.Tuple Ts) = type.tuple (types_of Ts.value.items)
+shape_tree (shapes.Tuple Ts) = type.tuple (types_of Ts.value.0.items)
 shape_tree (shapes.Variant cs) = type.variant (cases_of (map by_bytes cs.value.0.items))
 shape_tree (shapes.Enum ns) = type.enum (map string_bytes ns.value.0.items)
-shape_tree (shapes.Option P) = type.option P.value
+shape_tree (shapes.Option P) = type.option P.value.0
 shape_tree (shapes.Result r) = type.result (maybe_type r.value.0) (maybe_type r.value.1)
 shape_tree (shapes.Flags ns) = type.flags (map string_bytes ns.value.0.items)
 shape_tree (shapes.Map m) = type.map (simple_or_bool m.value.0) m.value.1
@@ -46,10 +46,16 @@ HasFirstPlaces (shapes.Enum ns) = AreFirstPlaces ns.value.1 (map string_bytes ns
 HasFirstPlaces (shapes.Flags ns) = AreFirstPlaces ns.value.1 (map string_bytes ns.value.0.items)
 HasFirstPlaces _ = Unit {0}
 
--- beside fields and cases stands whether no name stands twice within the type
+-- beside parts stands whether no name stands twice within the type
 abbrev pub TellsDistinct : Shape → Type 0
-TellsDistinct (shapes.Record fs) = IsTrue fs.value.2 ↔ HasDistinctNames (type.record_type (fields_of (map by_bytes fs.value.0.items)))
-TellsDistinct (shapes.Variant cs) = IsTrue cs.value.2 ↔ HasDistinctNames (type.variant (cases_of (map by_bytes cs.value.0.items)))
+TellsDistinct (shapes.List E) = IsTrue E.value.1 ↔ HasDistinctNames (shape_tree (shapes.List E))
+TellsDistinct (shapes.FixedLengthList p) = IsTrue p.value.2 ↔ HasDistinctNames (shape_tree (shapes.FixedLengthList p))
+TellsDistinct (shapes.Record fs) = IsTrue fs.value.2 ↔ HasDistinctNames (shape_tree (shapes.Record fs))
+TellsDistinct (shapes.Tuple Ts) = IsTrue Ts.value.1 ↔ HasDistinctNames (shape_tree (shapes.Tuple Ts))
+TellsDistinct (shapes.Variant cs) = IsTrue cs.value.2 ↔ HasDistinctNames (shape_tree (shapes.Variant cs))
+TellsDistinct (shapes.Option P) = IsTrue P.value.1 ↔ HasDistinctNames (shape_tree (shapes.Option P))
+TellsDistinct (shapes.Result r) = IsTrue r.value.2 ↔ HasDistinctNames (shape_tree (shapes.Result r))
+TellsDistinct (shapes.Map m) = IsTrue m.value.2 ↔ HasDistinctNames (shape_tree (shapes.Map m))
 TellsDistinct _ = Unit {0}
 
 -- the shape is of a tree that a `Type` can have

@@ -63,7 +63,7 @@ fn write_type<W: fmt::Write>(f: &mut fmt::Formatter<W>, ty: &Type) -> fmt::Resul
         Shape::F64 => write!(f, "f64"),
         Shape::List(element) => {
             write!(f, "list<")?;
-            write_type(f, element)?;
+            write_type(f, &element.0)?;
             write!(f, ">")
         }
         Shape::FixedLengthList(parts) => {
@@ -78,7 +78,7 @@ fn write_type<W: fmt::Write>(f: &mut fmt::Formatter<W>, ty: &Type) -> fmt::Resul
         }
         Shape::Tuple(types) => {
             write!(f, "tuple<")?;
-            write_types(f, types)?;
+            write_types(f, &types.0)?;
             write!(f, ">")
         }
         Shape::Variant(cases) => {
@@ -93,7 +93,7 @@ fn write_type<W: fmt::Write>(f: &mut fmt::Formatter<W>, ty: &Type) -> fmt::Resul
         }
         Shape::Option(some) => {
             write!(f, "option<")?;
-            write_type(f, some)?;
+            write_type(f, &some.0)?;
             write!(f, ">")
         }
         Shape::Result(payloads) => write_result(f, &payloads.0, &payloads.1),

@@ -1,4 +1,4 @@
-//! Whether no name stands twice within a type, seen without a walk over the names.
+//! Whether no name stands twice within a type: found once, from its parts, when it is made.
 ghost use Rattle.std.specs.Prelude.{◌↔◌, IsTrue, map, string_bytes};
 ghost use Rattle.wave_wasm.specs.Names.{AreDistinct};
 ghost use Rattle.wave_wasm.specs.Types as type;
@@ -10,30 +10,27 @@ use super::index::are_distinct;
 use super::{Shape, Type};
 use std::collections::BTreeMap;
 
-// Whether no name stands twice within the type. A record and a variant know it.
-#[cycle(distinct)]
+// Whether no name stands twice within the type, in one step: a type with parts keeps it.
 pub(super) fn names_are_distinct(ty: &Type) -> bool
     ensures { IsTrue result ↔ HasDistinctNames ty.now }
 {
     match &ty.shape {
         Shape::Simple(_) | Shape::F32 | Shape::F64 => true,
-        Shape::List(element) => names_are_distinct(&**element),
-        Shape::FixedLengthList(parts) => names_are_distinct(&parts.0),
+        Shape::List(element) => element.1,
+        Shape::FixedLengthList(parts) => parts.2,
         Shape::Record(fields) => fields.2,
-        Shape::Tuple(types) => types_are_distinct(&**types),
+        Shape::Tuple(types) => types.1,
         Shape::Variant(cases) => cases.2,
         Shape::Enum(names) => are_distinct(&names.0, &names.1),
-        Shape::Option(some) => names_are_distinct(&**some),
-        Shape::Result(payloads) => payload_is_distinct(&payloads.0)
-            && payload_is_distinct(&payloads.1),
+        Shape::Option(some) => some.1,
+        Shape::Result(payloads) => payloads.2,
         Shape::Flags(names) => are_distinct(&names.0, &names.1),
-        Shape::Map(types) => names_are_distinct(&types.1),
+        Shape::Map(types) => types.2,
     }
 }
 
 // So within each type of a tuple.
-#[cycle(distinct)]
-fn types_are_distinct(types: &Vec<Type>) -> bool
+pub(super) fn types_are_distinct(types: &Vec<Type>) -> bool
     ensures { IsTrue result ↔ EachNamesOfTypes AreDistinct (types_of types.now.items) }
 {
     for ty in types.iter() {
@@ -45,8 +42,7 @@ fn types_are_distinct(types: &Vec<Type>) -> bool
 }
 
 // So within a payload's type, where there is one.
-#[cycle(distinct)]
-fn payload_is_distinct(payload: &Option<Type>) -> bool
+pub(super) fn payload_is_distinct(payload: &Option<Type>) -> bool
     ensures { IsTrue result ↔ EachNamesOfMaybe AreDistinct (maybe_type payload.now) }
 {
     match payload {

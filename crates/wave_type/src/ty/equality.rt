@@ -18,15 +18,15 @@ impl PartialEq for Type {
             (Shape::Simple(a), Shape::Simple(b)) => *a == *b,
             (Shape::F32, Shape::F32) => true,
             (Shape::F64, Shape::F64) => true,
-            (Shape::List(a), Shape::List(b)) => **a == **b,
+            (Shape::List(a), Shape::List(b)) => a.0 == b.0,
             (Shape::FixedLengthList(a), Shape::FixedLengthList(b)) => a.1 == b.1 && a.0 == b.0,
             (Shape::Record(a), Shape::Record(b)) => same_fields(&a.0, &b.0),
-            (Shape::Tuple(a), Shape::Tuple(b)) => same_types(a, b),
+            (Shape::Tuple(a), Shape::Tuple(b)) => same_types(&a.0, &b.0),
             (Shape::Variant(a), Shape::Variant(b)) => same_cases(&a.0, &b.0),
             (Shape::Result(a), Shape::Result(b)) => same_payload(&a.0, &b.0)
                 && same_payload(&a.1, &b.1),
             (Shape::Enum(a), Shape::Enum(b)) => same_names(&a.0, &b.0),
-            (Shape::Option(a), Shape::Option(b)) => **a == **b,
+            (Shape::Option(a), Shape::Option(b)) => a.0 == b.0,
             (Shape::Flags(a), Shape::Flags(b)) => same_names(&a.0, &b.0),
             (Shape::Map(a), Shape::Map(b)) => a.0 == b.0 && a.1 == b.1,
             (Shape::Simple(_), _)

@@ -32,13 +32,13 @@ fn names_pass(ty: &Type) -> bool
 {
     match &ty.shape {
         Shape::Simple(_) | Shape::F32 | Shape::F64 => true,
-        Shape::List(element) => names_pass(&**element),
+        Shape::List(element) => names_pass(&element.0),
         Shape::FixedLengthList(parts) => names_pass(&parts.0),
         Shape::Record(fields) => are_label_names(&fields.0, &fields.1) && fields_pass(&fields.0),
-        Shape::Tuple(types) => types_pass(&**types),
+        Shape::Tuple(types) => types_pass(&types.0),
         Shape::Variant(cases) => are_label_names(&cases.0, &cases.1) && cases_pass(&cases.0),
         Shape::Enum(names) => are_label_names(&names.0, &names.1),
-        Shape::Option(some) => names_pass(&**some),
+        Shape::Option(some) => names_pass(&some.0),
         Shape::Result(payloads) => payload_passes(&payloads.0) && payload_passes(&payloads.1),
         Shape::Flags(names) => are_label_names(&names.0, &names.1),
         Shape::Map(types) => names_pass(&types.1),

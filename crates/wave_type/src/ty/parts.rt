@@ -42,7 +42,7 @@ impl WasmType for Type {
 
     fn list_element_type(&self) -> Option<&Type> {
         match &self.shape {
-            Shape::List(element) => Some(&**element),
+            Shape::List(element) => Some(&element.0),
             Shape::FixedLengthList(parts) => Some(&parts.0),
             _ => None,
         }
@@ -64,7 +64,7 @@ impl WasmType for Type {
 
     fn tuple_element_types(&self, alloc: Global) -> Result<Vec<&Type>, AllocError> {
         match &self.shape {
-            Shape::Tuple(types) => borrowed_types(alloc, types),
+            Shape::Tuple(types) => borrowed_types(alloc, &types.0),
             _ => Ok(Vec::new(alloc)),
         }
     }
@@ -85,7 +85,7 @@ impl WasmType for Type {
 
     fn option_some_type(&self) -> Option<&Type> {
         match &self.shape {
-            Shape::Option(some) => Some(&**some),
+            Shape::Option(some) => Some(&some.0),
             _ => None,
         }
     }

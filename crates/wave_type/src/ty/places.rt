@@ -65,8 +65,8 @@ pub fn flag_place(ty: &Type, name: &str) -> Option<usize>
     }
 }
 
-/// Whether within each record, variant, enum and flags of the type no name stands twice, seen
-/// without a walk over the names.
+/// Whether within each record, variant, enum and flags of the type no name stands twice. It
+/// takes one step.
 pub fn has_distinct_names(ty: &Type) -> bool
     ensures { IsTrue result ↔ HasDistinctNames ty.now }
 {
@@ -127,7 +127,7 @@ pub fn tuple_types(ty: &Type) -> Option<&Vec<Type>>
     ensures { option_map (λ ts. types_of ts.now.items) result ≡ tuple_part ty.now }
 {
     match &ty.shape {
-        Shape::Tuple(types) => Some(&**types),
+        Shape::Tuple(types) => Some(&types.0),
         _ => None,
     }
 }

@@ -9,9 +9,6 @@ use Rattle.wave_type.specs.declared.ty.Type.TheDeep.{size-Type}
 use Rattle.wave_type.proofs.ty.Type.+types.Goals as goal
 use denote.Param.Weighed.{most}
 
-below : {a t : ℕ} (b : ℕ) → a ≤ 2 * b → 2 * b < t → a < t
-below b p q = omega arith
-
 -- beside what holds no type
 beside : {a t : ℕ} (b : ℕ) → a ≤ 2 * b → 2 * b < t → max a 0 < t
 beside b p q = omega arith
@@ -35,7 +32,7 @@ drop-requires-2 t c κs =
 
 pub drop-requires-3 : goal.drop-requires-3
 drop-requires-3 t c κs =
-    (((below _ (types_most _) (omega (arith, ap depth c.self.view_is, ap (λ s. depth (shape_tree s)) c.drop-arg-4-1.given.1)), tt), tt), search rules)
+    (((beside _ (types_most _) (omega (arith, ap depth c.self.view_is, ap (λ s. depth (shape_tree s)) c.drop-arg-4-1.given.1)), tt), tt), search rules)
 
 pub drop-requires-4 : goal.drop-requires-4
 drop-requires-4 t c κs =

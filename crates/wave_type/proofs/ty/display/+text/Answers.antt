@@ -52,7 +52,7 @@ pub write_type-returns-in_ok-write_type-in-List : goal.write_type-returns-in_ok-
 write_type-returns-in_ok-write_type-in-List g t c = λ p ok.
     let took = g.W.Write.write_str_gives in
     let first : HasWritten took c.args.f.now (codes "list<") c.write-in-List.new.self = c.in_ok-write-in-List.ensures.writes p (refl {a = true}) in
-    let second : HasWritten took c.write-in-List.new.self (type_text c.deref.result.now) c.write_type.new.f = c.in_ok-write_type-in-List.ensures first.plain (refl {a = true}) in
+    let second : HasWritten took c.write-in-List.new.self (type_text c.deref.result.now.0) c.write_type.new.f = c.in_ok-write_type-in-List.ensures first.plain (refl {a = true}) in
     let third : HasWritten took c.write_type.new.f (codes ">") c.write-in-List-2.new.self = c.write-in-List-2.ensures.writes second.plain ok in
     put_three took _ _ _ _ _ _ _ _ first second third (search rules)
 
@@ -60,7 +60,7 @@ pub write_type-returns-in_ok-write_type-in-Option : goal.write_type-returns-in_o
 write_type-returns-in_ok-write_type-in-Option g t c = λ p ok.
     let took = g.W.Write.write_str_gives in
     let first : HasWritten took c.args.f.now (codes "option<") c.write-in-Option.new.self = c.in_ok-write-in-Option.ensures.writes p (refl {a = true}) in
-    let second : HasWritten took c.write-in-Option.new.self (type_text c.deref-in-Option.result.now) c.write_type-in-Option.new.f = c.in_ok-write_type-in-Option.ensures first.plain (refl {a = true}) in
+    let second : HasWritten took c.write-in-Option.new.self (type_text c.deref-in-Option.result.now.0) c.write_type-in-Option.new.f = c.in_ok-write_type-in-Option.ensures first.plain (refl {a = true}) in
     let third : HasWritten took c.write_type-in-Option.new.f (codes ">") c.write-in-Option-2.new.self = c.write-in-Option-2.ensures.writes second.plain ok in
     put_three took _ _ _ _ _ _ _ _ first second third (search rules)
 
@@ -77,7 +77,7 @@ pub write_type-returns-in_ok-write_types-in-Tuple : goal.write_type-returns-in_o
 write_type-returns-in_ok-write_types-in-Tuple g t c = λ p ok.
     let took = g.W.Write.write_str_gives in
     let first : HasWritten took c.args.f.now (codes "tuple<") c.write-in-Tuple.new.self = c.in_ok-write-in-Tuple.ensures.writes p (refl {a = true}) in
-    let second : HasWritten took c.write-in-Tuple.new.self (joined (type_texts (types_of c.deref-in-Tuple.result.now.items))) c.write_types.new.f = c.in_ok-write_types-in-Tuple.ensures first.plain (refl {a = true}) in
+    let second : HasWritten took c.write-in-Tuple.new.self (joined (type_texts (types_of c.deref-in-Tuple.result.now.0.items))) c.write_types.new.f = c.in_ok-write_types-in-Tuple.ensures first.plain (refl {a = true}) in
     let third : HasWritten took c.write_types.new.f (codes ">") c.write-in-Tuple-2.new.self = c.write-in-Tuple-2.ensures.writes second.plain ok in
     put_three took _ _ _ _ _ _ _ _ first second third (search rules)
 
