@@ -36,20 +36,19 @@ pub fn enum_name(ty: &Type, place: usize) -> &str
     ensures { result.now ≡ get_or (enum_names ty.now) place [] }
 {
     match &ty.shape {
-        Shape::Enum(names) => name_in(&names.0, place),
+        Shape::Enum(names) => name_in(names.0.as_slice(), place),
         _ => "",
     }
 }
 
-/// The name of the flag at this place, counted from zero; no text past the last flag, and where
-/// the type is none of flags.
+/// The names of flags in their order; none where the type is none of flags.
 #[tactic(auto, using(crate::proofs::TypeTrees::Lists::families))]
-pub fn flag_name(ty: &Type, place: usize) -> &str
-    ensures { result.now ≡ get_or (flags_names ty.now) place [] }
+pub fn flags_in(ty: &Type) -> &[String]
+    ensures { map string_bytes result.now ≡ flags_names ty.now }
 {
     match &ty.shape {
-        Shape::Flags(names) => name_in(&names.0, place),
-        _ => "",
+        Shape::Flags(names) => names.0.as_slice(),
+        _ => &[],
     }
 }
 
@@ -92,20 +91,19 @@ pub fn variant_name(ty: &Type, place: usize) -> &str
     ensures { result.now ≡ get_or (map (λ c. c.0) (variant_parts ty.now)) place [] }
 {
     match &ty.shape {
-        Shape::Variant(cases) => part_name(&cases.0, place),
+        Shape::Variant(cases) => part_name(cases.0.as_slice(), place),
         _ => "",
     }
 }
 
-/// The name of the field at this place of a record, counted from zero; no text past the last
-/// field, and where the type is no record.
+/// The names and types of a record's fields in their order; none where the type is no record.
 #[tactic(auto, using(crate::proofs::TypeTrees::Lists::families))]
-pub fn field_name(ty: &Type, place: usize) -> &str
-    ensures { result.now ≡ get_or (map (λ f. f.0) (record_parts ty.now)) place [] }
+pub fn fields_in(ty: &Type) -> &[(String, Type)]
+    ensures { map by_bytes result.now ≡ record_parts ty.now }
 {
     match &ty.shape {
-        Shape::Record(fields) => part_name(&fields.0, place),
-        _ => "",
+        Shape::Record(fields) => fields.0.as_slice(),
+        _ => &[],
     }
 }
 
@@ -143,9 +141,9 @@ pub fn named_types(ty: &Type) -> Option<&Vec<(String, Type)>>
     }
 }
 
-// The name at the place, and no text past the end.
-fn name_in(names: &Vec<String>, place: usize) -> &str
-    ensures { result.now ≡ get_or (map string_bytes names.now.items) place [] }
+/// The name at this place, counted from zero; no text past the last one.
+pub fn name_in(names: &[String], place: usize) -> &str
+    ensures { result.now ≡ get_or (map string_bytes names.now) place [] }
 {
     if place >= names.len() {
         return "";
@@ -154,9 +152,9 @@ fn name_in(names: &Vec<String>, place: usize) -> &str
     name.as_str()
 }
 
-// The name of the field or case at the place, and no text past the end.
-fn part_name<A>(parts: &Vec<(String, A)>, place: usize) -> &str
-    ensures { result.now ≡ get_or (map (λ p. p.0) (map by_bytes parts.now.items)) place [] }
+/// The name of the field or case at this place, counted from zero; no text past the last one.
+pub fn part_name<A>(parts: &[(String, A)], place: usize) -> &str
+    ensures { result.now ≡ get_or (map (λ p. p.0) (map by_bytes parts.now)) place [] }
 {
     if place >= parts.len() {
         return "";

@@ -8,7 +8,7 @@ ghost use Rattle.wave_value.specs.Private.ContentEquality.{same_all, same_pairs,
 
 use super::{Content, Type, Value};
 use std::boxed::Box;
-use wave_type::ty::places::{enum_name, flag_name, variant_name};
+use wave_type::ty::places::{enum_name, flags_in, name_in, variant_name};
 
 impl PartialEq for Value {
     ghost use Rattle.wave_value.specs.ValueEquality.{same_typed, typed_per};
@@ -124,8 +124,9 @@ fn same_flags(own: &Type, a: &Vec<usize>, b: &Vec<usize>) -> bool
     if a.len() != b.len() {
         return false;
     }
+    let names = flags_in(own);
     for i in 0..a.len() {
-        if flag_name(own, a[i]) != flag_name(own, b[i]) {
+        if name_in(names, a[i]) != name_in(names, b[i]) {
             return false;
         }
     }

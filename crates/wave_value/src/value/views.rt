@@ -13,7 +13,7 @@ ghost use Rattle.wave_value.specs.RecordConstructor.{TakesRecord};
 
 use super::{Content, Type, Value};
 use std::alloc::{AllocError, Global};
-use wave_type::ty::places::{enum_name, field_name, flag_name, variant_name};
+use wave_type::ty::places::{enum_name, fields_in, flags_in, name_in, part_name, variant_name};
 use wave_wasm::wasm::WasmTypeKind;
 
 #[tactic(auto, using(crate::proofs::ValueModel::Lists::value_families))]
@@ -156,9 +156,10 @@ fn borrowed_flags<'a>(
 ) -> Result<Vec<&'a str>, AllocError>
     ensures { IfOk result (λ v. texts v.items ≡ map (name_at (flags_names own.now)) places.now.items) }
 {
+    let names = flags_in(own);
     let mut answer = Vec::with_capacity(alloc, places.len())?;
     for place in places {
-        answer.push(flag_name(own, *place))?;
+        answer.push(name_in(names, *place))?;
     }
     Ok(answer)
 }
@@ -173,9 +174,10 @@ fn borrowed_fields<'a>(
         (λ v. shown_fields (λ w. w.tree) v.items ≡ beside (first_names (record_parts own.now)) (trees values.now.items)) }
     ensures values { IfOk result (λ v. map (λ f. f.1.now) v.items ≡ values.now.items) }
 {
+    let fields = fields_in(own);
     let mut answer = Vec::with_capacity(alloc, values.len())?;
     for i in 0..values.len() {
-        answer.push((field_name(own, i), &values[i]))?;
+        answer.push((part_name(fields, i), &values[i]))?;
     }
     Ok(answer)
 }
