@@ -285,12 +285,14 @@ impl<'ty, V: WasmValue> Frame<'ty, V::Type, V> {
             → AreKeptWhereExpected V.Type.tree V.tree V.is_of V.is_full w expected source ty children self.entry
             → IsReadSparing V.tree V.is_of V.is_full in_text w expected source (node ty span (node_trees children)) result }
     {
-        let place = span.start..span.end;
         let Frame { around: ty, parts } = self;
-        let built = parts.whole(alloc, span);
         match ty {
-            Some(ty) => wrap(alloc, ty, place, built),
-            None => built,
+            Some(ty) => {
+                let place = span.start..span.end;
+                let built = parts.whole(alloc, span);
+                wrap(alloc, ty, place, built)
+            }
+            None => parts.whole(alloc, span),
         }
     }
 }

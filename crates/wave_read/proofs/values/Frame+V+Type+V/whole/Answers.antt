@@ -23,9 +23,14 @@ returns-in-Some g c = λ w expected source ty children kept. (
   around_spares g.V.Type.WasmType.tree g.V.WasmValue.tree g.V.WasmValue.is_of g.V.WasmValue.is_full w source ty children c.args.span expected (node ty c.args.span (node_trees children)) c.args.self c.in-Some.ty c.wrap.result c.in-Some.is kept,
 )
 
+pub whole-requires : goal.whole-requires
+whole-requires g c =
+    let (w, expected, source, ty, children, kept) = c.requires in
+    kept_read g.V.Type.WasmType.tree g.V.WasmValue.tree g.V.WasmValue.is_of g.V.WasmValue.is_full w source ty expected children c.args.self kept
+
 pub returns-in-None : goal.returns-in-None
 returns-in-None g c = λ w expected source ty children kept. (
-  whole_alone g.V.Type.WasmType.tree g.V.WasmValue.tree g.V.WasmValue.is_of g.V.WasmValue.is_full w source ty children c.args.span expected c.args.self c.whole-built.result c.in-None.is
-      (λ U parts. c.whole-built.ensures.read w U source ty children parts) kept,
-  alone_spares g.V.Type.WasmType.tree g.V.WasmValue.tree g.V.WasmValue.is_of g.V.WasmValue.is_full w source ty children c.args.span expected (node ty c.args.span (node_trees children)) c.args.self c.whole-built.result c.whole-built.ensures.plain kept,
+  whole_alone g.V.Type.WasmType.tree g.V.WasmValue.tree g.V.WasmValue.is_of g.V.WasmValue.is_full w source ty children c.args.span expected c.args.self c.whole.result c.in-None.is
+      (λ U parts. c.whole.ensures.read w U source ty children parts) kept,
+  alone_spares g.V.Type.WasmType.tree g.V.WasmValue.tree g.V.WasmValue.is_of g.V.WasmValue.is_full w source ty children c.args.span expected (node ty c.args.span (node_trees children)) c.args.self c.whole.result c.whole.ensures.plain kept,
 )
