@@ -112,7 +112,7 @@ impl Builder for NodeBuilder {
         span: Span,
         flags: BTreeMap<&str, Span>,
     ) -> Result<Node, AllocError> {
-        let mut nodes = Vec::new(alloc);
+        let mut nodes = Vec::with_capacity(alloc, flags.len())?;
         for at in flags.into_values() {
             nodes.push(make::leaf(alloc, NodeType::Label, at))?;
         }
