@@ -222,10 +222,18 @@ impl<'source> Tokens<'source> {
     {
         let start = self.span().start;
         let mut parts = no_parts(alloc, builder, ty);
-        self.push_label(alloc, builder, &mut parts, ty)?;
-        self.expect(Token::ParenOpen)?;
-        self.parse_part(alloc, builder, &mut parts, levels)?;
-        self.expect(Token::ParenClose)?;
+        if let Err(error) = self.push_label(alloc, builder, &mut parts, ty) {
+            return Err(error);
+        }
+        if let Err(error) = self.expect(Token::ParenOpen) {
+            return Err(error);
+        }
+        if let Err(error) = self.parse_part(alloc, builder, &mut parts, levels) {
+            return Err(error);
+        }
+        if let Err(error) = self.expect(Token::ParenClose) {
+            return Err(error);
+        }
         Ok(self.whole(alloc, builder, ty, start, parts))
     }
 
@@ -286,8 +294,14 @@ impl<'source> Tokens<'source> {
         let mut token = self.advance()?;
         let mut parts = no_parts(alloc, builder, ty);
         'items: loop {
-            self.push_numbers(alloc, builder, &mut parts, close, token)?;
-            self.parse_part_after_token(alloc, builder, &mut parts, levels, token)?;
+            if let Err(error) = self.push_numbers(alloc, builder, &mut parts, close, token) {
+                return Err(error);
+            }
+            if let Err(error) = self.parse_part_after_token(
+                alloc, builder, &mut parts, levels, token,
+            ) {
+                return Err(error);
+            }
             let item = self.take();
             let Found::Token(mark) = item else {
                 return self.refuse_item(item);
@@ -362,9 +376,15 @@ impl<'source> Tokens<'source> {
         let mut parts = no_parts(alloc, builder, NodeType::TupleSet);
         let mut key = first;
         'entries: loop {
-            self.push_key(alloc, builder, &mut parts, key)?;
-            self.expect(Token::Colon)?;
-            self.parse_part(alloc, builder, &mut parts, levels)?;
+            if let Err(error) = self.push_key(alloc, builder, &mut parts, key) {
+                return Err(error);
+            }
+            if let Err(error) = self.expect(Token::Colon) {
+                return Err(error);
+            }
+            if let Err(error) = self.parse_part(alloc, builder, &mut parts, levels) {
+                return Err(error);
+            }
             let item = self.take();
             let Found::Token(token) = item else {
                 return self.refuse_item(item);

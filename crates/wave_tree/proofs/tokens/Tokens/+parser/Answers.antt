@@ -203,18 +203,18 @@ parse_items-items-init g t c = record {
   );
 }
 
-pub parse_items-returns-in_err-parse_part_after_token-clause-led : goal.parse_items-returns-in_err-parse_part_after_token-clause-led
-parse_items-returns-in_err-parse_part_after_token-clause-led g t c = λ n s e.
-    let (at, there, none, expected_at, children, first, go) = still_in_items c.args.levels (omega arith) c.args.close c.requires c.args.self.now.place (λ s of cs ps. g.P.Builder.are_parts c.args.builder s of cs ps) c.if-eq-2.ty c.items.invariant.takes c.items.token c.items.self.place c.push_numbers.new.self.place c.items.parts c.push_numbers.new.parts c.items.invariant.from c.in_ok-push_numbers.ensures.kept c.in_ok-push_numbers.ensures.only in
+pub parse_items-returns-in-Err-parse_part_after_token-clause-led : goal.parse_items-returns-in-Err-parse_part_after_token-clause-led
+parse_items-returns-in-Err-parse_part_after_token-clause-led g t c = λ n s e.
+    let (at, there, none, expected_at, children, first, go) = still_in_items c.args.levels (omega arith) c.args.close c.requires c.args.self.now.place (λ s of cs ps. g.P.Builder.are_parts c.args.builder s of cs ps) c.if-eq-2.ty c.items.invariant.takes c.items.token c.items.self.place c.push_numbers.new.self.place c.items.parts c.push_numbers.new.parts c.items.invariant.from c.in_default.ensures.kept c.in_default.ensures.only in
     let (d, i, r) = expected_at n s e in
-    handed s _ _ c.from_residual-in_err-parse_part_after_token.ensures.1 (then_refuses c.in_err-parse_part_after_token.field-0.0 r
-    (item_refuses d c.in_err-parse_part_after_token.field-0.0 i (no_close c.args.close s _ c.requires none) (c.in_err-parse_part_after_token.ensures.led at there n (form_of c.args.close ∷ s) (omega arith))))
+    (then_refuses c.in-Err-parse_part_after_token.error r
+    (item_refuses d c.in-Err-parse_part_after_token.error i (no_close c.args.close s _ c.requires none) (c.in-Err-parse_part_after_token.ensures.led at there n (form_of c.args.close ∷ s) (omega arith))))
 
 pub parse_items-returns-then-eq-3-clause-led : goal.parse_items-returns-then-eq-3-clause-led
 parse_items-returns-then-eq-3-clause-led g t c = λ n s e.
-    let (at, there, none, expected_at, children, first, go) = still_in_items c.args.levels (omega arith) c.args.close c.requires c.args.self.now.place (λ s of cs ps. g.P.Builder.are_parts c.args.builder s of cs ps) c.if-eq-2.ty c.items.invariant.takes c.items.token c.items.self.place c.push_numbers.new.self.place c.items.parts c.push_numbers.new.parts c.items.invariant.from c.in_ok-push_numbers.ensures.kept c.in_ok-push_numbers.ensures.only in
+    let (at, there, none, expected_at, children, first, go) = still_in_items c.args.levels (omega arith) c.args.close c.requires c.args.self.now.place (λ s of cs ps. g.P.Builder.are_parts c.args.builder s of cs ps) c.if-eq-2.ty c.items.invariant.takes c.items.token c.items.self.place c.push_numbers.new.self.place c.items.parts c.push_numbers.new.parts c.items.invariant.from c.in_default.ensures.kept c.in_default.ensures.only in
     let (d, i, r) = expected_at n s e in
-    let item = c.in_ok-parse_part_after_token.ensures.led at there n (form_of c.args.close ∷ s) (omega arith) in
+    let item = c.in_default-parse_part_after_token.ensures.led at there n (form_of c.args.close ∷ s) (omega arith) in
     let behind = behind_item c.args.close c.requires none i r item in
     let step_there = close_behind c.args.close s (text_at c.take-item.new.self.place) c.requires in
     read_there (then_behind item.expected_there c.in-Token.mark behind item.is_behind c.in-Token.ensures.takes
@@ -222,9 +222,9 @@ parse_items-returns-then-eq-3-clause-led g t c = λ n s e.
 
 pub parse_items-returns-then-ne-clause-led : goal.parse_items-returns-then-ne-clause-led
 parse_items-returns-then-ne-clause-led g t c = λ n s e.
-    let (at, there, none, expected_at, children, first, go) = still_in_items c.args.levels (omega arith) c.args.close c.requires c.args.self.now.place (λ s of cs ps. g.P.Builder.are_parts c.args.builder s of cs ps) c.if-eq-2.ty c.items.invariant.takes c.items.token c.items.self.place c.push_numbers.new.self.place c.items.parts c.push_numbers.new.parts c.items.invariant.from c.in_ok-push_numbers.ensures.kept c.in_ok-push_numbers.ensures.only in
+    let (at, there, none, expected_at, children, first, go) = still_in_items c.args.levels (omega arith) c.args.close c.requires c.args.self.now.place (λ s of cs ps. g.P.Builder.are_parts c.args.builder s of cs ps) c.if-eq-2.ty c.items.invariant.takes c.items.token c.items.self.place c.push_numbers.new.self.place c.items.parts c.push_numbers.new.parts c.items.invariant.from c.in_default.ensures.kept c.in_default.ensures.only in
     let (d, i, r) = expected_at n s e in
-    let item = c.in_ok-parse_part_after_token.ensures.led at there n (form_of c.args.close ∷ s) (omega arith) in
+    let item = c.in_default-parse_part_after_token.ensures.led at there n (form_of c.args.close ∷ s) (omega arith) in
     let behind = behind_item c.args.close c.requires none i r item in
     refuses_there s c.refuse_token.result c.refuse_token.ensures.never c.refuse_token.ensures.refused (λ x says. unexpected_behind item.expected_there x c.in-Token.mark behind item.is_behind c.in-Token.ensures.takes
     (other_behind c.args.close c.in-Token.mark s (text_at c.take-item.new.self.place) c.requires (is_other _ _ c.eq-in-items.ensures c.if-eq-3.false) (differs _ _ c.ne.ensures c.if-ne.true))
@@ -232,9 +232,9 @@ parse_items-returns-then-ne-clause-led g t c = λ n s e.
 
 pub parse_items-returns-then-eq-4-clause-led : goal.parse_items-returns-then-eq-4-clause-led
 parse_items-returns-then-eq-4-clause-led g t c = λ n s e.
-    let (at, there, none, expected_at, children, first, go) = still_in_items c.args.levels (omega arith) c.args.close c.requires c.args.self.now.place (λ s of cs ps. g.P.Builder.are_parts c.args.builder s of cs ps) c.if-eq-2.ty c.items.invariant.takes c.items.token c.items.self.place c.push_numbers.new.self.place c.items.parts c.push_numbers.new.parts c.items.invariant.from c.in_ok-push_numbers.ensures.kept c.in_ok-push_numbers.ensures.only in
+    let (at, there, none, expected_at, children, first, go) = still_in_items c.args.levels (omega arith) c.args.close c.requires c.args.self.now.place (λ s of cs ps. g.P.Builder.are_parts c.args.builder s of cs ps) c.if-eq-2.ty c.items.invariant.takes c.items.token c.items.self.place c.push_numbers.new.self.place c.items.parts c.push_numbers.new.parts c.items.invariant.from c.in_default.ensures.kept c.in_default.ensures.only in
     let (d, i, r) = expected_at n s e in
-    let item = c.in_ok-parse_part_after_token.ensures.led at there n (form_of c.args.close ∷ s) (omega arith) in
+    let item = c.in_default-parse_part_after_token.ensures.led at there n (form_of c.args.close ∷ s) (omega arith) in
     let behind = behind_item c.args.close c.requires none i r item in
     let comma_step = subst (λ z. behind_step (form_of c.args.close ∷ s) (token_of z (text_at c.take-item.new.self.place)) ≡ reads expectation.next_item (form_of c.args.close ∷ s)) (sym (differs_not c.in-Token.mark Comma c.ne.ensures c.if-ne.false)) (comma_behind c.args.close s (text_at c.take-item.new.self.place) c.requires) in
     let next = then_behind item.expected_there c.in-Token.mark behind item.is_behind c.in-Token.ensures.takes comma_step in
@@ -242,53 +242,52 @@ parse_items-returns-then-eq-4-clause-led g t c = λ n s e.
 
 pub parse_items-items-smaller : goal.parse_items-items-smaller
 parse_items-items-smaller g t c =
-    let (at, there, none, expected_at, children, first, go) = still_in_items c.args.levels (omega arith) c.args.close c.requires c.args.self.now.place (λ s of cs ps. g.P.Builder.are_parts c.args.builder s of cs ps) c.if-eq-2.ty c.items.invariant.takes c.items.token c.items.self.place c.push_numbers.new.self.place c.items.parts c.push_numbers.new.parts c.items.invariant.from c.in_ok-push_numbers.ensures.kept c.in_ok-push_numbers.ensures.only in
-    let item = c.in_ok-parse_part_after_token.ensures.led at there (c.args.levels + 1 + 0) (form_of c.args.close ∷ []) (omega arith) in
-    let zero = numbers_less c.in_ok-push_numbers.ensures.kept.places c.items.self.place c.push_numbers.new.self.place c.in_ok-push_numbers.ensures.kept.turn in
+    let (at, there, none, expected_at, children, first, go) = still_in_items c.args.levels (omega arith) c.args.close c.requires c.args.self.now.place (λ s of cs ps. g.P.Builder.are_parts c.args.builder s of cs ps) c.if-eq-2.ty c.items.invariant.takes c.items.token c.items.self.place c.push_numbers.new.self.place c.items.parts c.push_numbers.new.parts c.items.invariant.from c.in_default.ensures.kept c.in_default.ensures.only in
+    let item = c.in_default-parse_part_after_token.ensures.led at there (c.args.levels + 1 + 0) (form_of c.args.close ∷ []) (omega arith) in
+    let zero = numbers_less c.in_default.ensures.kept.places c.items.self.place c.push_numbers.new.self.place c.in_default.ensures.kept.turn in
     let one = value_less at c.push_numbers.new.self.place c.parse_part_after_token.new.self.place c.items.token there item in
     let two = token_less _ _ c.in-Token.mark c.in-Token.ensures.takes in
     let three = token_less _ _ c.in-Token-item.next c.in-Token-item.ensures.takes in
     omega arith
 
-pub parse_items-returns-in_err-push_numbers-clause-memory : goal.parse_items-returns-in_err-push_numbers-clause-memory
-parse_items-returns-in_err-push_numbers-clause-memory g t c =
+pub parse_items-returns-in-Err-clause-memory : goal.parse_items-returns-in-Err-clause-memory
+parse_items-returns-in-Err-clause-memory g t c =
     let (at, there, none, expected_at, children, are, go) = c.items.invariant.from in
     let (d, i, r) = expected_at (c.args.levels + 1) [] (omega arith) in
     let source : c.items.self.place.lexer.source ≡ c.args.self.now.place.lexer.source = source_item at c.items.self.place c.items.token there ∙ source_reached r in
-    error_handed (OnlyOutOfMemory (g.P.Builder.takes_memory c.args.builder) c.args.self.now.place) c.from_residual-in_err-push_numbers.result c.in_err-push_numbers.field-0.0 c.from_residual-in_err-push_numbers.ensures.1
-    (λ k small. c.in_err-push_numbers.ensures.takes c.if-eq-2.ty children c.items.invariant.takes (subst (λ (s : List ℕ). g.P.Builder.are_parts c.args.builder s c.if-eq-2.ty children c.items.parts) (sym source) are))
+    (λ k small. c.in-Err.ensures.takes c.if-eq-2.ty children c.items.invariant.takes (subst (λ (s : List ℕ). g.P.Builder.are_parts c.args.builder s c.if-eq-2.ty children c.items.parts) (sym source) are))
 
-pub parse_items-returns-in_err-push_numbers-clause-asks : goal.parse_items-returns-in_err-push_numbers-clause-asks
-parse_items-returns-in_err-push_numbers-clause-asks g t c =
+pub parse_items-returns-in-Err-clause-asks : goal.parse_items-returns-in-Err-clause-asks
+parse_items-returns-in-Err-clause-asks g t c =
     asks_in_items (λ s cs ps. g.P.Builder.are_parts c.args.builder s c.if-eq-2.ty cs ps) c.args.levels c.args.close c.items.token c.items.parts c.args.self.now c.items.self c.push_numbers.new.self c.items.invariant.from c.items.invariant.asks c.push_numbers.ensures.asks
 
-pub parse_items-returns-in_err-parse_part_after_token-clause-asks : goal.parse_items-returns-in_err-parse_part_after_token-clause-asks
-parse_items-returns-in_err-parse_part_after_token-clause-asks g t c =
-    let (at, there, none, expected_at, children, first, go) = still_in_items c.args.levels (omega arith) c.args.close c.requires c.args.self.now.place (λ s of cs ps. g.P.Builder.are_parts c.args.builder s of cs ps) c.if-eq-2.ty c.items.invariant.takes c.items.token c.items.self.place c.push_numbers.new.self.place c.items.parts c.push_numbers.new.parts c.items.invariant.from c.in_ok-push_numbers.ensures.kept c.in_ok-push_numbers.ensures.only in
+pub parse_items-returns-in-Err-parse_part_after_token-clause-asks : goal.parse_items-returns-in-Err-parse_part_after_token-clause-asks
+parse_items-returns-in-Err-parse_part_after_token-clause-asks g t c =
+    let (at, there, none, expected_at, children, first, go) = still_in_items c.args.levels (omega arith) c.args.close c.requires c.args.self.now.place (λ s of cs ps. g.P.Builder.are_parts c.args.builder s of cs ps) c.if-eq-2.ty c.items.invariant.takes c.items.token c.items.self.place c.push_numbers.new.self.place c.items.parts c.push_numbers.new.parts c.items.invariant.from c.in_default.ensures.kept c.in_default.ensures.only in
     asks_begun c.args.levels c.args.close c.items.token c.args.self.now c.push_numbers.new.self c.parse_part_after_token.new.self at expected_at there (asks_in_items (λ s cs ps. g.P.Builder.are_parts c.args.builder s c.if-eq-2.ty cs ps) c.args.levels c.args.close c.items.token c.items.parts c.args.self.now c.items.self c.push_numbers.new.self c.items.invariant.from c.items.invariant.asks c.push_numbers.ensures.asks) c.parse_part_after_token.ensures.asks
 
 pub parse_items-returns-then-eq-3-clause-asks : goal.parse_items-returns-then-eq-3-clause-asks
 parse_items-returns-then-eq-3-clause-asks g t c =
-    let (at, there, none, expected_at, children, first, go) = still_in_items c.args.levels (omega arith) c.args.close c.requires c.args.self.now.place (λ s of cs ps. g.P.Builder.are_parts c.args.builder s of cs ps) c.if-eq-2.ty c.items.invariant.takes c.items.token c.items.self.place c.push_numbers.new.self.place c.items.parts c.push_numbers.new.parts c.items.invariant.from c.in_ok-push_numbers.ensures.kept c.in_ok-push_numbers.ensures.only in
-    asks_item c.args.levels c.args.close c.args.self.now c.parse_part_after_token.new.self c.take-item.new.self at c.requires none expected_at (c.in_ok-parse_part_after_token.ensures.led at there) (asks_begun c.args.levels c.args.close c.items.token c.args.self.now c.push_numbers.new.self c.parse_part_after_token.new.self at expected_at there (asks_in_items (λ s cs ps. g.P.Builder.are_parts c.args.builder s c.if-eq-2.ty cs ps) c.args.levels c.args.close c.items.token c.items.parts c.args.self.now c.items.self c.push_numbers.new.self c.items.invariant.from c.items.invariant.asks c.push_numbers.ensures.asks) c.parse_part_after_token.ensures.asks) (asks_once c.parse_part_after_token.new.self c.take-item.new.self c.take-item.ensures.asks)
+    let (at, there, none, expected_at, children, first, go) = still_in_items c.args.levels (omega arith) c.args.close c.requires c.args.self.now.place (λ s of cs ps. g.P.Builder.are_parts c.args.builder s of cs ps) c.if-eq-2.ty c.items.invariant.takes c.items.token c.items.self.place c.push_numbers.new.self.place c.items.parts c.push_numbers.new.parts c.items.invariant.from c.in_default.ensures.kept c.in_default.ensures.only in
+    asks_item c.args.levels c.args.close c.args.self.now c.parse_part_after_token.new.self c.take-item.new.self at c.requires none expected_at (c.in_default-parse_part_after_token.ensures.led at there) (asks_begun c.args.levels c.args.close c.items.token c.args.self.now c.push_numbers.new.self c.parse_part_after_token.new.self at expected_at there (asks_in_items (λ s cs ps. g.P.Builder.are_parts c.args.builder s c.if-eq-2.ty cs ps) c.args.levels c.args.close c.items.token c.items.parts c.args.self.now c.items.self c.push_numbers.new.self c.items.invariant.from c.items.invariant.asks c.push_numbers.ensures.asks) c.parse_part_after_token.ensures.asks) (asks_once c.parse_part_after_token.new.self c.take-item.new.self c.take-item.ensures.asks)
 
 pub parse_items-returns-then-ne-clause-asks : goal.parse_items-returns-then-ne-clause-asks
 parse_items-returns-then-ne-clause-asks g t c =
-    let (at, there, none, expected_at, children, first, go) = still_in_items c.args.levels (omega arith) c.args.close c.requires c.args.self.now.place (λ s of cs ps. g.P.Builder.are_parts c.args.builder s of cs ps) c.if-eq-2.ty c.items.invariant.takes c.items.token c.items.self.place c.push_numbers.new.self.place c.items.parts c.push_numbers.new.parts c.items.invariant.from c.in_ok-push_numbers.ensures.kept c.in_ok-push_numbers.ensures.only in
-    asks_item c.args.levels c.args.close c.args.self.now c.parse_part_after_token.new.self c.take-item.new.self at c.requires none expected_at (c.in_ok-parse_part_after_token.ensures.led at there) (asks_begun c.args.levels c.args.close c.items.token c.args.self.now c.push_numbers.new.self c.parse_part_after_token.new.self at expected_at there (asks_in_items (λ s cs ps. g.P.Builder.are_parts c.args.builder s c.if-eq-2.ty cs ps) c.args.levels c.args.close c.items.token c.items.parts c.args.self.now c.items.self c.push_numbers.new.self c.items.invariant.from c.items.invariant.asks c.push_numbers.ensures.asks) c.parse_part_after_token.ensures.asks) (asks_once c.parse_part_after_token.new.self c.take-item.new.self c.take-item.ensures.asks)
+    let (at, there, none, expected_at, children, first, go) = still_in_items c.args.levels (omega arith) c.args.close c.requires c.args.self.now.place (λ s of cs ps. g.P.Builder.are_parts c.args.builder s of cs ps) c.if-eq-2.ty c.items.invariant.takes c.items.token c.items.self.place c.push_numbers.new.self.place c.items.parts c.push_numbers.new.parts c.items.invariant.from c.in_default.ensures.kept c.in_default.ensures.only in
+    asks_item c.args.levels c.args.close c.args.self.now c.parse_part_after_token.new.self c.take-item.new.self at c.requires none expected_at (c.in_default-parse_part_after_token.ensures.led at there) (asks_begun c.args.levels c.args.close c.items.token c.args.self.now c.push_numbers.new.self c.parse_part_after_token.new.self at expected_at there (asks_in_items (λ s cs ps. g.P.Builder.are_parts c.args.builder s c.if-eq-2.ty cs ps) c.args.levels c.args.close c.items.token c.items.parts c.args.self.now c.items.self c.push_numbers.new.self c.items.invariant.from c.items.invariant.asks c.push_numbers.ensures.asks) c.parse_part_after_token.ensures.asks) (asks_once c.parse_part_after_token.new.self c.take-item.new.self c.take-item.ensures.asks)
 
 pub parse_items-returns-then-eq-4-clause-asks : goal.parse_items-returns-then-eq-4-clause-asks
 parse_items-returns-then-eq-4-clause-asks g t c =
-    let (at, there, none, expected_at, children, first, go) = still_in_items c.args.levels (omega arith) c.args.close c.requires c.args.self.now.place (λ s of cs ps. g.P.Builder.are_parts c.args.builder s of cs ps) c.if-eq-2.ty c.items.invariant.takes c.items.token c.items.self.place c.push_numbers.new.self.place c.items.parts c.push_numbers.new.parts c.items.invariant.from c.in_ok-push_numbers.ensures.kept c.in_ok-push_numbers.ensures.only in
-    asks_item c.args.levels c.args.close c.args.self.now c.parse_part_after_token.new.self c.take-item-in-items.new.self at c.requires none expected_at (c.in_ok-parse_part_after_token.ensures.led at there) (asks_begun c.args.levels c.args.close c.items.token c.args.self.now c.push_numbers.new.self c.parse_part_after_token.new.self at expected_at there (asks_in_items (λ s cs ps. g.P.Builder.are_parts c.args.builder s c.if-eq-2.ty cs ps) c.args.levels c.args.close c.items.token c.items.parts c.args.self.now c.items.self c.push_numbers.new.self c.items.invariant.from c.items.invariant.asks c.push_numbers.ensures.asks) c.parse_part_after_token.ensures.asks) (asks_token c.parse_part_after_token.new.self c.take-item.new.self c.take-item-in-items.new.self c.in-Token.mark c.in-Token.ensures.takes c.take-item.ensures.asks (asks_once c.take-item.new.self c.take-item-in-items.new.self c.take-item-in-items.ensures.asks))
+    let (at, there, none, expected_at, children, first, go) = still_in_items c.args.levels (omega arith) c.args.close c.requires c.args.self.now.place (λ s of cs ps. g.P.Builder.are_parts c.args.builder s of cs ps) c.if-eq-2.ty c.items.invariant.takes c.items.token c.items.self.place c.push_numbers.new.self.place c.items.parts c.push_numbers.new.parts c.items.invariant.from c.in_default.ensures.kept c.in_default.ensures.only in
+    asks_item c.args.levels c.args.close c.args.self.now c.parse_part_after_token.new.self c.take-item-in-items.new.self at c.requires none expected_at (c.in_default-parse_part_after_token.ensures.led at there) (asks_begun c.args.levels c.args.close c.items.token c.args.self.now c.push_numbers.new.self c.parse_part_after_token.new.self at expected_at there (asks_in_items (λ s cs ps. g.P.Builder.are_parts c.args.builder s c.if-eq-2.ty cs ps) c.args.levels c.args.close c.items.token c.items.parts c.args.self.now c.items.self c.push_numbers.new.self c.items.invariant.from c.items.invariant.asks c.push_numbers.ensures.asks) c.parse_part_after_token.ensures.asks) (asks_token c.parse_part_after_token.new.self c.take-item.new.self c.take-item-in-items.new.self c.in-Token.mark c.in-Token.ensures.takes c.take-item.ensures.asks (asks_once c.take-item.new.self c.take-item-in-items.new.self c.take-item-in-items.ensures.asks))
 
 pub parse_items-returns-then-eq-3-clause-tree : goal.parse_items-returns-then-eq-3-clause-tree
 parse_items-returns-then-eq-3-clause-tree g t c =
-    let (at, there, none, expected_at, children, first, go) = still_in_items c.args.levels (omega arith) c.args.close c.requires c.args.self.now.place (λ s of cs ps. g.P.Builder.are_parts c.args.builder s of cs ps) c.if-eq-2.ty c.items.invariant.takes c.items.token c.items.self.place c.push_numbers.new.self.place c.items.parts c.push_numbers.new.parts c.items.invariant.from c.in_ok-push_numbers.ensures.kept c.in_ok-push_numbers.ensures.only in
+    let (at, there, none, expected_at, children, first, go) = still_in_items c.args.levels (omega arith) c.args.close c.requires c.args.self.now.place (λ s of cs ps. g.P.Builder.are_parts c.args.builder s of cs ps) c.if-eq-2.ty c.items.invariant.takes c.items.token c.items.self.place c.push_numbers.new.self.place c.items.parts c.push_numbers.new.parts c.items.invariant.from c.in_default.ensures.kept c.in_default.ensures.only in
     let (d, i, r) = expected_at (c.args.levels + 1) [] (omega arith) in
     let here : at.lexer.source ≡ c.args.self.now.place.lexer.source = source_reached r in
     let part_expected = c.items.invariant.takes children in
-    let (n, is, grown) = part_added (λ (s : List ℕ) cs ps. g.P.Builder.are_parts c.args.builder s c.if-eq-2.ty cs ps) c.push_numbers.new.parts c.parse_part_after_token.new.parts children (IsParsed c.args.levels at c.parse_part_after_token.new.self.place) here (c.in_ok-parse_part_after_token.ensures.kept at there c.if-eq-2.ty children part_expected) first in
+    let (n, is, grown) = part_added (λ (s : List ℕ) cs ps. g.P.Builder.are_parts c.args.builder s c.if-eq-2.ty cs ps) c.push_numbers.new.parts c.parse_part_after_token.new.parts children (IsParsed c.args.levels at c.parse_part_after_token.new.self.place) here (c.in_default-parse_part_after_token.ensures.kept at there c.if-eq-2.ty children part_expected) first in
     let behind : c.parse_part_after_token.new.self.place.lexer.source ≡ c.args.self.now.place.lexer.source = source_parsed c.args.levels at c.parse_part_after_token.new.self.place n is ∙ here in
     let marked : c.take-item.new.self.place.lexer.source ≡ c.args.self.now.place.lexer.source = source_item c.parse_part_after_token.new.self.place c.take-item.new.self.place c.in-Token.mark c.in-Token.ensures.takes ∙ behind in
     whole_node_built (g.P.Builder.is_built c.args.builder) (λ (s : List ℕ) cs ps. g.P.Builder.are_parts c.args.builder s c.if-eq-2.ty cs ps) c.args.self.now.place c.take-item.new.self.place c.if-eq-2.ty c.span-start.result.start c.whole.result c.parse_part_after_token.new.parts (children ++ n ∷ []) (IsOfItems c.args.levels c.args.close c.args.self.now.place c.take-item.new.self.place) marked grown c.whole.ensures
@@ -299,11 +298,11 @@ parse_items-returns-then-eq-3-clause-tree g t c =
 
 pub parse_items-returns-then-eq-4-clause-tree : goal.parse_items-returns-then-eq-4-clause-tree
 parse_items-returns-then-eq-4-clause-tree g t c =
-    let (at, there, none, expected_at, children, first, go) = still_in_items c.args.levels (omega arith) c.args.close c.requires c.args.self.now.place (λ s of cs ps. g.P.Builder.are_parts c.args.builder s of cs ps) c.if-eq-2.ty c.items.invariant.takes c.items.token c.items.self.place c.push_numbers.new.self.place c.items.parts c.push_numbers.new.parts c.items.invariant.from c.in_ok-push_numbers.ensures.kept c.in_ok-push_numbers.ensures.only in
+    let (at, there, none, expected_at, children, first, go) = still_in_items c.args.levels (omega arith) c.args.close c.requires c.args.self.now.place (λ s of cs ps. g.P.Builder.are_parts c.args.builder s of cs ps) c.if-eq-2.ty c.items.invariant.takes c.items.token c.items.self.place c.push_numbers.new.self.place c.items.parts c.push_numbers.new.parts c.items.invariant.from c.in_default.ensures.kept c.in_default.ensures.only in
     let (d, i, r) = expected_at (c.args.levels + 1) [] (omega arith) in
     let here : at.lexer.source ≡ c.args.self.now.place.lexer.source = source_reached r in
     let part_expected = c.items.invariant.takes children in
-    let (n, is, grown) = part_added (λ (s : List ℕ) cs ps. g.P.Builder.are_parts c.args.builder s c.if-eq-2.ty cs ps) c.push_numbers.new.parts c.parse_part_after_token.new.parts children (IsParsed c.args.levels at c.parse_part_after_token.new.self.place) here (c.in_ok-parse_part_after_token.ensures.kept at there c.if-eq-2.ty children part_expected) first in
+    let (n, is, grown) = part_added (λ (s : List ℕ) cs ps. g.P.Builder.are_parts c.args.builder s c.if-eq-2.ty cs ps) c.push_numbers.new.parts c.parse_part_after_token.new.parts children (IsParsed c.args.levels at c.parse_part_after_token.new.self.place) here (c.in_default-parse_part_after_token.ensures.kept at there c.if-eq-2.ty children part_expected) first in
     let behind : c.parse_part_after_token.new.self.place.lexer.source ≡ c.args.self.now.place.lexer.source = source_parsed c.args.levels at c.parse_part_after_token.new.self.place n is ∙ here in
     let marked : c.take-item.new.self.place.lexer.source ≡ c.args.self.now.place.lexer.source = source_item c.parse_part_after_token.new.self.place c.take-item.new.self.place c.in-Token.mark c.in-Token.ensures.takes ∙ behind in
     let close : c.take-item-in-items.new.self.place.lexer.source ≡ c.args.self.now.place.lexer.source = source_item c.take-item.new.self.place c.take-item-in-items.new.self.place c.in-Token-item.next c.in-Token-item.ensures.takes ∙ marked in
@@ -319,21 +318,21 @@ parse_items-returns-then-eq-4-clause-tree g t c =
 
 pub parse_items-items-preserved : goal.parse_items-items-preserved
 parse_items-items-preserved g t c =
-    let (at, there, none, expected_at, children, first, go) = still_in_items c.args.levels (omega arith) c.args.close c.requires c.args.self.now.place (λ s of cs ps. g.P.Builder.are_parts c.args.builder s of cs ps) c.if-eq-2.ty c.items.invariant.takes c.items.token c.items.self.place c.push_numbers.new.self.place c.items.parts c.push_numbers.new.parts c.items.invariant.from c.in_ok-push_numbers.ensures.kept c.in_ok-push_numbers.ensures.only in
+    let (at, there, none, expected_at, children, first, go) = still_in_items c.args.levels (omega arith) c.args.close c.requires c.args.self.now.place (λ s of cs ps. g.P.Builder.are_parts c.args.builder s of cs ps) c.if-eq-2.ty c.items.invariant.takes c.items.token c.items.self.place c.push_numbers.new.self.place c.items.parts c.push_numbers.new.parts c.items.invariant.from c.in_default.ensures.kept c.in_default.ensures.only in
     let (d, i, r) = expected_at (c.args.levels + 1) [] (omega arith) in
     let here : at.lexer.source ≡ c.args.self.now.place.lexer.source = source_reached r in
     let part_expected = c.items.invariant.takes children in
-    let (n, is, grown) = part_added (λ (s : List ℕ) cs ps. g.P.Builder.are_parts c.args.builder s c.if-eq-2.ty cs ps) c.push_numbers.new.parts c.parse_part_after_token.new.parts children (IsParsed c.args.levels at c.parse_part_after_token.new.self.place) here (c.in_ok-parse_part_after_token.ensures.kept at there c.if-eq-2.ty children part_expected) first in
+    let (n, is, grown) = part_added (λ (s : List ℕ) cs ps. g.P.Builder.are_parts c.args.builder s c.if-eq-2.ty cs ps) c.push_numbers.new.parts c.parse_part_after_token.new.parts children (IsParsed c.args.levels at c.parse_part_after_token.new.self.place) here (c.in_default-parse_part_after_token.ensures.kept at there c.if-eq-2.ty children part_expected) first in
     record {
       takes = c.items.invariant.takes;
-      asks = asks_item c.args.levels c.args.close c.args.self.now c.parse_part_after_token.new.self c.take-item-in-items.new.self at c.requires none expected_at (c.in_ok-parse_part_after_token.ensures.led at there) (asks_begun c.args.levels c.args.close c.items.token c.args.self.now c.push_numbers.new.self c.parse_part_after_token.new.self at expected_at there (asks_in_items (λ s cs ps. g.P.Builder.are_parts c.args.builder s c.if-eq-2.ty cs ps) c.args.levels c.args.close c.items.token c.items.parts c.args.self.now c.items.self c.push_numbers.new.self c.items.invariant.from c.items.invariant.asks c.push_numbers.ensures.asks) c.parse_part_after_token.ensures.asks) (asks_token c.parse_part_after_token.new.self c.take-item.new.self c.take-item-in-items.new.self c.in-Token.mark c.in-Token.ensures.takes c.take-item.ensures.asks (asks_once c.take-item.new.self c.take-item-in-items.new.self c.take-item-in-items.ensures.asks));
+      asks = asks_item c.args.levels c.args.close c.args.self.now c.parse_part_after_token.new.self c.take-item-in-items.new.self at c.requires none expected_at (c.in_default-parse_part_after_token.ensures.led at there) (asks_begun c.args.levels c.args.close c.items.token c.args.self.now c.push_numbers.new.self c.parse_part_after_token.new.self at expected_at there (asks_in_items (λ s cs ps. g.P.Builder.are_parts c.args.builder s c.if-eq-2.ty cs ps) c.args.levels c.args.close c.items.token c.items.parts c.args.self.now c.items.self c.push_numbers.new.self c.items.invariant.from c.items.invariant.asks c.push_numbers.ensures.asks) c.parse_part_after_token.ensures.asks) (asks_token c.parse_part_after_token.new.self c.take-item.new.self c.take-item-in-items.new.self c.in-Token.mark c.in-Token.ensures.takes c.take-item.ensures.asks (asks_once c.take-item.new.self c.take-item-in-items.new.self c.take-item-in-items.ensures.asks));
       from = (
         c.take-item.new.self.place,
         c.in-Token-item.ensures.takes,
         other_next c.args.close c.in-Token-item.next c.take-item.new.self.place c.take-item-in-items.new.self.place (is_other _ _ c.eq-in-items-2.ensures c.if-eq-4.false) c.in-Token-item.ensures.takes,
         λ n s e.
             let (d, i, r) = expected_at n s e in
-            let item = c.in_ok-parse_part_after_token.ensures.led at there n (form_of c.args.close ∷ s) (omega arith) in
+            let item = c.in_default-parse_part_after_token.ensures.led at there n (form_of c.args.close ∷ s) (omega arith) in
             let behind = behind_item c.args.close c.requires none i r item in
             let comma_step = subst (λ z. behind_step (form_of c.args.close ∷ s) (token_of z (text_at c.take-item.new.self.place)) ≡ reads expectation.next_item (form_of c.args.close ∷ s)) (sym (differs_not c.in-Token.mark Comma c.ne.ensures c.if-ne.false)) (comma_behind c.args.close s (text_at c.take-item.new.self.place) c.requires) in
             let next = then_behind item.expected_there c.in-Token.mark behind item.is_behind c.in-Token.ensures.takes comma_step in
@@ -344,60 +343,59 @@ parse_items-items-preserved g t c =
       );
     }
 
-pub parse_items-returns-in_err-parse_part_after_token-clause-memory : goal.parse_items-returns-in_err-parse_part_after_token-clause-memory
-parse_items-returns-in_err-parse_part_after_token-clause-memory g t c = error_handed (OnlyOutOfMemory (g.P.Builder.takes_memory c.args.builder) c.args.self.now.place) c.from_residual-in_err-parse_part_after_token.result c.in_err-parse_part_after_token.field-0.0 c.from_residual-in_err-parse_part_after_token.ensures.1
-    (let (at, there, none, expected_at, children, first, go) = still_in_items c.args.levels (omega arith) c.args.close c.requires c.args.self.now.place (λ s of cs ps. g.P.Builder.are_parts c.args.builder s of cs ps) c.if-eq-2.ty c.items.invariant.takes c.items.token c.items.self.place c.push_numbers.new.self.place c.items.parts c.push_numbers.new.parts c.items.invariant.from c.in_ok-push_numbers.ensures.kept c.in_ok-push_numbers.ensures.only in
+pub parse_items-returns-in-Err-parse_part_after_token-clause-memory : goal.parse_items-returns-in-Err-parse_part_after_token-clause-memory
+parse_items-returns-in-Err-parse_part_after_token-clause-memory g t c = (let (at, there, none, expected_at, children, first, go) = still_in_items c.args.levels (omega arith) c.args.close c.requires c.args.self.now.place (λ s of cs ps. g.P.Builder.are_parts c.args.builder s of cs ps) c.if-eq-2.ty c.items.invariant.takes c.items.token c.items.self.place c.push_numbers.new.self.place c.items.parts c.push_numbers.new.parts c.items.invariant.from c.in_default.ensures.kept c.in_default.ensures.only in
     let (d, i, r) = expected_at (c.args.levels + 1) [] (omega arith) in
-    wants_reached (g.P.Builder.takes_memory c.args.builder) c.in_err-parse_part_after_token.field-0.0 r (c.in_err-parse_part_after_token.ensures.memory at there c.args.self.now.place.lexer.source c.if-eq-2.ty children first))
+    wants_reached (g.P.Builder.takes_memory c.args.builder) c.in-Err-parse_part_after_token.error r (c.in-Err-parse_part_after_token.ensures.memory at there c.args.self.now.place.lexer.source c.if-eq-2.ty children first))
 
 pub parse_items-whole-requires : goal.parse_items-whole-requires
 parse_items-whole-requires g t c =
-    let (at, there, none, expected_at, children, first, go) = still_in_items c.args.levels (omega arith) c.args.close c.requires c.args.self.now.place (λ s of cs ps. g.P.Builder.are_parts c.args.builder s of cs ps) c.if-eq-2.ty c.items.invariant.takes c.items.token c.items.self.place c.push_numbers.new.self.place c.items.parts c.push_numbers.new.parts c.items.invariant.from c.in_ok-push_numbers.ensures.kept c.in_ok-push_numbers.ensures.only in
+    let (at, there, none, expected_at, children, first, go) = still_in_items c.args.levels (omega arith) c.args.close c.requires c.args.self.now.place (λ s of cs ps. g.P.Builder.are_parts c.args.builder s of cs ps) c.if-eq-2.ty c.items.invariant.takes c.items.token c.items.self.place c.push_numbers.new.self.place c.items.parts c.push_numbers.new.parts c.items.invariant.from c.in_default.ensures.kept c.in_default.ensures.only in
     let (d, i, r) = expected_at (c.args.levels + 1) [] (omega arith) in
     let here : at.lexer.source ≡ c.args.self.now.place.lexer.source = source_reached r in
     let part_expected = c.items.invariant.takes children in
-    let (n, is, grown) = part_added (λ (s : List ℕ) cs ps. g.P.Builder.are_parts c.args.builder s c.if-eq-2.ty cs ps) c.push_numbers.new.parts c.parse_part_after_token.new.parts children (IsParsed c.args.levels at c.parse_part_after_token.new.self.place) here (c.in_ok-parse_part_after_token.ensures.kept at there c.if-eq-2.ty children part_expected) first in
+    let (n, is, grown) = part_added (λ (s : List ℕ) cs ps. g.P.Builder.are_parts c.args.builder s c.if-eq-2.ty cs ps) c.push_numbers.new.parts c.parse_part_after_token.new.parts children (IsParsed c.args.levels at c.parse_part_after_token.new.self.place) here (c.in_default-parse_part_after_token.ensures.kept at there c.if-eq-2.ty children part_expected) first in
     (c.args.self.now.place.lexer.source, children ++ n ∷ [], grown)
 
 pub parse_items-whole-requires-then-eq-4 : goal.parse_items-whole-requires-then-eq-4
 parse_items-whole-requires-then-eq-4 g t c =
-    let (at, there, none, expected_at, children, first, go) = still_in_items c.args.levels (omega arith) c.args.close c.requires c.args.self.now.place (λ s of cs ps. g.P.Builder.are_parts c.args.builder s of cs ps) c.if-eq-2.ty c.items.invariant.takes c.items.token c.items.self.place c.push_numbers.new.self.place c.items.parts c.push_numbers.new.parts c.items.invariant.from c.in_ok-push_numbers.ensures.kept c.in_ok-push_numbers.ensures.only in
+    let (at, there, none, expected_at, children, first, go) = still_in_items c.args.levels (omega arith) c.args.close c.requires c.args.self.now.place (λ s of cs ps. g.P.Builder.are_parts c.args.builder s of cs ps) c.if-eq-2.ty c.items.invariant.takes c.items.token c.items.self.place c.push_numbers.new.self.place c.items.parts c.push_numbers.new.parts c.items.invariant.from c.in_default.ensures.kept c.in_default.ensures.only in
     let (d, i, r) = expected_at (c.args.levels + 1) [] (omega arith) in
     let here : at.lexer.source ≡ c.args.self.now.place.lexer.source = source_reached r in
     let part_expected = c.items.invariant.takes children in
-    let (n, is, grown) = part_added (λ (s : List ℕ) cs ps. g.P.Builder.are_parts c.args.builder s c.if-eq-2.ty cs ps) c.push_numbers.new.parts c.parse_part_after_token.new.parts children (IsParsed c.args.levels at c.parse_part_after_token.new.self.place) here (c.in_ok-parse_part_after_token.ensures.kept at there c.if-eq-2.ty children part_expected) first in
+    let (n, is, grown) = part_added (λ (s : List ℕ) cs ps. g.P.Builder.are_parts c.args.builder s c.if-eq-2.ty cs ps) c.push_numbers.new.parts c.parse_part_after_token.new.parts children (IsParsed c.args.levels at c.parse_part_after_token.new.self.place) here (c.in_default-parse_part_after_token.ensures.kept at there c.if-eq-2.ty children part_expected) first in
     (c.args.self.now.place.lexer.source, children ++ n ∷ [], grown)
-
-pub parse_items-returns-in_default : goal.parse_items-returns-in_default
-parse_items-returns-in_default g t c =
-    let (at, there, none, expected_at, children, first, go) = still_in_items c.args.levels (omega arith) c.args.close c.requires c.args.self.now.place (λ s of cs ps. g.P.Builder.are_parts c.args.builder s of cs ps) c.if-eq-2.ty c.items.invariant.takes c.items.token c.items.self.place c.push_numbers.new.self.place c.items.parts c.push_numbers.new.parts c.items.invariant.from c.in_ok-push_numbers.ensures.kept c.in_ok-push_numbers.ensures.only in
-    record {
-      led = λ n s e.
-          let (d, i, r) = expected_at n s e in
-          let item = c.in_ok-parse_part_after_token.ensures.led at there n (form_of c.args.close ∷ s) (omega arith) in
-          let behind = behind_item c.args.close c.requires none i r item in
-          refuses_there s c.refuse_item.result c.refuse_item.ensures.never c.refuse_item.ensures.refused
-          (λ x says. fails_behind item.expected_there (λ _. Unit {0}) x behind item.is_behind (λ k text apart. absurd (apart tt)) (item_fails (λ _. Unit {0}) c.take-item.result c.parse_part_after_token.new.self.place c.take-item.new.self.place x c.in_default.not-Token c.take-item.ensures.takes says));
-      tree = never_built _ c.refuse_item.result c.refuse_item.ensures.never;
-      memory = wants_refused (g.P.Builder.takes_memory c.args.builder) c.args.self.now.place c.refuse_item.result c.refuse_item.ensures.refused (λ x says. wants_fails (g.P.Builder.takes_memory c.args.builder) c.args.self.now.place c.parse_part_after_token.new.self.place c.take-item.new.self.place (λ _. Unit {0}) x (item_fails (λ _. Unit {0}) c.take-item.result c.parse_part_after_token.new.self.place c.take-item.new.self.place x c.in_default.not-Token c.take-item.ensures.takes says));
-      asks = asks_item c.args.levels c.args.close c.args.self.now c.parse_part_after_token.new.self c.take-item.new.self at c.requires none expected_at (c.in_ok-parse_part_after_token.ensures.led at there) (asks_begun c.args.levels c.args.close c.items.token c.args.self.now c.push_numbers.new.self c.parse_part_after_token.new.self at expected_at there (asks_in_items (λ s cs ps. g.P.Builder.are_parts c.args.builder s c.if-eq-2.ty cs ps) c.args.levels c.args.close c.items.token c.items.parts c.args.self.now c.items.self c.push_numbers.new.self c.items.invariant.from c.items.invariant.asks c.push_numbers.ensures.asks) c.parse_part_after_token.ensures.asks) (asks_once c.parse_part_after_token.new.self c.take-item.new.self c.take-item.ensures.asks);
-    }
 
 pub parse_items-returns-in_default-item : goal.parse_items-returns-in_default-item
 parse_items-returns-in_default-item g t c =
-    let (at, there, none, expected_at, children, first, go) = still_in_items c.args.levels (omega arith) c.args.close c.requires c.args.self.now.place (λ s of cs ps. g.P.Builder.are_parts c.args.builder s of cs ps) c.if-eq-2.ty c.items.invariant.takes c.items.token c.items.self.place c.push_numbers.new.self.place c.items.parts c.push_numbers.new.parts c.items.invariant.from c.in_ok-push_numbers.ensures.kept c.in_ok-push_numbers.ensures.only in
+    let (at, there, none, expected_at, children, first, go) = still_in_items c.args.levels (omega arith) c.args.close c.requires c.args.self.now.place (λ s of cs ps. g.P.Builder.are_parts c.args.builder s of cs ps) c.if-eq-2.ty c.items.invariant.takes c.items.token c.items.self.place c.push_numbers.new.self.place c.items.parts c.push_numbers.new.parts c.items.invariant.from c.in_default.ensures.kept c.in_default.ensures.only in
     record {
       led = λ n s e.
           let (d, i, r) = expected_at n s e in
-          let item = c.in_ok-parse_part_after_token.ensures.led at there n (form_of c.args.close ∷ s) (omega arith) in
+          let item = c.in_default-parse_part_after_token.ensures.led at there n (form_of c.args.close ∷ s) (omega arith) in
+          let behind = behind_item c.args.close c.requires none i r item in
+          refuses_there s c.refuse_item.result c.refuse_item.ensures.never c.refuse_item.ensures.refused
+          (λ x says. fails_behind item.expected_there (λ _. Unit {0}) x behind item.is_behind (λ k text apart. absurd (apart tt)) (item_fails (λ _. Unit {0}) c.take-item.result c.parse_part_after_token.new.self.place c.take-item.new.self.place x c.in_default-item.not-Token c.take-item.ensures.takes says));
+      tree = never_built _ c.refuse_item.result c.refuse_item.ensures.never;
+      memory = wants_refused (g.P.Builder.takes_memory c.args.builder) c.args.self.now.place c.refuse_item.result c.refuse_item.ensures.refused (λ x says. wants_fails (g.P.Builder.takes_memory c.args.builder) c.args.self.now.place c.parse_part_after_token.new.self.place c.take-item.new.self.place (λ _. Unit {0}) x (item_fails (λ _. Unit {0}) c.take-item.result c.parse_part_after_token.new.self.place c.take-item.new.self.place x c.in_default-item.not-Token c.take-item.ensures.takes says));
+      asks = asks_item c.args.levels c.args.close c.args.self.now c.parse_part_after_token.new.self c.take-item.new.self at c.requires none expected_at (c.in_default-parse_part_after_token.ensures.led at there) (asks_begun c.args.levels c.args.close c.items.token c.args.self.now c.push_numbers.new.self c.parse_part_after_token.new.self at expected_at there (asks_in_items (λ s cs ps. g.P.Builder.are_parts c.args.builder s c.if-eq-2.ty cs ps) c.args.levels c.args.close c.items.token c.items.parts c.args.self.now c.items.self c.push_numbers.new.self c.items.invariant.from c.items.invariant.asks c.push_numbers.ensures.asks) c.parse_part_after_token.ensures.asks) (asks_once c.parse_part_after_token.new.self c.take-item.new.self c.take-item.ensures.asks);
+    }
+
+pub parse_items-returns-in_default-item-2 : goal.parse_items-returns-in_default-item-2
+parse_items-returns-in_default-item-2 g t c =
+    let (at, there, none, expected_at, children, first, go) = still_in_items c.args.levels (omega arith) c.args.close c.requires c.args.self.now.place (λ s of cs ps. g.P.Builder.are_parts c.args.builder s of cs ps) c.if-eq-2.ty c.items.invariant.takes c.items.token c.items.self.place c.push_numbers.new.self.place c.items.parts c.push_numbers.new.parts c.items.invariant.from c.in_default.ensures.kept c.in_default.ensures.only in
+    record {
+      led = λ n s e.
+          let (d, i, r) = expected_at n s e in
+          let item = c.in_default-parse_part_after_token.ensures.led at there n (form_of c.args.close ∷ s) (omega arith) in
           let behind = behind_item c.args.close c.requires none i r item in
           let comma_step = subst (λ z. behind_step (form_of c.args.close ∷ s) (token_of z (text_at c.take-item.new.self.place)) ≡ reads expectation.next_item (form_of c.args.close ∷ s)) (sym (differs_not c.in-Token.mark Comma c.ne.ensures c.if-ne.false)) (comma_behind c.args.close s (text_at c.take-item.new.self.place) c.requires) in
           let next = then_behind item.expected_there c.in-Token.mark behind item.is_behind c.in-Token.ensures.takes comma_step in
-          refuses_there s c.refuse_item-in_default-item.result c.refuse_item-in_default-item.ensures.never c.refuse_item-in_default-item.ensures.refused
-          (λ x says. fails (inl tt) (λ _. Unit {0}) x next (shallow n expectation.next_item (form_of c.args.close ∷ s) _ (omega arith)) (any_token n expectation.next_item (form_of c.args.close ∷ s) _ _) (item_fails (λ _. Unit {0}) c.take-item-in-items.result c.take-item.new.self.place c.take-item-in-items.new.self.place x c.in_default-item.not-Token c.take-item-in-items.ensures.takes says));
-      tree = never_built _ c.refuse_item-in_default-item.result c.refuse_item-in_default-item.ensures.never;
-      memory = wants_refused (g.P.Builder.takes_memory c.args.builder) c.args.self.now.place c.refuse_item-in_default-item.result c.refuse_item-in_default-item.ensures.refused (λ x says. wants_fails (g.P.Builder.takes_memory c.args.builder) c.args.self.now.place c.take-item.new.self.place c.take-item-in-items.new.self.place (λ _. Unit {0}) x (item_fails (λ _. Unit {0}) c.take-item-in-items.result c.take-item.new.self.place c.take-item-in-items.new.self.place x c.in_default-item.not-Token c.take-item-in-items.ensures.takes says));
-      asks = asks_item c.args.levels c.args.close c.args.self.now c.parse_part_after_token.new.self c.take-item-in-items.new.self at c.requires none expected_at (c.in_ok-parse_part_after_token.ensures.led at there) (asks_begun c.args.levels c.args.close c.items.token c.args.self.now c.push_numbers.new.self c.parse_part_after_token.new.self at expected_at there (asks_in_items (λ s cs ps. g.P.Builder.are_parts c.args.builder s c.if-eq-2.ty cs ps) c.args.levels c.args.close c.items.token c.items.parts c.args.self.now c.items.self c.push_numbers.new.self c.items.invariant.from c.items.invariant.asks c.push_numbers.ensures.asks) c.parse_part_after_token.ensures.asks) (asks_token c.parse_part_after_token.new.self c.take-item.new.self c.take-item-in-items.new.self c.in-Token.mark c.in-Token.ensures.takes c.take-item.ensures.asks (asks_once c.take-item.new.self c.take-item-in-items.new.self c.take-item-in-items.ensures.asks));
+          refuses_there s c.refuse_item-in_default-item-2.result c.refuse_item-in_default-item-2.ensures.never c.refuse_item-in_default-item-2.ensures.refused
+          (λ x says. fails (inl tt) (λ _. Unit {0}) x next (shallow n expectation.next_item (form_of c.args.close ∷ s) _ (omega arith)) (any_token n expectation.next_item (form_of c.args.close ∷ s) _ _) (item_fails (λ _. Unit {0}) c.take-item-in-items.result c.take-item.new.self.place c.take-item-in-items.new.self.place x c.in_default-item-2.not-Token c.take-item-in-items.ensures.takes says));
+      tree = never_built _ c.refuse_item-in_default-item-2.result c.refuse_item-in_default-item-2.ensures.never;
+      memory = wants_refused (g.P.Builder.takes_memory c.args.builder) c.args.self.now.place c.refuse_item-in_default-item-2.result c.refuse_item-in_default-item-2.ensures.refused (λ x says. wants_fails (g.P.Builder.takes_memory c.args.builder) c.args.self.now.place c.take-item.new.self.place c.take-item-in-items.new.self.place (λ _. Unit {0}) x (item_fails (λ _. Unit {0}) c.take-item-in-items.result c.take-item.new.self.place c.take-item-in-items.new.self.place x c.in_default-item-2.not-Token c.take-item-in-items.ensures.takes says));
+      asks = asks_item c.args.levels c.args.close c.args.self.now c.parse_part_after_token.new.self c.take-item-in-items.new.self at c.requires none expected_at (c.in_default-parse_part_after_token.ensures.led at there) (asks_begun c.args.levels c.args.close c.items.token c.args.self.now c.push_numbers.new.self c.parse_part_after_token.new.self at expected_at there (asks_in_items (λ s cs ps. g.P.Builder.are_parts c.args.builder s c.if-eq-2.ty cs ps) c.args.levels c.args.close c.items.token c.items.parts c.args.self.now c.items.self c.push_numbers.new.self c.items.invariant.from c.items.invariant.asks c.push_numbers.ensures.asks) c.parse_part_after_token.ensures.asks) (asks_token c.parse_part_after_token.new.self c.take-item.new.self c.take-item-in-items.new.self c.in-Token.mark c.in-Token.ensures.takes c.take-item.ensures.asks (asks_once c.take-item.new.self c.take-item-in-items.new.self c.take-item-in-items.ensures.asks));
     }
 
 pub parse_part-returns-then-levels-eq0-clause-led : goal.parse_part-returns-then-levels-eq0-clause-led
@@ -471,61 +469,58 @@ parse_optional_payload-returns-clause-tree g t c =
 pub parse_optional_payload-returns-clause-asks : goal.parse_optional_payload-returns-clause-asks
 parse_optional_payload-returns-clause-asks g t c = asks_looked c.args.self.now c.next_is.new.self c.parse_payload.new.self c.next_is.ensures.stays c.next_is.ensures.asks c.parse_payload.ensures.asks
 
-pub parse_payload-returns-in_err-expect-clause-led : goal.parse_payload-returns-in_err-expect-clause-led
-parse_payload-returns-in_err-expect-clause-led g t c = λ n s e. handed s _ _ c.from_residual-in_err-expect.ensures.1
-    (fails (inl tt) (λ k. k ≡ ParenOpen) c.in_err-expect.field-0.0 (here n expectation.paren s _) (λ deep. deep.expected) (λ k h apart. no_paren n s k (text_at c.expect.new.self.place) apart) c.in_err-expect.ensures.takes)
+pub parse_payload-returns-in-Err-expect-clause-led : goal.parse_payload-returns-in-Err-expect-clause-led
+parse_payload-returns-in-Err-expect-clause-led g t c = λ n s e. (fails (inl tt) (λ k. k ≡ ParenOpen) c.in-Err-expect.error (here n expectation.paren s _) (λ deep. deep.expected) (λ k h apart. no_paren n s k (text_at c.expect.new.self.place) apart) c.in-Err-expect.ensures.takes)
 
-pub parse_payload-returns-in_err-parse_part-clause-led : goal.parse_payload-returns-in_err-parse_part-clause-led
-parse_payload-returns-in_err-parse_part-clause-led g t c = λ n s e. handed s _ _ c.from_residual-in_err-parse_part.ensures.1
-    (then_refuses c.in_err-parse_part.field-0.0 (open_there c.in_ok-expect.ensures.takes) (c.in_err-parse_part.ensures.led n (expectation.payload ∷ s) (omega arith)))
+pub parse_payload-returns-in-Err-parse_part-clause-led : goal.parse_payload-returns-in-Err-parse_part-clause-led
+parse_payload-returns-in-Err-parse_part-clause-led g t c = λ n s e. (then_refuses c.in-Err-parse_part.error (open_there c.in_default-expect.ensures.takes) (c.in-Err-parse_part.ensures.led n (expectation.payload ∷ s) (omega arith)))
 
-pub parse_payload-returns-in_err-expect-2-clause-led : goal.parse_payload-returns-in_err-expect-2-clause-led
-parse_payload-returns-in_err-expect-2-clause-led g t c = λ n s e.
-    let item = c.in_ok-parse_part.ensures.led n (expectation.payload ∷ s) (omega arith) in
-    handed s _ _ c.from_residual-in_err-expect-2.ensures.1 (fails_behind item.expected_there (λ k. k ≡ ParenClose) c.in_err-expect-2.field-0.0 (then_reached (open_there c.in_ok-expect.ensures.takes) (reached item)) item.is_behind (λ k text apart. payload_other k s text apart) c.in_err-expect-2.ensures.takes)
+pub parse_payload-returns-in-Err-expect-2-clause-led : goal.parse_payload-returns-in-Err-expect-2-clause-led
+parse_payload-returns-in-Err-expect-2-clause-led g t c = λ n s e.
+    let item = c.in_default-parse_part.ensures.led n (expectation.payload ∷ s) (omega arith) in
+    (fails_behind item.expected_there (λ k. k ≡ ParenClose) c.in-Err-expect-2.error (then_reached (open_there c.in_default-expect.ensures.takes) (reached item)) item.is_behind (λ k text apart. payload_other k s text apart) c.in-Err-expect-2.ensures.takes)
 
 pub parse_payload-returns-clause-led : goal.parse_payload-returns-clause-led
 parse_payload-returns-clause-led g t c = λ n s e.
-    let item = c.in_ok-parse_part.ensures.led n (expectation.payload ∷ s) (omega arith) in
-    read_there (then_behind item.expected_there ParenClose (then_reached (open_there c.in_ok-expect.ensures.takes) (reached item)) item.is_behind c.in_ok-expect-2.ensures.takes refl) (inl refl)
+    let item = c.in_default-parse_part.ensures.led n (expectation.payload ∷ s) (omega arith) in
+    read_there (then_behind item.expected_there ParenClose (then_reached (open_there c.in_default-expect.ensures.takes) (reached item)) item.is_behind c.in_default-expect-2.ensures.takes refl) (inl refl)
 
-pub parse_payload-returns-in_err-parse_part-clause-asks : goal.parse_payload-returns-in_err-parse_part-clause-asks
-parse_payload-returns-in_err-parse_part-clause-asks g t c = asks_token c.args.self.now c.expect.new.self c.parse_part.new.self ParenOpen c.in_ok-expect.ensures.takes c.expect.ensures.asks c.parse_part.ensures.asks
+pub parse_payload-returns-in-Err-parse_part-clause-asks : goal.parse_payload-returns-in-Err-parse_part-clause-asks
+parse_payload-returns-in-Err-parse_part-clause-asks g t c = asks_token c.args.self.now c.expect.new.self c.parse_part.new.self ParenOpen c.in_default-expect.ensures.takes c.expect.ensures.asks c.parse_part.ensures.asks
 
-pub parse_payload-returns-in_err-expect-2-clause-asks : goal.parse_payload-returns-in_err-expect-2-clause-asks
-parse_payload-returns-in_err-expect-2-clause-asks g t c =
-    asks_token c.args.self.now c.expect.new.self c.expect-2.new.self ParenOpen c.in_ok-expect.ensures.takes c.expect.ensures.asks (asks_value c.args.levels c.expect.new.self c.parse_part.new.self c.expect-2.new.self c.in_ok-parse_part.ensures.led c.parse_part.ensures.asks (asks_once c.parse_part.new.self c.expect-2.new.self c.expect-2.ensures.asks))
+pub parse_payload-returns-in-Err-expect-2-clause-asks : goal.parse_payload-returns-in-Err-expect-2-clause-asks
+parse_payload-returns-in-Err-expect-2-clause-asks g t c =
+    asks_token c.args.self.now c.expect.new.self c.expect-2.new.self ParenOpen c.in_default-expect.ensures.takes c.expect.ensures.asks (asks_value c.args.levels c.expect.new.self c.parse_part.new.self c.expect-2.new.self c.in_default-parse_part.ensures.led c.parse_part.ensures.asks (asks_once c.parse_part.new.self c.expect-2.new.self c.expect-2.ensures.asks))
 
 pub parse_payload-returns-clause-asks : goal.parse_payload-returns-clause-asks
 parse_payload-returns-clause-asks g t c =
-    asks_token c.args.self.now c.expect.new.self c.expect-2.new.self ParenOpen c.in_ok-expect.ensures.takes c.expect.ensures.asks (asks_value c.args.levels c.expect.new.self c.parse_part.new.self c.expect-2.new.self c.in_ok-parse_part.ensures.led c.parse_part.ensures.asks (asks_once c.parse_part.new.self c.expect-2.new.self c.expect-2.ensures.asks))
+    asks_token c.args.self.now c.expect.new.self c.expect-2.new.self ParenOpen c.in_default-expect.ensures.takes c.expect.ensures.asks (asks_value c.args.levels c.expect.new.self c.parse_part.new.self c.expect-2.new.self c.in_default-parse_part.ensures.led c.parse_part.ensures.asks (asks_once c.parse_part.new.self c.expect-2.new.self c.expect-2.ensures.asks))
 
-pub parse_payload-returns-in_err-parse_part-clause-memory : goal.parse_payload-returns-in_err-parse_part-clause-memory
-parse_payload-returns-in_err-parse_part-clause-memory g t c =
+pub parse_payload-returns-in-Err-parse_part-clause-memory : goal.parse_payload-returns-in-Err-parse_part-clause-memory
+parse_payload-returns-in-Err-parse_part-clause-memory g t c =
     let label = label_children c.args.ty (span_at c.args.self.now.place) in
-    let first = c.in_ok-push_label.ensures.kept (c.no_parts-parts.ensures c.args.self.now.place.lexer.source (payload_parts c.args.ty c.requires)) in
-    error_handed (OnlyOutOfMemory (g.P.Builder.takes_memory c.args.builder) c.args.self.now.place) c.from_residual-in_err-parse_part.result c.in_err-parse_part.field-0.0 c.from_residual-in_err-parse_part.ensures.1
-    (wants_token (g.P.Builder.takes_memory c.args.builder) c.args.self.now.place c.expect.new.self.place ParenOpen c.in_err-parse_part.field-0.0 c.in_ok-expect.ensures.takes (c.in_err-parse_part.ensures.memory c.args.self.now.place.lexer.source c.args.ty label first))
+    let first = c.in_default.ensures.kept (c.no_parts-parts.ensures c.args.self.now.place.lexer.source (payload_parts c.args.ty c.requires)) in
+    (wants_token (g.P.Builder.takes_memory c.args.builder) c.args.self.now.place c.expect.new.self.place ParenOpen c.in-Err-parse_part.error c.in_default-expect.ensures.takes (c.in-Err-parse_part.ensures.memory c.args.self.now.place.lexer.source c.args.ty label first))
 
 pub parse_payload-returns-clause-tree : goal.parse_payload-returns-clause-tree
 parse_payload-returns-clause-tree g t c =
     let label = label_children c.args.ty (span_at c.args.self.now.place) in
-    let first = c.in_ok-push_label.ensures.kept (c.no_parts-parts.ensures c.args.self.now.place.lexer.source (payload_parts c.args.ty c.requires)) in
-    let opened : c.expect.new.self.place.lexer.source ≡ c.args.self.now.place.lexer.source = source_item c.args.self.now.place c.expect.new.self.place ParenOpen c.in_ok-expect.ensures.takes in
-    let (n, is, grown) = part_added (λ (s : List ℕ) cs ps. g.P.Builder.are_parts c.args.builder s c.args.ty cs ps) c.push_label.new.parts c.parse_part.new.parts label (IsParsed c.args.levels c.expect.new.self.place c.parse_part.new.self.place) opened (c.in_ok-parse_part.ensures.kept c.args.ty label (payload_expected c.args.ty (span_at c.args.self.now.place) c.requires)) first in
-    let source : c.expect-2.new.self.place.lexer.source ≡ c.args.self.now.place.lexer.source = source_item c.parse_part.new.self.place c.expect-2.new.self.place ParenClose c.in_ok-expect-2.ensures.takes ∙ (source_parsed c.args.levels c.expect.new.self.place c.parse_part.new.self.place n is ∙ opened) in
+    let first = c.in_default.ensures.kept (c.no_parts-parts.ensures c.args.self.now.place.lexer.source (payload_parts c.args.ty c.requires)) in
+    let opened : c.expect.new.self.place.lexer.source ≡ c.args.self.now.place.lexer.source = source_item c.args.self.now.place c.expect.new.self.place ParenOpen c.in_default-expect.ensures.takes in
+    let (n, is, grown) = part_added (λ (s : List ℕ) cs ps. g.P.Builder.are_parts c.args.builder s c.args.ty cs ps) c.push_label.new.parts c.parse_part.new.parts label (IsParsed c.args.levels c.expect.new.self.place c.parse_part.new.self.place) opened (c.in_default-parse_part.ensures.kept c.args.ty label (payload_expected c.args.ty (span_at c.args.self.now.place) c.requires)) first in
+    let source : c.expect-2.new.self.place.lexer.source ≡ c.args.self.now.place.lexer.source = source_item c.parse_part.new.self.place c.expect-2.new.self.place ParenClose c.in_default-expect-2.ensures.takes ∙ (source_parsed c.args.levels c.expect.new.self.place c.parse_part.new.self.place n is ∙ opened) in
     whole_node_built (g.P.Builder.is_built c.args.builder) (λ (s : List ℕ) cs ps. g.P.Builder.are_parts c.args.builder s c.args.ty cs ps) c.args.self.now.place c.expect-2.new.self.place c.args.ty c.span-start.result.start c.whole.result c.parse_part.new.parts (label ++ n ∷ []) (IsInParens c.args.levels c.args.ty c.args.self.now.place c.expect-2.new.self.place) source grown c.whole.ensures (
       c.expect.new.self.place,
-      c.in_ok-expect.ensures.takes,
-      record { payload = n; behind = c.parse_part.new.self.place; inner = is; close = c.in_ok-expect-2.ensures.takes; is = ap (λ (z : Range ℕ). node c.args.ty (span z.start c.expect-2.new.self.place.lexer.end) (node_trees (label ++ n ∷ []))) c.span-start.ensures },
+      c.in_default-expect.ensures.takes,
+      record { payload = n; behind = c.parse_part.new.self.place; inner = is; close = c.in_default-expect-2.ensures.takes; is = ap (λ (z : Range ℕ). node c.args.ty (span z.start c.expect-2.new.self.place.lexer.end) (node_trees (label ++ n ∷ []))) c.span-start.ensures },
     )
 
 pub parse_payload-whole-requires : goal.parse_payload-whole-requires
 parse_payload-whole-requires g t c =
     let label = label_children c.args.ty (span_at c.args.self.now.place) in
-    let first = c.in_ok-push_label.ensures.kept (c.no_parts-parts.ensures c.args.self.now.place.lexer.source (payload_parts c.args.ty c.requires)) in
-    let opened : c.expect.new.self.place.lexer.source ≡ c.args.self.now.place.lexer.source = source_item c.args.self.now.place c.expect.new.self.place ParenOpen c.in_ok-expect.ensures.takes in
-    let (n, is, grown) = part_added (λ (s : List ℕ) cs ps. g.P.Builder.are_parts c.args.builder s c.args.ty cs ps) c.push_label.new.parts c.parse_part.new.parts label (IsParsed c.args.levels c.expect.new.self.place c.parse_part.new.self.place) opened (c.in_ok-parse_part.ensures.kept c.args.ty label (payload_expected c.args.ty (span_at c.args.self.now.place) c.requires)) first in
+    let first = c.in_default.ensures.kept (c.no_parts-parts.ensures c.args.self.now.place.lexer.source (payload_parts c.args.ty c.requires)) in
+    let opened : c.expect.new.self.place.lexer.source ≡ c.args.self.now.place.lexer.source = source_item c.args.self.now.place c.expect.new.self.place ParenOpen c.in_default-expect.ensures.takes in
+    let (n, is, grown) = part_added (λ (s : List ℕ) cs ps. g.P.Builder.are_parts c.args.builder s c.args.ty cs ps) c.push_label.new.parts c.parse_part.new.parts label (IsParsed c.args.levels c.expect.new.self.place c.parse_part.new.self.place) opened (c.in_default-parse_part.ensures.kept c.args.ty label (payload_expected c.args.ty (span_at c.args.self.now.place) c.requires)) first in
     (c.args.self.now.place.lexer.source, label ++ n ∷ [], grown)
 
 pub parse_braces-returns-in_err-token-clause-led : goal.parse_braces-returns-in_err-token-clause-led
@@ -620,75 +615,73 @@ parse_braces-returns-then-eq-3-clause-tree g t c =
 pub parse_entries-entries-init : goal.parse_entries-entries-init
 parse_entries-entries-init g t c = record { asks = asks_none c.args.self.now c.args.self.now refl; led = λ n s e. here n expectation.behind_key s c.args.self.now.place; tree = ([], c.no_parts-parts.ensures c.args.self.now.place.lexer.source tt, (0, refl), λ cs r parts. parts) }
 
-pub parse_entries-returns-in_err-push_key-clause-asks : goal.parse_entries-returns-in_err-push_key-clause-asks
-parse_entries-returns-in_err-push_key-clause-asks g t c = c.entries.invariant.asks
+pub parse_entries-returns-in-Err-clause-asks : goal.parse_entries-returns-in-Err-clause-asks
+parse_entries-returns-in-Err-clause-asks g t c = c.entries.invariant.asks
 
-pub parse_entries-returns-in_err-expect-clause-led : goal.parse_entries-returns-in_err-expect-clause-led
-parse_entries-returns-in_err-expect-clause-led g t c = λ n s e. handed s _ _ c.from_residual-in_err-expect.ensures.1
-    (fails (inl tt) (λ k. k ≡ Colon) c.in_err-expect.field-0.0 (c.entries.invariant.led n s e) (λ deep. deep.expected) (λ k h apart. no_colon n s k (text_at c.expect.new.self.place) apart) c.in_err-expect.ensures.takes)
+pub parse_entries-returns-in-Err-expect-clause-led : goal.parse_entries-returns-in-Err-expect-clause-led
+parse_entries-returns-in-Err-expect-clause-led g t c = λ n s e. (fails (inl tt) (λ k. k ≡ Colon) c.in-Err-expect.error (c.entries.invariant.led n s e) (λ deep. deep.expected) (λ k h apart. no_colon n s k (text_at c.expect.new.self.place) apart) c.in-Err-expect.ensures.takes)
 
-pub parse_entries-returns-in_err-parse_part-clause-led : goal.parse_entries-returns-in_err-parse_part-clause-led
-parse_entries-returns-in_err-parse_part-clause-led g t c = λ n s e. handed s _ _ c.from_residual-in_err-parse_part.ensures.1
-    (then_refuses c.in_err-parse_part.field-0.0 (value_there (c.entries.invariant.led n s e) c.in_ok-expect.ensures.takes) (c.in_err-parse_part.ensures.led n (expectation.entries ∷ s) (omega arith)))
+pub parse_entries-returns-in-Err-parse_part-clause-led : goal.parse_entries-returns-in-Err-parse_part-clause-led
+parse_entries-returns-in-Err-parse_part-clause-led g t c = λ n s e. (then_refuses c.in-Err-parse_part.error (value_there (c.entries.invariant.led n s e) c.in_default-expect.ensures.takes) (c.in-Err-parse_part.ensures.led n (expectation.entries ∷ s) (omega arith)))
 
 pub parse_entries-returns-then-eq-clause-led : goal.parse_entries-returns-then-eq-clause-led
 parse_entries-returns-then-eq-clause-led g t c = λ n s e.
-    let item = c.in_ok-parse_part.ensures.led n (expectation.entries ∷ s) (omega arith) in
-    read_there (then_behind_class item.expected_there BraceClose (then_reached (value_there (c.entries.invariant.led n s e) c.in_ok-expect.ensures.takes) (reached item)) item.is_behind c.in-Token.ensures.takes (is_class _ _ c.eq.ensures c.if-eq.true) refl) (inl refl)
+    let item = c.in_default-parse_part.ensures.led n (expectation.entries ∷ s) (omega arith) in
+    read_there (then_behind_class item.expected_there BraceClose (then_reached (value_there (c.entries.invariant.led n s e) c.in_default-expect.ensures.takes) (reached item)) item.is_behind c.in-Token.ensures.takes (is_class _ _ c.eq.ensures c.if-eq.true) refl) (inl refl)
 
 pub parse_entries-returns-then-ne-clause-led : goal.parse_entries-returns-then-ne-clause-led
 parse_entries-returns-then-ne-clause-led g t c = λ n s e.
-    let item = c.in_ok-parse_part.ensures.led n (expectation.entries ∷ s) (omega arith) in
-    refuses_there s c.refuse_token.result c.refuse_token.ensures.never c.refuse_token.ensures.refused (λ x says. unexpected_behind item.expected_there x c.in-Token.token (then_reached (value_there (c.entries.invariant.led n s e) c.in_ok-expect.ensures.takes) (reached item)) item.is_behind c.in-Token.ensures.takes
+    let item = c.in_default-parse_part.ensures.led n (expectation.entries ∷ s) (omega arith) in
+    refuses_there s c.refuse_token.result c.refuse_token.ensures.never c.refuse_token.ensures.refused (λ x says. unexpected_behind item.expected_there x c.in-Token.token (then_reached (value_there (c.entries.invariant.led n s e) c.in_default-expect.ensures.takes) (reached item)) item.is_behind c.in-Token.ensures.takes
     (entries_other c.in-Token.token s (text_at c.take-item.new.self.place) (is_other _ _ c.eq.ensures c.if-eq.false) (differs _ _ c.ne.ensures c.if-ne.true))
     says)
 
 pub parse_entries-returns-then-eq-2-clause-led : goal.parse_entries-returns-then-eq-2-clause-led
 parse_entries-returns-then-eq-2-clause-led g t c = λ n s e.
-    let item = c.in_ok-parse_part.ensures.led n (expectation.entries ∷ s) (omega arith) in
-    let expected_key = key_expected (value_there (c.entries.invariant.led n s e) c.in_ok-expect.ensures.takes) item c.in-Token.ensures.takes (differs_not _ _ c.ne.ensures c.if-ne.false) in
+    let item = c.in_default-parse_part.ensures.led n (expectation.entries ∷ s) (omega arith) in
+    let expected_key = key_expected (value_there (c.entries.invariant.led n s e) c.in_default-expect.ensures.takes) item c.in-Token.ensures.takes (differs_not _ _ c.ne.ensures c.if-ne.false) in
     read_there (then_class BraceClose expected_key c.in-Token-item.ensures.takes (is_class _ _ c.eq-in-entries.ensures c.if-eq-2.true) refl) (inl refl)
 
 pub parse_entries-returns-in_default-key_type-clause-led : goal.parse_entries-returns-in_default-key_type-clause-led
 parse_entries-returns-in_default-key_type-clause-led g t c = λ n s e.
-    let item = c.in_ok-parse_part.ensures.led n (expectation.entries ∷ s) (omega arith) in
-    let expected_key = key_expected (value_there (c.entries.invariant.led n s e) c.in_ok-expect.ensures.takes) item c.in-Token.ensures.takes (differs_not _ _ c.ne.ensures c.if-ne.false) in
+    let item = c.in_default-parse_part.ensures.led n (expectation.entries ∷ s) (omega arith) in
+    let expected_key = key_expected (value_there (c.entries.invariant.led n s e) c.in_default-expect.ensures.takes) item c.in-Token.ensures.takes (differs_not _ _ c.ne.ensures c.if-ne.false) in
     refuses_there s c.refuse_token-in_default-key_type.result c.refuse_token-in_default-key_type.ensures.never c.refuse_token-in_default-key_type.ensures.refused (λ x says. unexpected_there (inl tt) x c.in-Token-item.next expected_key c.in-Token-item.ensures.takes
     (no_key c.in-Token-item.next s (text_at c.take-item-in-entries.new.self.place) c.in_default-key_type.ensures (is_other _ _ c.eq-in-entries.ensures c.if-eq-2.false))
     says)
 
 pub parse_entries-entries-smaller : goal.parse_entries-entries-smaller
 parse_entries-entries-smaller g t c =
-    let item = c.in_ok-parse_part.ensures.led (c.args.levels + 1 + 0) (expectation.entries ∷ []) (omega arith) in
-    let one = token_less _ _ Colon c.in_ok-expect.ensures.takes in
+    let item = c.in_default-parse_part.ensures.led (c.args.levels + 1 + 0) (expectation.entries ∷ []) (omega arith) in
+    let one = token_less _ _ Colon c.in_default-expect.ensures.takes in
     let two = tokens_less _ _ item.tokens item.taken in
     let three = token_less _ _ c.in-Token.token c.in-Token.ensures.takes in
     let four = token_less _ _ c.in-Token-item.next c.in-Token-item.ensures.takes in
     omega arith
 
-pub parse_entries-returns-in_err-expect-clause-asks : goal.parse_entries-returns-in_err-expect-clause-asks
-parse_entries-returns-in_err-expect-clause-asks g t c =
+pub parse_entries-returns-in-Err-expect-clause-asks : goal.parse_entries-returns-in-Err-expect-clause-asks
+parse_entries-returns-in-Err-expect-clause-asks g t c =
     asks_entries c.args.levels c.args.self.now c.entries.self c.expect.new.self c.entries.invariant.led c.entries.invariant.asks (asks_once c.entries.self c.expect.new.self c.expect.ensures.asks)
 
-pub parse_entries-returns-in_err-parse_part-clause-asks : goal.parse_entries-returns-in_err-parse_part-clause-asks
-parse_entries-returns-in_err-parse_part-clause-asks g t c =
-    asks_entries c.args.levels c.args.self.now c.entries.self c.parse_part.new.self c.entries.invariant.led c.entries.invariant.asks (asks_token c.entries.self c.expect.new.self c.parse_part.new.self Colon c.in_ok-expect.ensures.takes c.expect.ensures.asks c.parse_part.ensures.asks)
+pub parse_entries-returns-in-Err-parse_part-clause-asks : goal.parse_entries-returns-in-Err-parse_part-clause-asks
+parse_entries-returns-in-Err-parse_part-clause-asks g t c =
+    asks_entries c.args.levels c.args.self.now c.entries.self c.parse_part.new.self c.entries.invariant.led c.entries.invariant.asks (asks_token c.entries.self c.expect.new.self c.parse_part.new.self Colon c.in_default-expect.ensures.takes c.expect.ensures.asks c.parse_part.ensures.asks)
 
 pub parse_entries-returns-then-eq-clause-asks : goal.parse_entries-returns-then-eq-clause-asks
 parse_entries-returns-then-eq-clause-asks g t c =
-    asks_entries c.args.levels c.args.self.now c.entries.self c.take-item.new.self c.entries.invariant.led c.entries.invariant.asks (asks_token c.entries.self c.expect.new.self c.take-item.new.self Colon c.in_ok-expect.ensures.takes c.expect.ensures.asks (asks_value c.args.levels c.expect.new.self c.parse_part.new.self c.take-item.new.self c.in_ok-parse_part.ensures.led c.parse_part.ensures.asks (asks_once c.parse_part.new.self c.take-item.new.self c.take-item.ensures.asks)))
+    asks_entries c.args.levels c.args.self.now c.entries.self c.take-item.new.self c.entries.invariant.led c.entries.invariant.asks (asks_token c.entries.self c.expect.new.self c.take-item.new.self Colon c.in_default-expect.ensures.takes c.expect.ensures.asks (asks_value c.args.levels c.expect.new.self c.parse_part.new.self c.take-item.new.self c.in_default-parse_part.ensures.led c.parse_part.ensures.asks (asks_once c.parse_part.new.self c.take-item.new.self c.take-item.ensures.asks)))
 
 pub parse_entries-returns-then-ne-clause-asks : goal.parse_entries-returns-then-ne-clause-asks
 parse_entries-returns-then-ne-clause-asks g t c =
-    asks_entries c.args.levels c.args.self.now c.entries.self c.take-item.new.self c.entries.invariant.led c.entries.invariant.asks (asks_token c.entries.self c.expect.new.self c.take-item.new.self Colon c.in_ok-expect.ensures.takes c.expect.ensures.asks (asks_value c.args.levels c.expect.new.self c.parse_part.new.self c.take-item.new.self c.in_ok-parse_part.ensures.led c.parse_part.ensures.asks (asks_once c.parse_part.new.self c.take-item.new.self c.take-item.ensures.asks)))
+    asks_entries c.args.levels c.args.self.now c.entries.self c.take-item.new.self c.entries.invariant.led c.entries.invariant.asks (asks_token c.entries.self c.expect.new.self c.take-item.new.self Colon c.in_default-expect.ensures.takes c.expect.ensures.asks (asks_value c.args.levels c.expect.new.self c.parse_part.new.self c.take-item.new.self c.in_default-parse_part.ensures.led c.parse_part.ensures.asks (asks_once c.parse_part.new.self c.take-item.new.self c.take-item.ensures.asks)))
 
 pub parse_entries-returns-then-eq-2-clause-asks : goal.parse_entries-returns-then-eq-2-clause-asks
 parse_entries-returns-then-eq-2-clause-asks g t c =
-    asks_entries c.args.levels c.args.self.now c.entries.self c.take-item-in-entries.new.self c.entries.invariant.led c.entries.invariant.asks (asks_token c.entries.self c.expect.new.self c.take-item-in-entries.new.self Colon c.in_ok-expect.ensures.takes c.expect.ensures.asks (asks_value c.args.levels c.expect.new.self c.parse_part.new.self c.take-item-in-entries.new.self c.in_ok-parse_part.ensures.led c.parse_part.ensures.asks (asks_token c.parse_part.new.self c.take-item.new.self c.take-item-in-entries.new.self c.in-Token.token c.in-Token.ensures.takes c.take-item.ensures.asks (asks_once c.take-item.new.self c.take-item-in-entries.new.self c.take-item-in-entries.ensures.asks))))
+    asks_entries c.args.levels c.args.self.now c.entries.self c.take-item-in-entries.new.self c.entries.invariant.led c.entries.invariant.asks (asks_token c.entries.self c.expect.new.self c.take-item-in-entries.new.self Colon c.in_default-expect.ensures.takes c.expect.ensures.asks (asks_value c.args.levels c.expect.new.self c.parse_part.new.self c.take-item-in-entries.new.self c.in_default-parse_part.ensures.led c.parse_part.ensures.asks (asks_token c.parse_part.new.self c.take-item.new.self c.take-item-in-entries.new.self c.in-Token.token c.in-Token.ensures.takes c.take-item.ensures.asks (asks_once c.take-item.new.self c.take-item-in-entries.new.self c.take-item-in-entries.ensures.asks))))
 
 pub parse_entries-returns-in_default-key_type-clause-asks : goal.parse_entries-returns-in_default-key_type-clause-asks
 parse_entries-returns-in_default-key_type-clause-asks g t c =
-    asks_entries c.args.levels c.args.self.now c.entries.self c.take-item-in-entries.new.self c.entries.invariant.led c.entries.invariant.asks (asks_token c.entries.self c.expect.new.self c.take-item-in-entries.new.self Colon c.in_ok-expect.ensures.takes c.expect.ensures.asks (asks_value c.args.levels c.expect.new.self c.parse_part.new.self c.take-item-in-entries.new.self c.in_ok-parse_part.ensures.led c.parse_part.ensures.asks (asks_token c.parse_part.new.self c.take-item.new.self c.take-item-in-entries.new.self c.in-Token.token c.in-Token.ensures.takes c.take-item.ensures.asks (asks_once c.take-item.new.self c.take-item-in-entries.new.self c.take-item-in-entries.ensures.asks))))
+    asks_entries c.args.levels c.args.self.now c.entries.self c.take-item-in-entries.new.self c.entries.invariant.led c.entries.invariant.asks (asks_token c.entries.self c.expect.new.self c.take-item-in-entries.new.self Colon c.in_default-expect.ensures.takes c.expect.ensures.asks (asks_value c.args.levels c.expect.new.self c.parse_part.new.self c.take-item-in-entries.new.self c.in_default-parse_part.ensures.led c.parse_part.ensures.asks (asks_token c.parse_part.new.self c.take-item.new.self c.take-item-in-entries.new.self c.in-Token.token c.in-Token.ensures.takes c.take-item.ensures.asks (asks_once c.take-item.new.self c.take-item-in-entries.new.self c.take-item-in-entries.ensures.asks))))
 
 pub parse_entries-returns-then-eq-clause-tree : goal.parse_entries-returns-then-eq-clause-tree
 parse_entries-returns-then-eq-clause-tree g t c =
@@ -696,11 +689,11 @@ parse_entries-returns-then-eq-clause-tree g t c =
     let here : c.entries.self.place.lexer.source ≡ c.args.self.now.place.lexer.source = source_reached (c.entries.invariant.led (c.args.levels + 1) [] (omega arith)) in
     let key = node c.entries.key (span_at c.entries.self.place) no_nodes in
     let value_expected = value_next children key even in
-    let (n, is, grown) = entry_added (λ (s : List ℕ) cs ps. g.P.Builder.are_parts c.args.builder s kind_of_node.TupleSet cs ps) c.args.levels c.args.self.now.place c.entries.self.place c.expect.new.self.place c.parse_part.new.self.place c.entries.key children c.entries.parts c.push_key.new.parts c.parse_part.new.parts here c.in_ok-expect.ensures.takes so_far
-    (c.in_ok-push_key.ensures.kept kind_of_node.TupleSet children even) (c.in_ok-parse_part.ensures.kept kind_of_node.TupleSet (children ++ key ∷ []) value_expected) in
-    let token : c.take-item.new.self.place.lexer.source ≡ c.args.self.now.place.lexer.source = source_item c.parse_part.new.self.place c.take-item.new.self.place c.in-Token.token c.in-Token.ensures.takes ∙ (source_parsed c.args.levels c.expect.new.self.place c.parse_part.new.self.place n is ∙ (source_item c.entries.self.place c.expect.new.self.place Colon c.in_ok-expect.ensures.takes ∙ here)) in
+    let (n, is, grown) = entry_added (λ (s : List ℕ) cs ps. g.P.Builder.are_parts c.args.builder s kind_of_node.TupleSet cs ps) c.args.levels c.args.self.now.place c.entries.self.place c.expect.new.self.place c.parse_part.new.self.place c.entries.key children c.entries.parts c.push_key.new.parts c.parse_part.new.parts here c.in_default-expect.ensures.takes so_far
+    (c.in_default.ensures.kept kind_of_node.TupleSet children even) (c.in_default-parse_part.ensures.kept kind_of_node.TupleSet (children ++ key ∷ []) value_expected) in
+    let token : c.take-item.new.self.place.lexer.source ≡ c.args.self.now.place.lexer.source = source_item c.parse_part.new.self.place c.take-item.new.self.place c.in-Token.token c.in-Token.ensures.takes ∙ (source_parsed c.args.levels c.expect.new.self.place c.parse_part.new.self.place n is ∙ (source_item c.entries.self.place c.expect.new.self.place Colon c.in_default-expect.ensures.takes ∙ here)) in
     whole_node_built (g.P.Builder.is_built c.args.builder) (λ (s : List ℕ) cs ps. g.P.Builder.are_parts c.args.builder s kind_of_node.TupleSet cs ps) c.args.self.now.place c.take-item.new.self.place kind_of_node.TupleSet c.args.start c.whole.result c.parse_part.new.parts ((children ++ key ∷ []) ++ n ∷ []) (IsOfEntries c.args.levels c.args.start c.args.first c.args.self.now.place c.take-item.new.self.place) token grown c.whole.ensures
-    (record { children = (children ++ key ∷ []) ++ n ∷ []; are = keyed_close c.args.levels c.args.self.now.place c.entries.self.place c.expect.new.self.place c.parse_part.new.self.place c.take-item.new.self.place c.args.first c.entries.key children n go c.in_ok-expect.ensures.takes is (inl (class_as _ _ _ BraceClose c.in-Token.ensures.takes (is_class _ _ c.eq.ensures c.if-eq.true))); is = refl })
+    (record { children = (children ++ key ∷ []) ++ n ∷ []; are = keyed_close c.args.levels c.args.self.now.place c.entries.self.place c.expect.new.self.place c.parse_part.new.self.place c.take-item.new.self.place c.args.first c.entries.key children n go c.in_default-expect.ensures.takes is (inl (class_as _ _ _ BraceClose c.in-Token.ensures.takes (is_class _ _ c.eq.ensures c.if-eq.true))); is = refl })
 
 pub parse_entries-returns-then-eq-2-clause-tree : goal.parse_entries-returns-then-eq-2-clause-tree
 parse_entries-returns-then-eq-2-clause-tree g t c =
@@ -708,12 +701,12 @@ parse_entries-returns-then-eq-2-clause-tree g t c =
     let here : c.entries.self.place.lexer.source ≡ c.args.self.now.place.lexer.source = source_reached (c.entries.invariant.led (c.args.levels + 1) [] (omega arith)) in
     let key = node c.entries.key (span_at c.entries.self.place) no_nodes in
     let value_expected = value_next children key even in
-    let (n, is, grown) = entry_added (λ (s : List ℕ) cs ps. g.P.Builder.are_parts c.args.builder s kind_of_node.TupleSet cs ps) c.args.levels c.args.self.now.place c.entries.self.place c.expect.new.self.place c.parse_part.new.self.place c.entries.key children c.entries.parts c.push_key.new.parts c.parse_part.new.parts here c.in_ok-expect.ensures.takes so_far
-    (c.in_ok-push_key.ensures.kept kind_of_node.TupleSet children even) (c.in_ok-parse_part.ensures.kept kind_of_node.TupleSet (children ++ key ∷ []) value_expected) in
-    let token : c.take-item.new.self.place.lexer.source ≡ c.args.self.now.place.lexer.source = source_item c.parse_part.new.self.place c.take-item.new.self.place c.in-Token.token c.in-Token.ensures.takes ∙ (source_parsed c.args.levels c.expect.new.self.place c.parse_part.new.self.place n is ∙ (source_item c.entries.self.place c.expect.new.self.place Colon c.in_ok-expect.ensures.takes ∙ here)) in
+    let (n, is, grown) = entry_added (λ (s : List ℕ) cs ps. g.P.Builder.are_parts c.args.builder s kind_of_node.TupleSet cs ps) c.args.levels c.args.self.now.place c.entries.self.place c.expect.new.self.place c.parse_part.new.self.place c.entries.key children c.entries.parts c.push_key.new.parts c.parse_part.new.parts here c.in_default-expect.ensures.takes so_far
+    (c.in_default.ensures.kept kind_of_node.TupleSet children even) (c.in_default-parse_part.ensures.kept kind_of_node.TupleSet (children ++ key ∷ []) value_expected) in
+    let token : c.take-item.new.self.place.lexer.source ≡ c.args.self.now.place.lexer.source = source_item c.parse_part.new.self.place c.take-item.new.self.place c.in-Token.token c.in-Token.ensures.takes ∙ (source_parsed c.args.levels c.expect.new.self.place c.parse_part.new.self.place n is ∙ (source_item c.entries.self.place c.expect.new.self.place Colon c.in_default-expect.ensures.takes ∙ here)) in
     let close : c.take-item-in-entries.new.self.place.lexer.source ≡ c.args.self.now.place.lexer.source = source_item c.take-item.new.self.place c.take-item-in-entries.new.self.place c.in-Token-item.next c.in-Token-item.ensures.takes ∙ token in
     whole_node_built (g.P.Builder.is_built c.args.builder) (λ (s : List ℕ) cs ps. g.P.Builder.are_parts c.args.builder s kind_of_node.TupleSet cs ps) c.args.self.now.place c.take-item-in-entries.new.self.place kind_of_node.TupleSet c.args.start c.whole-then-eq-2.result c.parse_part.new.parts ((children ++ key ∷ []) ++ n ∷ []) (IsOfEntries c.args.levels c.args.start c.args.first c.args.self.now.place c.take-item-in-entries.new.self.place) close grown c.whole-then-eq-2.ensures
-    (record { children = (children ++ key ∷ []) ++ n ∷ []; are = keyed_close c.args.levels c.args.self.now.place c.entries.self.place c.expect.new.self.place c.parse_part.new.self.place c.take-item-in-entries.new.self.place c.args.first c.entries.key children n go c.in_ok-expect.ensures.takes is (inr (c.take-item.new.self.place, (class_as _ _ _ Comma c.in-Token.ensures.takes (differs_not _ _ c.ne.ensures c.if-ne.false)), class_as _ _ _ BraceClose c.in-Token-item.ensures.takes (is_class _ _ c.eq-in-entries.ensures c.if-eq-2.true))); is = refl })
+    (record { children = (children ++ key ∷ []) ++ n ∷ []; are = keyed_close c.args.levels c.args.self.now.place c.entries.self.place c.expect.new.self.place c.parse_part.new.self.place c.take-item-in-entries.new.self.place c.args.first c.entries.key children n go c.in_default-expect.ensures.takes is (inr (c.take-item.new.self.place, (class_as _ _ _ Comma c.in-Token.ensures.takes (differs_not _ _ c.ne.ensures c.if-ne.false)), class_as _ _ _ BraceClose c.in-Token-item.ensures.takes (is_class _ _ c.eq-in-entries.ensures c.if-eq-2.true))); is = refl })
 
 pub parse_entries-whole-requires : goal.parse_entries-whole-requires
 parse_entries-whole-requires g t c =
@@ -721,8 +714,8 @@ parse_entries-whole-requires g t c =
     let here : c.entries.self.place.lexer.source ≡ c.args.self.now.place.lexer.source = source_reached (c.entries.invariant.led (c.args.levels + 1) [] (omega arith)) in
     let key = node c.entries.key (span_at c.entries.self.place) no_nodes in
     let value_expected = value_next children key even in
-    let (n, is, grown) = entry_added (λ (s : List ℕ) cs ps. g.P.Builder.are_parts c.args.builder s kind_of_node.TupleSet cs ps) c.args.levels c.args.self.now.place c.entries.self.place c.expect.new.self.place c.parse_part.new.self.place c.entries.key children c.entries.parts c.push_key.new.parts c.parse_part.new.parts here c.in_ok-expect.ensures.takes so_far
-    (c.in_ok-push_key.ensures.kept kind_of_node.TupleSet children even) (c.in_ok-parse_part.ensures.kept kind_of_node.TupleSet (children ++ key ∷ []) value_expected) in
+    let (n, is, grown) = entry_added (λ (s : List ℕ) cs ps. g.P.Builder.are_parts c.args.builder s kind_of_node.TupleSet cs ps) c.args.levels c.args.self.now.place c.entries.self.place c.expect.new.self.place c.parse_part.new.self.place c.entries.key children c.entries.parts c.push_key.new.parts c.parse_part.new.parts here c.in_default-expect.ensures.takes so_far
+    (c.in_default.ensures.kept kind_of_node.TupleSet children even) (c.in_default-parse_part.ensures.kept kind_of_node.TupleSet (children ++ key ∷ []) value_expected) in
     (c.args.self.now.place.lexer.source, (children ++ key ∷ []) ++ n ∷ [], grown)
 
 pub parse_entries-whole-requires-then-eq-2 : goal.parse_entries-whole-requires-then-eq-2
@@ -731,29 +724,29 @@ parse_entries-whole-requires-then-eq-2 g t c =
     let here : c.entries.self.place.lexer.source ≡ c.args.self.now.place.lexer.source = source_reached (c.entries.invariant.led (c.args.levels + 1) [] (omega arith)) in
     let key = node c.entries.key (span_at c.entries.self.place) no_nodes in
     let value_expected = value_next children key even in
-    let (n, is, grown) = entry_added (λ (s : List ℕ) cs ps. g.P.Builder.are_parts c.args.builder s kind_of_node.TupleSet cs ps) c.args.levels c.args.self.now.place c.entries.self.place c.expect.new.self.place c.parse_part.new.self.place c.entries.key children c.entries.parts c.push_key.new.parts c.parse_part.new.parts here c.in_ok-expect.ensures.takes so_far
-    (c.in_ok-push_key.ensures.kept kind_of_node.TupleSet children even) (c.in_ok-parse_part.ensures.kept kind_of_node.TupleSet (children ++ key ∷ []) value_expected) in
+    let (n, is, grown) = entry_added (λ (s : List ℕ) cs ps. g.P.Builder.are_parts c.args.builder s kind_of_node.TupleSet cs ps) c.args.levels c.args.self.now.place c.entries.self.place c.expect.new.self.place c.parse_part.new.self.place c.entries.key children c.entries.parts c.push_key.new.parts c.parse_part.new.parts here c.in_default-expect.ensures.takes so_far
+    (c.in_default.ensures.kept kind_of_node.TupleSet children even) (c.in_default-parse_part.ensures.kept kind_of_node.TupleSet (children ++ key ∷ []) value_expected) in
     (c.args.self.now.place.lexer.source, (children ++ key ∷ []) ++ n ∷ [], grown)
 
 pub parse_entries-entries-preserved : goal.parse_entries-entries-preserved
 parse_entries-entries-preserved g t c = record {
   asks =
-      asks_entries c.args.levels c.args.self.now c.entries.self c.take-item-in-entries.new.self c.entries.invariant.led c.entries.invariant.asks (asks_token c.entries.self c.expect.new.self c.take-item-in-entries.new.self Colon c.in_ok-expect.ensures.takes c.expect.ensures.asks (asks_value c.args.levels c.expect.new.self c.parse_part.new.self c.take-item-in-entries.new.self c.in_ok-parse_part.ensures.led c.parse_part.ensures.asks (asks_token c.parse_part.new.self c.take-item.new.self c.take-item-in-entries.new.self c.in-Token.token c.in-Token.ensures.takes c.take-item.ensures.asks (asks_once c.take-item.new.self c.take-item-in-entries.new.self c.take-item-in-entries.ensures.asks))));
+      asks_entries c.args.levels c.args.self.now c.entries.self c.take-item-in-entries.new.self c.entries.invariant.led c.entries.invariant.asks (asks_token c.entries.self c.expect.new.self c.take-item-in-entries.new.self Colon c.in_default-expect.ensures.takes c.expect.ensures.asks (asks_value c.args.levels c.expect.new.self c.parse_part.new.self c.take-item-in-entries.new.self c.in_default-parse_part.ensures.led c.parse_part.ensures.asks (asks_token c.parse_part.new.self c.take-item.new.self c.take-item-in-entries.new.self c.in-Token.token c.in-Token.ensures.takes c.take-item.ensures.asks (asks_once c.take-item.new.self c.take-item-in-entries.new.self c.take-item-in-entries.ensures.asks))));
   led = λ n s e.
-      let item = c.in_ok-parse_part.ensures.led n (expectation.entries ∷ s) (omega arith) in
-      let expected_key = key_expected (value_there (c.entries.invariant.led n s e) c.in_ok-expect.ensures.takes) item c.in-Token.ensures.takes (differs_not _ _ c.ne.ensures c.if-ne.false) in
+      let item = c.in_default-parse_part.ensures.led n (expectation.entries ∷ s) (omega arith) in
+      let expected_key = key_expected (value_there (c.entries.invariant.led n s e) c.in_default-expect.ensures.takes) item c.in-Token.ensures.takes (differs_not _ _ c.ne.ensures c.if-ne.false) in
       then_same c.in-Token-item.next expected_key c.in-Token-item.ensures.takes (key_reads c.in-Token-item.next s (text_at c.take-item-in-entries.new.self.place) c.in-Some.ensures.0);
   tree =
       let (children, so_far, even, go) = c.entries.invariant.tree in
       let here : c.entries.self.place.lexer.source ≡ c.args.self.now.place.lexer.source = source_reached (c.entries.invariant.led (c.args.levels + 1) [] (omega arith)) in
       let key = node c.entries.key (span_at c.entries.self.place) no_nodes in
       let value_expected = value_next children key even in
-      let (n, is, grown) = entry_added (λ (s : List ℕ) cs ps. g.P.Builder.are_parts c.args.builder s kind_of_node.TupleSet cs ps) c.args.levels c.args.self.now.place c.entries.self.place c.expect.new.self.place c.parse_part.new.self.place c.entries.key children c.entries.parts c.push_key.new.parts c.parse_part.new.parts here c.in_ok-expect.ensures.takes so_far
-      (c.in_ok-push_key.ensures.kept kind_of_node.TupleSet children even) (c.in_ok-parse_part.ensures.kept kind_of_node.TupleSet (children ++ key ∷ []) value_expected) in (
+      let (n, is, grown) = entry_added (λ (s : List ℕ) cs ps. g.P.Builder.are_parts c.args.builder s kind_of_node.TupleSet cs ps) c.args.levels c.args.self.now.place c.entries.self.place c.expect.new.self.place c.parse_part.new.self.place c.entries.key children c.entries.parts c.push_key.new.parts c.parse_part.new.parts here c.in_default-expect.ensures.takes so_far
+      (c.in_default.ensures.kept kind_of_node.TupleSet children even) (c.in_default-parse_part.ensures.kept kind_of_node.TupleSet (children ++ key ∷ []) value_expected) in (
         (children ++ key ∷ []) ++ n ∷ [],
         grown,
         key_next (children ++ key ∷ []) n value_expected,
-        keyed_next c.args.levels c.args.self.now.place c.entries.self.place c.expect.new.self.place c.parse_part.new.self.place c.take-item-in-entries.new.self.place c.args.first c.entries.key children n go c.in_ok-expect.ensures.takes is c.take-item.new.self.place c.in-Token-item.next c.in-Some.ty (class_as _ _ _ Comma c.in-Token.ensures.takes (differs_not _ _ c.ne.ensures c.if-ne.false)) c.in-Token-item.ensures.takes c.in-Some.ensures.0 c.in-Some.ensures.1,
+        keyed_next c.args.levels c.args.self.now.place c.entries.self.place c.expect.new.self.place c.parse_part.new.self.place c.take-item-in-entries.new.self.place c.args.first c.entries.key children n go c.in_default-expect.ensures.takes is c.take-item.new.self.place c.in-Token-item.next c.in-Some.ty (class_as _ _ _ Comma c.in-Token.ensures.takes (differs_not _ _ c.ne.ensures c.if-ne.false)) c.in-Token-item.ensures.takes c.in-Some.ensures.0 c.in-Some.ensures.1,
       );
 }
 
@@ -774,23 +767,23 @@ parse_part-returns-in_default g t c = record {
   asks = asks_once c.args.self.now c.take-item.new.self c.take-item.ensures.asks;
 }
 
-pub parse_entries-returns-in_default : goal.parse_entries-returns-in_default
-parse_entries-returns-in_default g t c = record {
-  led = λ n s e.
-      let item = c.in_ok-parse_part.ensures.led n (expectation.entries ∷ s) (omega arith) in
-      refuses_there s c.refuse_item.result c.refuse_item.ensures.never c.refuse_item.ensures.refused
-      (λ x says. fails_behind item.expected_there (λ _. Unit {0}) x (then_reached (value_there (c.entries.invariant.led n s e) c.in_ok-expect.ensures.takes) (reached item)) item.is_behind (λ k text apart. absurd (apart tt)) (item_fails (λ _. Unit {0}) c.take-item.result c.parse_part.new.self.place c.take-item.new.self.place x c.in_default.not-Token c.take-item.ensures.takes says));
-  tree = never_built _ c.refuse_item.result c.refuse_item.ensures.never;
-  asks = asks_entries c.args.levels c.args.self.now c.entries.self c.take-item.new.self c.entries.invariant.led c.entries.invariant.asks (asks_token c.entries.self c.expect.new.self c.take-item.new.self Colon c.in_ok-expect.ensures.takes c.expect.ensures.asks (asks_value c.args.levels c.expect.new.self c.parse_part.new.self c.take-item.new.self c.in_ok-parse_part.ensures.led c.parse_part.ensures.asks (asks_once c.parse_part.new.self c.take-item.new.self c.take-item.ensures.asks)));
-}
-
 pub parse_entries-returns-in_default-item : goal.parse_entries-returns-in_default-item
 parse_entries-returns-in_default-item g t c = record {
   led = λ n s e.
-      let item = c.in_ok-parse_part.ensures.led n (expectation.entries ∷ s) (omega arith) in
-      let expected_key = key_expected (value_there (c.entries.invariant.led n s e) c.in_ok-expect.ensures.takes) item c.in-Token.ensures.takes (differs_not _ _ c.ne.ensures c.if-ne.false) in
-      refuses_there s c.refuse_item-in_default-item.result c.refuse_item-in_default-item.ensures.never c.refuse_item-in_default-item.ensures.refused
-      (λ x says. fails (inl tt) (λ _. Unit {0}) x expected_key (λ deep. deep.expected) (any_token n expectation.key s _ _) (item_fails (λ _. Unit {0}) c.take-item-in-entries.result c.take-item.new.self.place c.take-item-in-entries.new.self.place x c.in_default-item.not-Token c.take-item-in-entries.ensures.takes says));
-  tree = never_built _ c.refuse_item-in_default-item.result c.refuse_item-in_default-item.ensures.never;
-  asks = asks_entries c.args.levels c.args.self.now c.entries.self c.take-item-in-entries.new.self c.entries.invariant.led c.entries.invariant.asks (asks_token c.entries.self c.expect.new.self c.take-item-in-entries.new.self Colon c.in_ok-expect.ensures.takes c.expect.ensures.asks (asks_value c.args.levels c.expect.new.self c.parse_part.new.self c.take-item-in-entries.new.self c.in_ok-parse_part.ensures.led c.parse_part.ensures.asks (asks_token c.parse_part.new.self c.take-item.new.self c.take-item-in-entries.new.self c.in-Token.token c.in-Token.ensures.takes c.take-item.ensures.asks (asks_once c.take-item.new.self c.take-item-in-entries.new.self c.take-item-in-entries.ensures.asks))));
+      let item = c.in_default-parse_part.ensures.led n (expectation.entries ∷ s) (omega arith) in
+      refuses_there s c.refuse_item.result c.refuse_item.ensures.never c.refuse_item.ensures.refused
+      (λ x says. fails_behind item.expected_there (λ _. Unit {0}) x (then_reached (value_there (c.entries.invariant.led n s e) c.in_default-expect.ensures.takes) (reached item)) item.is_behind (λ k text apart. absurd (apart tt)) (item_fails (λ _. Unit {0}) c.take-item.result c.parse_part.new.self.place c.take-item.new.self.place x c.in_default-item.not-Token c.take-item.ensures.takes says));
+  tree = never_built _ c.refuse_item.result c.refuse_item.ensures.never;
+  asks = asks_entries c.args.levels c.args.self.now c.entries.self c.take-item.new.self c.entries.invariant.led c.entries.invariant.asks (asks_token c.entries.self c.expect.new.self c.take-item.new.self Colon c.in_default-expect.ensures.takes c.expect.ensures.asks (asks_value c.args.levels c.expect.new.self c.parse_part.new.self c.take-item.new.self c.in_default-parse_part.ensures.led c.parse_part.ensures.asks (asks_once c.parse_part.new.self c.take-item.new.self c.take-item.ensures.asks)));
+}
+
+pub parse_entries-returns-in_default-item-2 : goal.parse_entries-returns-in_default-item-2
+parse_entries-returns-in_default-item-2 g t c = record {
+  led = λ n s e.
+      let item = c.in_default-parse_part.ensures.led n (expectation.entries ∷ s) (omega arith) in
+      let expected_key = key_expected (value_there (c.entries.invariant.led n s e) c.in_default-expect.ensures.takes) item c.in-Token.ensures.takes (differs_not _ _ c.ne.ensures c.if-ne.false) in
+      refuses_there s c.refuse_item-in_default-item-2.result c.refuse_item-in_default-item-2.ensures.never c.refuse_item-in_default-item-2.ensures.refused
+      (λ x says. fails (inl tt) (λ _. Unit {0}) x expected_key (λ deep. deep.expected) (any_token n expectation.key s _ _) (item_fails (λ _. Unit {0}) c.take-item-in-entries.result c.take-item.new.self.place c.take-item-in-entries.new.self.place x c.in_default-item-2.not-Token c.take-item-in-entries.ensures.takes says));
+  tree = never_built _ c.refuse_item-in_default-item-2.result c.refuse_item-in_default-item-2.ensures.never;
+  asks = asks_entries c.args.levels c.args.self.now c.entries.self c.take-item-in-entries.new.self c.entries.invariant.led c.entries.invariant.asks (asks_token c.entries.self c.expect.new.self c.take-item-in-entries.new.self Colon c.in_default-expect.ensures.takes c.expect.ensures.asks (asks_value c.args.levels c.expect.new.self c.parse_part.new.self c.take-item-in-entries.new.self c.in_default-parse_part.ensures.led c.parse_part.ensures.asks (asks_token c.parse_part.new.self c.take-item.new.self c.take-item-in-entries.new.self c.in-Token.token c.in-Token.ensures.takes c.take-item.ensures.asks (asks_once c.take-item.new.self c.take-item-in-entries.new.self c.take-item-in-entries.ensures.asks))));
 }
