@@ -1,3 +1,4 @@
+//! The machine of chars.
 ghost use Rattle.std.specs.Prelude.{◌≡◌};
 ghost use Rattle.wave_lex.specs.Machines.{character_step, character_rest};
 

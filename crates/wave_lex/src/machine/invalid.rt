@@ -1,3 +1,4 @@
+//! The machine of invalid tokens.
 ghost use Rattle.std.specs.Prelude.{◌≡◌};
 ghost use Rattle.wave_lex.specs.Private.Machines.{invalid_step, invalid_rest};
 

@@ -1,3 +1,4 @@
+//! The machine of numbers.
 ghost use Rattle.std.specs.Prelude.{◌≡◌};
 ghost use Rattle.wave_lex.specs.Machines.{number_step, number_rest};
 

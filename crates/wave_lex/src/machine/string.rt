@@ -1,3 +1,4 @@
+//! The machine of strings in one line.
 ghost use Rattle.std.specs.Prelude.{◌≡◌};
 ghost use Rattle.wave_lex.specs.Machines.{string_step, string_rest};
 

@@ -1,3 +1,4 @@
+//! The machine of whitespace and comments.
 ghost use Rattle.std.specs.Prelude.{◌≡◌};
 ghost use Rattle.wave_lex.specs.Private.Machines.{whitespace_step, whitespace_rest};
 
