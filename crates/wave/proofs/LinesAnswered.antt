@@ -7,8 +7,8 @@ use Rattle.std.proofs.KnownBytes.{Appends-nil, Appends-trans}
 use Rattle.std.proofs.lemmas.List.{append-nil}
 use Rattle.wave.specs.declared.request.Request.{Request}
 use Rattle.wave.specs.declared.input.Input.{Input}
-use Rattle.wave.specs.declared.input.Fault.{Fault}
-use Rattle.wave.specs.declared.input.Fault.TheVariants.{NotUtf8, InputFailed, OutOfMemory}
+use Rattle.wave.specs.declared.input.RunError.{RunError}
+use Rattle.wave.specs.declared.input.RunError.TheVariants.{NotUtf8, InputFailed, OutOfMemory}
 use Rattle.wave.specs.declared.lines.Unread.{Unread}
 use Rattle.wave.specs.declared.output.Output.{Output}
 use Rattle.wave.specs.declared.program.Ended.{Ended}
@@ -102,7 +102,7 @@ module _ {W : Type 0} (contents : W → Option (List ℕ)) where
   less_more a b s t (one, prefix, rest, is, some, wrote) = (one, prefix, rest ++ t, ap (λ z. z ++ t) is ∙ append_assoc prefix rest t, longer rest t some, wrote)
 
   -- a fault was reported behind what was printed
-  ends_behind : (a b c : Output W) (fault : Fault) (number count : ℕ) (s t last : List ℕ) (ended : Ended) → WritesWhole contents a b s → number ≡ count → EndsAtFault contents b c fault number t last ended → EndsAtFault contents a c fault count (s ++ t) last ended
+  ends_behind : (a b c : Output W) (fault : RunError) (number count : ℕ) (s t last : List ℕ) (ended : Ended) → WritesWhole contents a b s → number ≡ count → EndsAtFault contents b c fault number t last ended → EndsAtFault contents a c fault count (s ++ t) last ended
   ends_behind a b c fault number count s t last ended whole same (three, inl (later, shown)) = (
     three,
     inl (
@@ -125,14 +125,14 @@ module _ {W : Type 0} (contents : W → Option (List ℕ)) where
   released_less a b c s t rest (prefix, is, wrote) none less = subst (λ z. WritesLess contents a c (z ++ t)) (sym (none_held s prefix rest is none)) (whole_less a b c prefix t wrote less)
 
   -- the answers that wait were not written whole, or a fault behind them was not reported whole, or it was
-  pub unwritten : (a b : Output W) (fault : Fault) (number : ℕ) (s : List ℕ) (ended : Ended) → WritesLess contents a b s → ended.status ≡ 3 → ended.shown ≡ Ok tt → EndsAtFault contents a b fault number s [] ended
+  pub unwritten : (a b : Output W) (fault : RunError) (number : ℕ) (s : List ℕ) (ended : Ended) → WritesLess contents a b s → ended.status ≡ 3 → ended.shown ≡ Ok tt → EndsAtFault contents a b fault number s [] ended
   unwritten a b fault number s ended less three quiet = (three, inr (less_more a b s (line (words_of_fault fault)) less, (refl, quiet)))
 
-  pub unreported : (a b c : Output W) (fault : Fault) (number : ℕ) (s : List ℕ) (ended : Ended) → WritesWhole contents a b s → WritesLess contents b c (line (words_of_fault fault)) → ended.status ≡ 3 → ended.shown ≡ Ok tt
+  pub unreported : (a b c : Output W) (fault : RunError) (number : ℕ) (s : List ℕ) (ended : Ended) → WritesWhole contents a b s → WritesLess contents b c (line (words_of_fault fault)) → ended.status ≡ 3 → ended.shown ≡ Ok tt
       → EndsAtFault contents a c fault number s [] ended
   unreported a b c fault number s ended whole less three quiet = (three, inr (whole_less a b c s (line (words_of_fault fault)) whole less, (refl, quiet)))
 
-  pub all_reported : (a b c : Output W) (fault : Fault) (number : ℕ) (s last : List ℕ) (ended : Ended) → WritesWhole contents a b s → WritesWhole contents b c (line (words_of_fault fault)) → ended.status ≡ 3 → IsPlaceShown number fault last ended.shown
+  pub all_reported : (a b c : Output W) (fault : RunError) (number : ℕ) (s last : List ℕ) (ended : Ended) → WritesWhole contents a b s → WritesWhole contents b c (line (words_of_fault fault)) → ended.status ≡ 3 → IsPlaceShown number fault last ended.shown
       → EndsAtFault contents a c fault number s last ended
   all_reported a b c fault number s last ended whole later three is = (three, inl (whole_whole a b c s (line (words_of_fault fault)) whole later, is))
 
@@ -186,7 +186,7 @@ cut_from rest first now new well (inl (one, goes_on)) = inl (subst (λ n. Counts
 cut_from rest first now new well (inr (none, goes_on, fine)) = inr (inl (none, goes_on, fine ∙ well))
 
 -- why a line that was taken is not answered
-pub taken_unanswered : {R : Type 0} (left rest : Option (List ℕ)) (text : List ℕ) (old new : Input R) (fault : Fault) → TakesLine left rest text → new.failures ≡ old.failures → IsUnansweredLine text fault → IsNoNextAnswer left rest old new fault
+pub taken_unanswered : {R : Type 0} (left rest : Option (List ℕ)) (text : List ℕ) (old new : Input R) (fault : RunError) → TakesLine left rest text → new.failures ≡ old.failures → IsUnansweredLine text fault → IsNoNextAnswer left rest old new fault
 taken_unanswered left rest text old new (NotUtf8 place) taken fine is = (text, taken, is, fine)
 taken_unanswered left rest text old new InputFailed taken fine is = absurd is
 taken_unanswered left rest text old new OutOfMemory taken fine is = fine
@@ -321,7 +321,7 @@ module _ {R W E : Type 0} (remaining : R → Option (List ℕ)) (contents : W �
 
     module _ (new : Input R) (more : Unread) (later : Output W) (errors_then : Output E) (ended : Ended) where
       -- a fault is reported in place of the next line
-      faulty : (fault : Fault) (last : List ℕ) (rest : List (List ℕ)) → IfSome (remaining first.reader) (λ bytes. lines bytes ≡ g.texts ++ rest) → IsLineFault rest first new fault
+      faulty : (fault : RunError) (last : List ℕ) (rest : List (List ℕ)) → IfSome (remaining first.reader) (λ bytes. lines bytes ≡ g.texts ++ rest) → IsLineFault rest first new fault
           → EndsAtFault contents after later fault number waiting last ended → ShowsLast held errors_after errors_then is_shown last
           → AnswersLines contents held request (remaining first.reader) first new before later errors_before errors_then ended
       faulty fault last rest are is ends shows = record {
@@ -338,7 +338,7 @@ module _ {R W E : Type 0} (remaining : R → Option (List ℕ)) (contents : W �
       }
 
       -- the next line is not answered
-      pub cut_off : (fault : Fault) → IsNoNextAnswer (left remaining now unread) (left remaining new more) now new fault
+      pub cut_off : (fault : RunError) → IsNoNextAnswer (left remaining now unread) (left remaining new more) now new fault
           → (last : List ℕ) × EndsAtFault contents after later fault number waiting last ended × ShowsLast held errors_after errors_then is_shown last
           → AnswersLines contents held request (remaining first.reader) first new before later errors_before errors_then ended
       cut_off (NotUtf8 place) (bad, next, wrong, fine) (last, ends, shows) =

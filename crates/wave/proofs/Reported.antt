@@ -10,8 +10,8 @@ use Rattle.wave.specs.declared.request.Asked.{Asked}
 use Rattle.wave.specs.declared.request.Asked.TheVariants.{Whole, Lines}
 use Rattle.wave.specs.declared.program.Ended.{Ended}
 use Rattle.wave.specs.declared.input.Input.{Input}
-use Rattle.wave.specs.declared.input.Fault.{Fault}
-use Rattle.wave.specs.declared.input.Fault.TheVariants.{NotUtf8, InputFailed, OutOfMemory}
+use Rattle.wave.specs.declared.input.RunError.{RunError}
+use Rattle.wave.specs.declared.input.RunError.TheVariants.{NotUtf8, InputFailed, OutOfMemory}
 use Rattle.wave.specs.declared.output.Output.{Output}
 use Rattle.wave.specs.Requests.{SayLimit, AreWordsOf, AskFor, AreUnknown}
 use Rattle.wave.specs.Answers.{IsFaultOf, IsInput, words_of_fault}
@@ -55,7 +55,7 @@ is_fit_by_lines words request (prefix, is, asked) = is_fit prefix request asked
 
 module _ {R : Type 0} where
   -- why there is no outcome is a fault of the input, or out of memory
-  pub is_fault : (request : Request) (left : Option (List ℕ)) (old new : Input R) (fault : Fault) → IsNoOutcome request left old new fault → IsFaultOf left old new fault
+  pub is_fault : (request : Request) (left : Option (List ℕ)) (old new : Input R) (fault : RunError) → IsNoOutcome request left old new fault → IsFaultOf left old new fault
   is_fault request left old new (NotUtf8 place) none = none
   is_fault request left old new InputFailed none = none
   is_fault request left old new OutOfMemory none = none.0
@@ -99,7 +99,7 @@ module _ {R W E : Type 0} (contents : W → Option (List ℕ)) (held : E → Opt
 
   module _ (left : Option (List ℕ)) (first last : Input R) (before after : Output W) (old new : Output E) (shown : Result (Unit {0}) AllocError) where
     -- a fault that was reported is a failure
-    pub failed_so : (fault : Fault) → IsFaultOf left first last fault → ShowsFault contents before after held old new fault shown → IsFailure left first last contents before after held old new shown
+    pub failed_so : (fault : RunError) → IsFaultOf left first last fault → ShowsFault contents before after held old new fault shown → IsFailure left first last contents before after held old new shown
     failed_so fault is (inl (wrote, shows)) = inl (fault, is, wrote, shows)
     failed_so fault is (inr (less, same, quiet)) = inr (line (words_of_fault fault), less, same, quiet)
 

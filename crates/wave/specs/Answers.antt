@@ -15,8 +15,8 @@ use Rattle.wave_tree.specs.UntypedCall.{CallFault}
 use Rattle.wave.specs.declared.request.Request.{Request}
 use Rattle.wave.specs.declared.request.Request.TheVariants as request
 use Rattle.wave.specs.declared.input.Input.{Input}
-use Rattle.wave.specs.declared.input.Fault.{Fault}
-use Rattle.wave.specs.declared.input.Fault.TheVariants.{NotUtf8, InputFailed, OutOfMemory}
+use Rattle.wave.specs.declared.input.RunError.{RunError}
+use Rattle.wave.specs.declared.input.RunError.TheVariants.{NotUtf8, InputFailed, OutOfMemory}
 use Rattle.wave.specs.Lines.{line}
 use Rattle.wave.specs.TypedCalls.{IsCallAt, CallFaultAt}
 use Rattle.wave.specs.ReadFaults.{IsReadToEnd, IsUnread}
@@ -54,14 +54,14 @@ abbrev pub IsNoText : Option (List ℕ) → ℕ → Type 0
 IsNoText left place = (bytes : List ℕ) × IfSome left (λ known. bytes ≡ known) × IsTextUpTo bytes place
 
 -- the words of a fault
-abbrev pub words_of_fault : Fault → List ℕ
+abbrev pub words_of_fault : RunError → List ℕ
 words_of_fault (NotUtf8 place) = codes "input is not UTF-8"
 words_of_fault InputFailed = codes "input failed"
 words_of_fault OutOfMemory = codes "out of memory"
 
 module _ {R : Type 0} where
   -- the fault is there: the input was read to its end and is no text, or was not read to its end; or there was no memory, and no read failed
-  abbrev pub IsFaultOf : Option (List ℕ) → Input R → Input R → Fault → Type 0
+  abbrev pub IsFaultOf : Option (List ℕ) → Input R → Input R → RunError → Type 0
   IsFaultOf left old new (NotUtf8 place) = IsNoText left place × IsReadToEnd old new
   IsFaultOf left old new InputFailed = IsUnread old new
   IsFaultOf left old new OutOfMemory = new.failures ≡ old.failures

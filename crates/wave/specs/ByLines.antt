@@ -11,8 +11,8 @@ use Rattle.wave_tree.specs.ParserState.{start_of}
 use Rattle.wave.specs.declared.request.Request.{Request}
 use Rattle.wave.specs.declared.request.Asked.TheVariants.{Lines}
 use Rattle.wave.specs.declared.input.Input.{Input}
-use Rattle.wave.specs.declared.input.Fault.{Fault}
-use Rattle.wave.specs.declared.input.Fault.TheVariants.{NotUtf8, InputFailed, OutOfMemory}
+use Rattle.wave.specs.declared.input.RunError.{RunError}
+use Rattle.wave.specs.declared.input.RunError.TheVariants.{NotUtf8, InputFailed, OutOfMemory}
 use Rattle.wave.specs.declared.output.Output.{Output}
 use Rattle.wave.specs.declared.program.Ended.{Ended}
 use Rattle.wave.specs.Answers.{Answers, IsRefused, IsTextUpTo, words_of_fault}
@@ -65,7 +65,7 @@ numbered_place number place = codes "input line " ++ (decimal number ++ (codes "
 
 -- what is shown of a fault at the line of this number: the place in one that is no text, or nothing where out of memory is answered; of
 -- another fault nothing
-abbrev pub IsPlaceShown : ℕ → Fault → List ℕ → Result (Unit {0}) AllocError → Type 0
+abbrev pub IsPlaceShown : ℕ → RunError → List ℕ → Result (Unit {0}) AllocError → Type 0
 IsPlaceShown number (NotUtf8 place) last reported =
     MatchResult reported (λ _. last ≡ numbered_place number place) (λ _. last ≡ [])
 IsPlaceShown number InputFailed last reported = IsNothingShown last reported
@@ -73,7 +73,7 @@ IsPlaceShown number OutOfMemory last reported = IsNothingShown last reported
 
 module _ {R : Type 0} where
   -- why these lines aren't answered: the first is no text; the input was not read to its end; or there was no memory, and no read failed
-  abbrev pub IsLineFault : List (List ℕ) → Input R → Input R → Fault → Type 0
+  abbrev pub IsLineFault : List (List ℕ) → Input R → Input R → RunError → Type 0
   IsLineFault rest old new (NotUtf8 place) =
       (bad : List ℕ) × (more : List (List ℕ)) × (rest ≡ bad ∷ more) × IsTextUpTo bad place × (new.failures ≡ old.failures)
   IsLineFault rest old new InputFailed = IsUnread old new
@@ -82,7 +82,7 @@ module _ {R : Type 0} where
 module _ {W : Type 0} (contents : W → Option (List ℕ)) where
   -- at status 3 the fault's words were printed behind these answers, and the place is shown of the line of this number; or a write failed,
   -- and nothing is shown
-  abbrev pub EndsAtFault : Output W → Output W → Fault → ℕ → List ℕ → List ℕ → Ended → Type 0
+  abbrev pub EndsAtFault : Output W → Output W → RunError → ℕ → List ℕ → List ℕ → Ended → Type 0
   EndsAtFault before after fault number said last ended =
       (ended.status ≡ 3)
       × (WritesWhole contents before after (said ++ line (words_of_fault fault)) × IsPlaceShown number fault last ended.shown
@@ -94,7 +94,7 @@ module _ {R W E : Type 0} (contents : W → Option (List ℕ)) (held : E → Opt
   abbrev pub EndsBefore : List (List ℕ) → ℕ → Input R → Input R → Output W → Output W → List ℕ → List ℕ → List ℕ → Ended → Type 0
   EndsBefore rest number old new before after said shown last ended =
       (rest ≡ []) × IsReadToEnd old new × IsStatusOf shown ended.status × WritesWhole contents before after said × IsNothingShown last ended.shown
-      ⊎ ((fault : Fault) × IsLineFault rest old new fault × EndsAtFault contents before after fault number said last ended)
+      ⊎ ((fault : RunError) × IsLineFault rest old new fault × EndsAtFault contents before after fault number said last ended)
       ⊎ (ended.status ≡ 3) × WritesLess contents before after said × IsNothingShown last ended.shown
 
   -- the first lines of what the reader had left were answered, all unless a fault or a failed write ended it, and what explains refusals,

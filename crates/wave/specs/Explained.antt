@@ -11,8 +11,8 @@ use Rattle.wasm_wave.specs.CallExplained.{IsUntypedCallExplained, IsCallExplaine
 use Rattle.wave.specs.declared.request.Request.{Request}
 use Rattle.wave.specs.declared.request.Request.TheVariants as request
 use Rattle.wave.specs.declared.input.Input.{Input}
-use Rattle.wave.specs.declared.input.Fault.{Fault}
-use Rattle.wave.specs.declared.input.Fault.TheVariants.{NotUtf8, InputFailed, OutOfMemory}
+use Rattle.wave.specs.declared.input.RunError.{RunError}
+use Rattle.wave.specs.declared.input.RunError.TheVariants.{NotUtf8, InputFailed, OutOfMemory}
 use Rattle.wave.specs.declared.output.Output.{Output}
 use Rattle.wave.specs.Requests.{AreWordsOf}
 use Rattle.wave.specs.Answers.{IsRefused, IsInput, IsFaultOf, words_of_fault}
@@ -57,7 +57,7 @@ place_shown place = codes "input is not UTF-8\n --> byte " ++ line (decimal plac
 module _ {E : Type 0} (contents : E → Option (List ℕ)) where
   -- of an input that is no text the place was written, or a beginning of it where a write failed; or out of memory was answered, and
   -- nothing was written; of another fault nothing
-  abbrev pub ShowsPlace : Output E → Output E → Fault → Result (Unit {0}) AllocError → Type 0
+  abbrev pub ShowsPlace : Output E → Output E → RunError → Result (Unit {0}) AllocError → Type 0
   ShowsPlace old new (NotUtf8 place) shown = MatchResult shown
       (λ _. WritesWhole contents old new (place_shown place) ⊎ WritesLess contents old new (place_shown place))
       (λ _. new ≡ old)
@@ -68,6 +68,6 @@ module _ {E : Type 0} (contents : E → Option (List ℕ)) where
 abbrev pub IsFailure : {R W E : Type 0} → Option (List ℕ) → Input R → Input R → (W → Option (List ℕ)) → Output W → Output W
     → (E → Option (List ℕ)) → Output E → Output E → Result (Unit {0}) AllocError → Type 0
 IsFailure left first last contents before after held old new shown =
-    ((fault : Fault) × IsFaultOf left first last fault
+    ((fault : RunError) × IsFaultOf left first last fault
     × WritesWhole contents before after (line (words_of_fault fault)) × ShowsPlace held old new fault shown)
     ⊎ ((said : List ℕ) × WritesLess contents before after said × (new ≡ old) × (shown ≡ Ok tt))

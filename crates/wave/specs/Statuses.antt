@@ -3,10 +3,10 @@ use Rattle.std.specs.Prelude.{ℕ, List, ◌≡◌, ◌⊎◌}
 use Rattle.std.specs.declared.option.Option.{Option}
 use Rattle.wave_lex.specs.Errors.{Diagnostic, error_text}
 use Rattle.wave.specs.declared.request.Request.{Request}
-use Rattle.wave.specs.declared.input.Fault.{Fault}
-use Rattle.wave.specs.declared.input.Fault.TheVariants.{OutOfMemory}
+use Rattle.wave.specs.declared.input.RunError.{RunError}
+use Rattle.wave.specs.declared.input.RunError.TheVariants.{OutOfMemory}
 use Rattle.wave.specs.declared.input.Input.{Input}
-use Rattle.wave.specs.Notices.{IsNotice, IsNoNotice}
+use Rattle.wave.specs.Help.{IsNotice, IsNoNotice}
 use Rattle.wave.specs.Requests.{AreWordsOf, AskForType, AreUnknown}
 use Rattle.wave.specs.Answers.{Answers, IsRefused, IsInput, IsFaultOf, words_of_fault, usage}
 use Rattle.wave.specs.Lines.{line}
@@ -32,7 +32,7 @@ module _ {R : Type 0} where
   IsLineOfRequest request left old new status said =
       (status ≡ 0) × IsAnswer request left said × IsReadToEnd old new
       ⊎ (status ≡ 1) × IsRefusal request left said × IsReadToEnd old new
-      ⊎ (status ≡ 3) × ((fault : Fault) × IsFaultOf left old new fault × (said ≡ line (words_of_fault fault)))
+      ⊎ (status ≡ 3) × ((fault : RunError) × IsFaultOf left old new fault × (said ≡ line (words_of_fault fault)))
 
   -- there was no memory for the type that the arguments ask for, nothing was read, and the line says so
   abbrev pub IsWithoutMemory : List (List ℕ) → Input R → Input R → List ℕ → Type 0

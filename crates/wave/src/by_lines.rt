@@ -11,7 +11,7 @@ ghost use Rattle.wave.specs.Written.{WritesWhole, WritesLess};
 
 use crate::answer::{Unanswered, answer};
 use crate::explained::explain_refusal;
-use crate::input::{Fault, Input};
+use crate::input::{Input, RunError};
 use crate::lines::Unread;
 use crate::output::Output;
 use crate::program::{Ended, fault_line, line_of, place_line, print, write_whole};
@@ -51,7 +51,7 @@ pub fn answer_lines<R: Read, W: Write, E: Write>(
     ensures counted { input.new.reads_left ≤ input.old.reads_left }
 {
     if input.has_ended() {
-        return fail_at(alloc, output, "", errors, Fault::InputFailed, 1, true);
+        return fail_at(alloc, output, "", errors, RunError::InputFailed, 1, true);
     }
     let mut unread = Unread::new();
     let mut held = String::new(alloc);
@@ -132,7 +132,7 @@ fn fail_at<W: Write, E: Write>(
     output: &mut Output<W>,
     held: &str,
     errors: &mut Output<E>,
-    fault: Fault,
+    fault: RunError,
     number: u64,
     is_shown: bool,
 ) -> Ended
@@ -156,7 +156,7 @@ fn fail_at<W: Write, E: Write>(
 fn show_place<E: Write>(
     alloc: Global,
     errors: &mut Output<E>,
-    fault: Fault,
+    fault: RunError,
     number: u64,
     is_shown: bool,
 ) -> Result<(), AllocError>
@@ -164,13 +164,13 @@ fn show_place<E: Write>(
         × ShowsLast E.contents errors.old errors.new is_shown last }
 {
     match fault {
-        Fault::NotUtf8(place) => {
+        RunError::NotUtf8(place) => {
             let shown = numbered_place(alloc, number, place)?;
             show(errors, shown.as_str(), is_shown);
             Ok(())
         }
-        Fault::InputFailed => Ok(()),
-        Fault::OutOfMemory => Ok(()),
+        RunError::InputFailed => Ok(()),
+        RunError::OutOfMemory => Ok(()),
     }
 }
 
@@ -190,7 +190,7 @@ fn next_answer<R: Read>(
     number: u64,
     input: &mut Input<R>,
     unread: &mut Unread,
-) -> Result<Option<LineAnswer>, Fault>
+) -> Result<Option<LineAnswer>, RunError>
     requires fit { IsFit request.now }
     requires known { IsEndKnown R.remaining input.old }
     ensures answer { IfOk result (λ found. MatchOption found
@@ -223,7 +223,7 @@ fn line_answer(
     request: &Request,
     number: u64,
     bytes: &[u8],
-) -> Result<LineAnswer, Fault>
+) -> Result<LineAnswer, RunError>
     requires { IsFit request.now }
     ensures answer { IfOk result (λ answer. (said : List ℕ)
         × IsLineAnswer request.now number bytes.now said (string_bytes answer.shown)
@@ -232,7 +232,7 @@ fn line_answer(
 {
     let text = match str::from_utf8(bytes) {
         Ok(text) => text,
-        Err(error) => return Err(Fault::NotUtf8(error.valid_up_to())),
+        Err(error) => return Err(RunError::NotUtf8(error.valid_up_to())),
     };
     match answer(alloc, request, text) {
         Ok(answer) => Ok(LineAnswer {
@@ -248,7 +248,7 @@ fn line_answer(
             }
             Ok(refused_line(alloc, request, number, &refusal, text)?)
         }
-        Err(Unanswered::OutOfMemory) => Err(Fault::OutOfMemory),
+        Err(Unanswered::OutOfMemory) => Err(RunError::OutOfMemory),
     }
 }
 

@@ -2,7 +2,7 @@
 ghost use Rattle.std.specs.Prelude.{◌≡◌, ◌≤◌};
 ghost use Rattle.std.specs.Str.Lines.{strip_carriage_return};
 
-use crate::input::{Fault, Input};
+use crate::input::{Input, RunError};
 use memchr::memchr;
 use std::alloc::{AllocError, Global};
 use std::io::Read;
@@ -72,7 +72,7 @@ impl Unread {
 
     /// Reads a chunk where all bytes were taken and the input has not ended. Whether there are bytes
     /// then.
-    fn fill<R: Read>(&mut self, input: &mut Input<R>) -> Result<bool, Fault>
+    fn fill<R: Read>(&mut self, input: &mut Input<R>) -> Result<bool, RunError>
         requires { IsEndKnown R.remaining input.old }
         ensures kept { Consumes (left R.remaining input.old self.old) (left R.remaining input.new self.new) [] }
         ensures filled { IfOk result (λ is_filled. is_filled ≡ true → unread_bytes self.new ≢ []) }
@@ -91,7 +91,7 @@ impl Unread {
             return Ok(false);
         }
         if input.reads_left() == 0 {
-            return Err(Fault::InputFailed);
+            return Err(RunError::InputFailed);
         }
         self.start = 0;
         self.end = 0;
@@ -129,7 +129,7 @@ impl Unread {
         &mut self,
         alloc: Global,
         input: &mut Input<R>,
-    ) -> Result<Option<Vec<u8>>, Fault>
+    ) -> Result<Option<Vec<u8>>, RunError>
         requires { IsEndKnown R.remaining input.old }
         ensures line { IfOk result (λ found. MatchOption found
             (IsAtEnd (left R.remaining input.old self.old) × (input.new.has_ended ≡ true))

@@ -18,9 +18,9 @@ ghost use Rattle.wave.specs.Statuses.{IsLineOfRun, IsLineOfRequest};
 use crate::answer::{Unanswered, answer};
 use crate::by_lines::answer_lines;
 use crate::explained::explain_refusal;
-use crate::input::{Fault, Input};
+use crate::help::notice_of;
+use crate::input::{Input, RunError};
 use crate::misuse::explain_misuse;
-use crate::notices::notice_of;
 use crate::output::Output;
 use crate::request::{Asked, Request, asked_by};
 use std::alloc::{AllocError, Global};
@@ -105,7 +105,7 @@ pub fn run<R: Read, W: Write, E: Write>(
     let asked = match asked_by(alloc, words) {
         Ok(Some(asked)) => asked,
         Ok(None) => return misused(alloc, words, output, errors),
-        Err(_) => return fail(alloc, output, errors, Fault::OutOfMemory),
+        Err(_) => return fail(alloc, output, errors, RunError::OutOfMemory),
     };
     match asked {
         Asked::Whole(request) => answer_whole(alloc, &request, input, output, errors),
@@ -223,7 +223,7 @@ fn report_refusal<W: Write>(alloc: Global, output: &mut Output<W>, refusal: &Par
 {
     match refusal_line(alloc, refusal) {
         Ok(line) => print(output, line.as_str(), 1),
-        Err(_) => report(output, Fault::OutOfMemory),
+        Err(_) => report(output, RunError::OutOfMemory),
     }
 }
 
@@ -244,7 +244,7 @@ fn fail<W: Write, E: Write>(
     alloc: Global,
     output: &mut Output<W>,
     errors: &mut Output<E>,
-    fault: Fault,
+    fault: RunError,
 ) -> Ended
     ensures reported { Prints W.contents output.old output.new (line (words_of_fault fault)) 3 result.status }
     ensures shown { ShowsFault W.contents output.old output.new E.contents errors.old errors.new fault result.shown }
@@ -263,17 +263,17 @@ fn fail<W: Write, E: Write>(
 fn show_fault<E: Write>(
     alloc: Global,
     errors: &mut Output<E>,
-    fault: Fault,
+    fault: RunError,
 ) -> Result<(), AllocError>
     ensures { ShowsPlace E.contents errors.old errors.new fault result }
 {
     match fault {
-        Fault::NotUtf8(place) => {
+        RunError::NotUtf8(place) => {
             let shown = place_line(alloc, place)?;
             write_text(errors, shown.as_str());
             Ok(())
         }
-        Fault::InputFailed | Fault::OutOfMemory => Ok(()),
+        RunError::InputFailed | RunError::OutOfMemory => Ok(()),
     }
 }
 
@@ -285,20 +285,20 @@ pub fn place_line(alloc: Global, place: usize) -> Result<String, AllocError>
 }
 
 /// Says why there is no answer and no refusal.
-pub fn report<W: Write>(output: &mut Output<W>, fault: Fault) -> u8
+pub fn report<W: Write>(output: &mut Output<W>, fault: RunError) -> u8
     ensures { Prints W.contents output.old output.new (line (words_of_fault fault)) 3 result }
 {
     print(output, fault_line(fault), 3)
 }
 
 /// The words of a fault, and a line feed.
-pub fn fault_line(fault: Fault) -> &'static str
+pub fn fault_line(fault: RunError) -> &'static str
     ensures { result.now ≡ line (words_of_fault fault) }
 {
     match fault {
-        Fault::NotUtf8(_) => "input is not UTF-8\n",
-        Fault::InputFailed => "input failed\n",
-        Fault::OutOfMemory => "out of memory\n",
+        RunError::NotUtf8(_) => "input is not UTF-8\n",
+        RunError::InputFailed => "input failed\n",
+        RunError::OutOfMemory => "out of memory\n",
     }
 }
 
@@ -351,7 +351,7 @@ fn respond<R: Read>(
     alloc: Global,
     request: &Request,
     input: &mut Input<R>,
-) -> Result<Outcome, Fault>
+) -> Result<Outcome, RunError>
     requires { IsFit request.now }
     ensures outcome { IfOk result (λ outcome.
         IsOutcome request.now (R.remaining input.old.reader) outcome × IsReadToEnd input.old input.new) }
@@ -361,12 +361,12 @@ fn respond<R: Read>(
     let bytes = read_whole(alloc, input)?;
     let text = match String::from_utf8(bytes) {
         Ok(text) => text,
-        Err(error) => return Err(Fault::NotUtf8(text_end(error.as_bytes()))),
+        Err(error) => return Err(RunError::NotUtf8(text_end(error.as_bytes()))),
     };
     match answer(alloc, request, text.as_str()) {
         Ok(answer) => Ok(Outcome::Answered(line_of(answer)?)),
         Err(Unanswered::Refused(refusal)) => Ok(Outcome::Refused(refusal, text)),
-        Err(Unanswered::OutOfMemory) => Err(Fault::OutOfMemory),
+        Err(Unanswered::OutOfMemory) => Err(RunError::OutOfMemory),
     }
 }
 
@@ -382,7 +382,7 @@ fn text_end(bytes: &[u8]) -> usize
 }
 
 /// The bytes up to the end of the input, which is read once.
-fn read_whole<R: Read>(alloc: Global, input: &mut Input<R>) -> Result<Vec<u8>, Fault>
+fn read_whole<R: Read>(alloc: Global, input: &mut Input<R>) -> Result<Vec<u8>, RunError>
     ensures whole { IfOk result (λ bytes.
         IfSome (R.remaining input.old.reader) (λ left. bytes.items ≡ left)) }
     ensures ended { IfOk result (λ bytes. IsReadToEnd input.old input.new) }
@@ -390,7 +390,7 @@ fn read_whole<R: Read>(alloc: Global, input: &mut Input<R>) -> Result<Vec<u8>, F
     ensures counted { input.new.reads_left ≤ input.old.reads_left }
 {
     if input.has_ended() {
-        return Err(Fault::InputFailed);
+        return Err(RunError::InputFailed);
     }
     let mut bytes = Vec::new(alloc);
     let mut chunk = [0; CHUNK];
@@ -401,7 +401,7 @@ fn read_whole<R: Read>(alloc: Global, input: &mut Input<R>) -> Result<Vec<u8>, F
             Err(fault) => return Err(fault),
         }
     }
-    Err(Fault::InputFailed)
+    Err(RunError::InputFailed)
 }
 
 /// The text and a line feed.

@@ -89,9 +89,9 @@ ResultTree Ok Err t v =
     ((inner : MaybeTree) × (payload : MaybeValue) × (t ≡ tree.ok inner) × Ok inner payload × (v ≡ value.ok payload))
     ⊎ ((inner : MaybeTree) × (payload : MaybeValue) × (t ≡ tree.err inner) × Err inner payload × (v ≡ value.err payload))
 
--- a tree that stands for an option or a result around its meaning
+-- a tree that stands for an option or a result that wraps its meaning
 abbrev pub StandsTree : (Value → Value) → Meaning Tree Value → Meaning Tree Value
-StandsTree around Inner t v = (w : Value) × Inner t w × (v ≡ around w)
+StandsTree wrap Inner t v = (w : Value) × Inner t w × (v ≡ wrap w)
 
 -- the meaning, where this holds
 abbrev pub If : {T A : Type 0} → Type 0 → Meaning T A → Meaning T A

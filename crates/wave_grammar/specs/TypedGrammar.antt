@@ -139,9 +139,9 @@ AResult Ok Err tokens v rest =
     ((payload : MaybeValue) × Behind (codes "ok") Ok tokens payload rest × (v ≡ value.ok payload))
     ⊎ ((payload : MaybeValue) × Behind (codes "err") Err tokens payload rest × (v ≡ value.err payload))
 
--- a value that stands for an option or a result around it
+-- a value that stands for an option or a result that wraps it
 abbrev pub Stands : (Value → Value) → Spelling Value → Spelling Value
-Stands around Inner tokens v rest = (w : Value) × Inner tokens w rest × (v ≡ around w)
+Stands wrap Inner tokens v rest = (w : Value) × Inner tokens w rest × (v ≡ wrap w)
 
 -- no payload
 abbrev pub Bare : Spelling MaybeValue

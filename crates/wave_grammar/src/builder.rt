@@ -95,7 +95,7 @@ pub trait Builder: Sized + Copy {
 
     /// What is made of a node of the type with these parts. It asks for parts that were made of such a
     /// node's children.
-    fn whole(self, alloc: Global, ty: NodeType, span: Span, parts: Self::Parts) -> Self::Built
+    fn finish(self, alloc: Global, ty: NodeType, span: Span, parts: Self::Parts) -> Self::Built
         requires { ArePartsOfSome (are_parts self) ty parts }
         ensures { (source : List ℕ) (children : List NodeTree) → are_parts self source ty children parts
             → is_built self source (node ty span (node_trees children)) result };

@@ -1,4 +1,4 @@
 pub mod Faults
 pub mod Fields
 pub mod FieldSteps
-pub mod WholeRecords
+pub mod FinishedRecords

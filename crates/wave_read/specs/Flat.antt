@@ -16,22 +16,22 @@ IsFlatAt (type.option P) ty U = (U ≡ P) × IsFlat P × (ty ≢ node_type.Optio
 IsFlatAt (type.result (type.a_type A) B) ty U = (U ≡ A) × IsFlat A × (ty ≢ node_type.ResultOk) × (ty ≢ node_type.ResultErr)
 IsFlatAt _ ty U = ⊥
 
--- nothing stands around the type, which is no option or result of a flat payload there; or this option or result
+-- nothing wraps the type, which is no option or result of a flat payload there; or this option or result
 -- does, and it is its payload's
-abbrev pub IsAround : {S : Type 0} → (S → TypeTree) → TypeTree → NodeType → Option (Bor S) → Bor S → Type 0
-IsAround type_tree T ty None x = (type_tree x.now ≡ T) × ((U : TypeTree) → IsFlatAt T ty U → ⊥)
-IsAround type_tree T ty (Some whole) x = (type_tree whole.now ≡ T) × IsFlatAt T ty (type_tree x.now)
+abbrev pub IsWrapper : {S : Type 0} → (S → TypeTree) → TypeTree → NodeType → Option (Bor S) → Bor S → Type 0
+IsWrapper type_tree T ty None x = (type_tree x.now ≡ T) × ((U : TypeTree) → IsFlatAt T ty U → ⊥)
+IsWrapper type_tree T ty (Some whole) x = (type_tree whole.now ≡ T) × IsFlatAt T ty (type_tree x.now)
 
 -- so for the type that is expected, where one is
-abbrev pub IsAroundWhereExpected : {S : Type 0} → (S → TypeTree) → Option TypeTree → NodeType → Option (Bor S) → Bor S → Type 0
-IsAroundWhereExpected type_tree None ty around x = ⊥
-IsAroundWhereExpected type_tree (Some T) ty around x = IsAround type_tree T ty around x
+abbrev pub IsWrapperWhereExpected : {S : Type 0} → (S → TypeTree) → Option TypeTree → NodeType → Option (Bor S) → Bor S → Type 0
+IsWrapperWhereExpected type_tree None ty wrapper x = ⊥
+IsWrapperWhereExpected type_tree (Some T) ty wrapper x = IsWrapper type_tree T ty wrapper x
 
 -- a value that was read is of the type of a flat payload of the option or result
 abbrev pub IsOfFlatPart : {V : Type 0} → (V → TypeTree → Type 0) → TypeTree → Result V Diagnostic → Type 0
 IsOfFlatPart of T r = (ty : NodeType) × (U : TypeTree) × IsFlatAt T ty U × IsOfType of U r
 
--- so where this option or result is around it
+-- so where this option or result wraps it
 abbrev pub IsOfPartWithin : {S V : Type 0} → (S → TypeTree) → (V → TypeTree → Type 0) → Option (Bor S) → Result V Diagnostic → Type 0
 IsOfPartWithin type_tree of None r = Unit {0}
 IsOfPartWithin type_tree of (Some whole) r = IsOfFlatPart of (type_tree whole.now) r

@@ -15,18 +15,18 @@ use Rattle.wave_read.specs.declared.parts.Partial.TheVariants as parts
 use Rattle.wave_read.specs.declared.values.Frame.{Frame}
 
 module _ {S V : Type 0} (type_tree : S → TypeTree) (tree : V → Value) (of : V → TypeTree → Type 0) (Full : TypeTree → Type 0) (w : Order) where
-  -- the parts of a value of the type; or, where this option or result is around it, those of its flat payload
+  -- the parts of a value of the type; or, where this option or result wraps it, those of its flat payload
   abbrev pub AreOfType : TypeTree → List ℕ → NodeType → List NodeTree → Option (Bor S) → Frame S V → Type 0
   AreOfType T source ty children None kept = AreParts type_tree tree of Full w T source ty children kept.parts
   AreOfType T source ty children (Some x) kept =
       (type_tree x.now ≡ T) × ((U : TypeTree) × IsFlatAt T ty U × AreParts type_tree tree of Full w U source ty children kept.parts)
 
   abbrev pub AreKept : TypeTree → List ℕ → NodeType → List NodeTree → Frame S V → Type 0
-  AreKept T source ty children kept = AreOfType T source ty children kept.around kept
+  AreKept T source ty children kept = AreOfType T source ty children kept.wrapper kept
 
-  -- so of the type that is expected; where it is a plain one or none is expected, nothing is kept, and where none is expected nothing stands around them
+  -- so of the type that is expected; where it is a plain one or none is expected, nothing is kept, and where none is expected nothing wraps them
   abbrev pub AreKeptWhereExpected : Option TypeTree → List ℕ → NodeType → List NodeTree → Frame S V → Type 0
-  AreKeptWhereExpected None source ty children kept = IsBare kept.parts × (kept.around ≡ None)
+  AreKeptWhereExpected None source ty children kept = IsBare kept.parts × (kept.wrapper ≡ None)
   AreKeptWhereExpected (Some T) source ty children kept = AreKept T source ty children kept × (IsPlain T → IsSimpleAt type_tree T kept.parts)
 
   -- where nothing is kept, nothing is expected

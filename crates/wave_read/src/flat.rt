@@ -5,7 +5,7 @@ ghost use Rattle.wave_wasm.specs.Borrowed.{shown};
 ghost use Rattle.wave_grammar.specs.FaultOrder.{Order};
 ghost use Rattle.wave_grammar.specs.NodeTree.{NodeTree, type_of, place_of};
 ghost use Rattle.wave_read.specs.Reading.{IsReadAs};
-ghost use Rattle.wave_read.specs.Flat.{IsFlatAt, IsAround, IsOfFlatPart};
+ghost use Rattle.wave_read.specs.Flat.{IsFlatAt, IsWrapper, IsOfFlatPart};
 ghost use Rattle.wave_read.specs.Private.Flat.{GivesFlatAt};
 
 use crate::error::ReadError;
@@ -44,7 +44,7 @@ pub(crate) fn wrapper_and_type<'ty, T: WasmType>(
     ty: &'ty T,
     node: NodeType,
 ) -> (Option<&'ty T>, &'ty T)
-    ensures { IsAround T.tree (T.tree ty.now) node result.0 result.1 }
+    ensures { IsWrapper T.tree (T.tree ty.now) node result.0 result.1 }
 {
     match flat_payload(ty, node) {
         Some(payload) => (Some(ty), payload),

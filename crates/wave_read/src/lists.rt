@@ -7,7 +7,7 @@ ghost use Rattle.wave_grammar.specs.NodeTree.{NodeTree, NodeTrees, node};
 ghost use Rattle.wave_grammar.specs.PartReading.{IsOfLength, IsOtherLength};
 ghost use Rattle.wave_read.specs.Leaves.{leaf_node, IsLeafIn};
 ghost use Rattle.wave_read.specs.ListParts.{AreItems, element_expected};
-ghost use Rattle.wave_read.specs.Private.PartSteps.{AddsPart, IsWholeOf, WereRead};
+ghost use Rattle.wave_read.specs.Private.PartSteps.{AddsPart, FinishesAs, WereRead};
 
 use crate::error::{ReadError, Reason};
 use crate::fault::or_error_at;
@@ -117,9 +117,9 @@ impl<'ty, V: WasmValue> Items<'ty, V::Type, V> {
 
     /// The list of these items, which stands here. They are of the element type, since they were read at
     /// it, and as many as the type says, so their types aren't compared again.
-    pub(crate) fn whole(self, alloc: Global, span: Span) -> Result<V, ReadError>
+    pub(crate) fn finish(self, alloc: Global, span: Span) -> Result<V, ReadError>
         requires { WereRead AreItems V.Type.tree V.tree V.is_of V.is_full self }
-        ensures { IsWholeOf AreItems V.Type.tree V.tree V.is_of V.is_full NodeType.List self.entry span result }
+        ensures { FinishesAs AreItems V.Type.tree V.tree V.is_of V.is_full NodeType.List self.entry span result }
     {
         let Items {
             ty,

@@ -5,7 +5,7 @@ ghost use Rattle.wave_grammar.specs.FaultOrder.{Order};
 ghost use Rattle.wave_grammar.specs.NodeTree.{node, no_nodes};
 ghost use Rattle.wave_read.specs.Reading.{IsReadAs};
 ghost use Rattle.wave_read.specs.MapParts.{AreEntries, value_type_expected};
-ghost use Rattle.wave_read.specs.Private.PartSteps.{AddsKey, AddsPart, IsWholeOf, WereRead};
+ghost use Rattle.wave_read.specs.Private.PartSteps.{AddsKey, AddsPart, FinishesAs, WereRead};
 
 use crate::error::ReadError;
 use crate::fault::{Fault, or_error_at};
@@ -85,9 +85,9 @@ impl<'ty, V: WasmValue> Entries<'ty, V::Type, V> {
     }
 
     /// The map of the entries, each key once; it stands here. Keys and values were read at their types.
-    pub(crate) fn whole(self, alloc: Global, span: Span) -> Result<V, ReadError>
+    pub(crate) fn finish(self, alloc: Global, span: Span) -> Result<V, ReadError>
         requires { WereRead AreEntries V.Type.tree V.tree V.is_of V.is_full self }
-        ensures { IsWholeOf AreEntries V.Type.tree V.tree V.is_of V.is_full NodeType.TupleSet self.entry span result }
+        ensures { FinishesAs AreEntries V.Type.tree V.tree V.is_of V.is_full NodeType.TupleSet self.entry span result }
     {
         let Entries { ty, entries, .. } = self;
         let mut entries = match merged(alloc, entries) {

@@ -6,7 +6,7 @@ ghost use Rattle.wave_grammar.specs.declared.form.NodeType.TheVariants as node_t
 ghost use Rattle.wave_read.specs.Leaves.{leaf_node};
 ghost use Rattle.wave_read.specs.Reading.{IsReadAs};
 ghost use Rattle.wave_read.specs.Payloads.{AreOfSome, some_expected};
-ghost use Rattle.wave_read.specs.Private.PartSteps.{AddsPart, IsWholeOf, WereRead};
+ghost use Rattle.wave_read.specs.Private.PartSteps.{AddsPart, FinishesAs, WereRead};
 
 use crate::error::ReadError;
 use crate::fault::or_error_at;
@@ -61,9 +61,9 @@ impl<'ty, V: WasmValue> SomePayload<'ty, V::Type, V> {
     }
 
     /// `some` of the payload that was read at its type, at this place.
-    pub(crate) fn whole(self, alloc: Global, span: Span) -> Result<V, ReadError>
+    pub(crate) fn finish(self, alloc: Global, span: Span) -> Result<V, ReadError>
         requires { WereRead AreOfSome V.Type.tree V.tree V.is_of V.is_full self }
-        ensures { IsWholeOf AreOfSome V.Type.tree V.tree V.is_of V.is_full node_type.OptionSome self.entry span result }
+        ensures { FinishesAs AreOfSome V.Type.tree V.tree V.is_of V.is_full node_type.OptionSome self.entry span result }
     {
         let SomePayload {
             ty,

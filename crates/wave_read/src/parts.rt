@@ -343,7 +343,7 @@ impl<'ty, V: WasmValue> Partial<'ty, V::Type, V> {
     }
 
     /// The value of these parts, which stands here.
-    pub(crate) fn whole(self, alloc: Global, span: Span) -> Result<V, ReadError>
+    pub(crate) fn finish(self, alloc: Global, span: Span) -> Result<V, ReadError>
         requires { AreBareOrRead V.Type.tree V.tree V.is_of V.is_full self }
         ensures read { (w : Order) (T : TypeTree) (source : List ℕ) (of : NodeType) (children : List NodeTree)
             → AreParts V.Type.tree V.tree V.is_of V.is_full w T source of children self.entry
@@ -354,13 +354,13 @@ impl<'ty, V: WasmValue> Partial<'ty, V::Type, V> {
             Partial::Faulty(fault) => Err(fault.report(span)),
             Partial::Simple(ty) => refuse_form(alloc, ty, span),
             Partial::Empty(ty) => read_empty(alloc, ty, span),
-            Partial::Items(items) => items.whole(alloc, span),
-            Partial::TupleItems(row) => row.whole(alloc, span),
-            Partial::OfSome(payload) => payload.whole(alloc, span),
-            Partial::OfResult(payload) => payload.whole(alloc, span),
-            Partial::OfCase(payload) => payload.whole(alloc, span),
-            Partial::Fields(fields) => fields.whole(alloc, span),
-            Partial::Entries(entries) => entries.whole(alloc, span),
+            Partial::Items(items) => items.finish(alloc, span),
+            Partial::TupleItems(row) => row.finish(alloc, span),
+            Partial::OfSome(payload) => payload.finish(alloc, span),
+            Partial::OfResult(payload) => payload.finish(alloc, span),
+            Partial::OfCase(payload) => payload.finish(alloc, span),
+            Partial::Fields(fields) => fields.finish(alloc, span),
+            Partial::Entries(entries) => entries.finish(alloc, span),
         }
     }
 }

@@ -11,7 +11,7 @@ ghost use Rattle.wave_lex.specs.declared.error.ParserErrorKind.TheVariants.{Inva
 ghost use Rattle.wave_read.specs.RecordParts.{AreFields, type_expected, field_name};
 ghost use Rattle.wave_read.specs.Private.RecordParts.{IsFieldKey, IsKeyFault, IsNamedAt, AreFull, IsLeftUnfilled, IsMissingOrMemory, IsReportedAs, with_value};
 ghost use Rattle.wave_read.specs.declared.records.Field.{Field};
-ghost use Rattle.wave_read.specs.Private.PartSteps.{AddsKey, AddsPart, IsWholeOf, WereRead};
+ghost use Rattle.wave_read.specs.Private.PartSteps.{AddsKey, AddsPart, FinishesAs, WereRead};
 
 use crate::error::{ReadError, Reason, StaticDetail, repeated_words};
 use crate::fault::{Fault, or_error_at};
@@ -199,9 +199,9 @@ impl<'ty, V: WasmValue> Fields<'ty, V::Type, V> {
     }
 
     /// The record of the fields, each of which was read at its type; it stands here.
-    pub(crate) fn whole(self, alloc: Global, span: Span) -> Result<V, ReadError>
+    pub(crate) fn finish(self, alloc: Global, span: Span) -> Result<V, ReadError>
         requires { WereRead AreFields V.Type.tree V.tree V.is_of V.is_full self }
-        ensures { IsWholeOf AreFields V.Type.tree V.tree V.is_of V.is_full NodeType.TupleSet self.entry span result }
+        ensures { FinishesAs AreFields V.Type.tree V.tree V.is_of V.is_full NodeType.TupleSet self.entry span result }
     {
         let Fields { ty, fields, .. } = self;
         let mut fields = filled(alloc, fields, &span)?;

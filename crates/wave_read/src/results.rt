@@ -72,7 +72,7 @@ impl<'ty, V: WasmValue> ResultPayload<'ty, V::Type, V> {
     }
 
     /// `ok` or `err` with the payload that was read at its type, or without one, at this place.
-    pub(crate) fn whole(self, alloc: Global, span: Span) -> Result<V, ReadError>
+    pub(crate) fn finish(self, alloc: Global, span: Span) -> Result<V, ReadError>
         requires { WereRead AreOfResult V.Type.tree V.tree V.is_of V.is_full self }
         ensures { (o w : Order) (T : TypeTree) (source : List ℕ) (children : List NodeTree) → AreOfResult V.Type.tree V.tree V.is_of V.is_full w T source children self.entry
             → IsReadAs V.tree V.is_of V.is_full o w T source (node (result_node self.entry.is_ok) span (node_trees children)) result }
@@ -129,7 +129,7 @@ pub(crate) fn read_alone<V: WasmValue>(
     ensures { (o w : Order) (source : List ℕ) → IsReadAs V.tree V.is_of V.is_full o w (V.Type.tree ty.now) source (leaf_node leaf.now) result }
 {
     let payload = ResultPayload::new(ty, is_ok);
-    payload.whole(alloc, leaf.span.start..leaf.span.end)
+    payload.finish(alloc, leaf.span.start..leaf.span.end)
 }
 
 /// The payload of the case of this name, where one is expected; the case stands there.

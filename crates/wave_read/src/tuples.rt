@@ -5,7 +5,7 @@ ghost use Rattle.wave_wasm.specs.ValueErrors as causes;
 ghost use Rattle.wave_lex.specs.Errors.{caused, refusal_of};
 ghost use Rattle.wave_grammar.specs.FaultOrder.{Order};
 ghost use Rattle.wave_read.specs.TupleParts.{IsRow, item_expected};
-ghost use Rattle.wave_read.specs.Private.PartSteps.{AddsPart, IsWholeOf, WereRead};
+ghost use Rattle.wave_read.specs.Private.PartSteps.{AddsPart, FinishesAs, WereRead};
 
 use crate::error::{ReadError, Reason};
 use crate::fault::{Fault, or_error_at};
@@ -101,9 +101,9 @@ impl<'ty, V: WasmValue> TupleItems<'ty, V::Type, V> {
     }
 
     /// The tuple of these items, each of which was read at its type; it stands here.
-    pub(crate) fn whole(self, alloc: Global, span: Span) -> Result<V, ReadError>
+    pub(crate) fn finish(self, alloc: Global, span: Span) -> Result<V, ReadError>
         requires { WereRead IsRow V.Type.tree V.tree V.is_of V.is_full self }
-        ensures { IsWholeOf IsRow V.Type.tree V.tree V.is_of V.is_full NodeType.Tuple self.entry span result }
+        ensures { FinishesAs IsRow V.Type.tree V.tree V.is_of V.is_full NodeType.Tuple self.entry span result }
     {
         let TupleItems {
             ty,

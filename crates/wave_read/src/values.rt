@@ -13,7 +13,7 @@ ghost use Rattle.wave_read.specs.Leaves.{leaf_node, IsLeafIn};
 ghost use Rattle.wave_read.specs.PlainReading.{IsReadSparing, TakesMemory};
 ghost use Rattle.wave_read.specs.Private.Leaves.{IsTokenOfSome};
 ghost use Rattle.wave_read.specs.Reading.{IsReadAs};
-ghost use Rattle.wave_read.specs.Flat.{IsAround, IsAroundWhereExpected, IsCounted, IsOfPartWithin, ReadsFlags, ReadsNoRecord};
+ghost use Rattle.wave_read.specs.Flat.{IsWrapper, IsWrapperWhereExpected, IsCounted, IsOfPartWithin, ReadsFlags, ReadsNoRecord};
 ghost use Rattle.wave_read.specs.KeptParts.{AreKeptOfSome, AreKeptWhereExpected};
 ghost use Rattle.wave_read.specs.PartsOfKinds.{AreRefusedAtOnce, next_expected};
 
@@ -46,20 +46,20 @@ impl<'ty, V: WasmValue> ValueBuilder<'ty, V> {
         ValueBuilder { expected: Some(ty) }
     }
 
-    /// The type of the record that is expected at a node of entries, after the option or result that is
-    /// around it.
+    /// The type of the record that is expected at a node of entries, after the option or result that
+    /// wraps it.
     pub fn record(self, node: NodeType) -> Option<(Option<&'ty V::Type>, &'ty V::Type)>
         ensures node { IfSome result (λ _. node ≡ node_type.TupleSet) }
-        ensures around { IfSome result (λ found. IsAroundWhereExpected V.Type.tree (shown V.Type.tree self.entry.expected) node_type.TupleSet found.0 found.1) }
+        ensures wrapper { IfSome result (λ found. IsWrapperWhereExpected V.Type.tree (shown V.Type.tree self.entry.expected) node_type.TupleSet found.0 found.1) }
         ensures kind { IfSome result (λ found. kind_of (V.Type.tree found.1.now) ≡ WasmTypeKind.Record) }
         ensures none { IfNone result ((T : TypeTree) → shown V.Type.tree self.entry.expected ≡ Some T → ReadsNoRecord T node) }
     {
         if node != NodeType::TupleSet {
             return None;
         }
-        let (around, ty) = wrapper_and_type(self.expected?, NodeType::TupleSet);
+        let (wrapper, ty) = wrapper_and_type(self.expected?, NodeType::TupleSet);
         match ty.kind() {
-            WasmTypeKind::Record => Some((around, ty)),
+            WasmTypeKind::Record => Some((wrapper, ty)),
             _ => None,
         }
     }
@@ -108,12 +108,12 @@ impl<'ty, V: WasmValue> ValueBuilder<'ty, V> {
             Some(expected) => expected,
             None => return Some(Err(ReadError::new(ParserErrorKind::InvalidType, span))),
         };
-        let (around, ty) = wrapper_and_type(expected, NodeType::Flags);
+        let (wrapper, ty) = wrapper_and_type(expected, NodeType::Flags);
         if ty.kind() == WasmTypeKind::Flags {
             return None;
         }
         let built = refuse_flags::<V>(alloc, ty, span.start..span.end);
-        Some(wrapped(alloc, around, ty, span, built))
+        Some(wrapped(alloc, wrapper, ty, span, built))
     }
 
     /// No parts yet, of a node of this type, which has parts.
@@ -126,7 +126,7 @@ impl<'ty, V: WasmValue> ValueBuilder<'ty, V> {
         match self.expected {
             Some(expected) => Frame::new(alloc, expected, ty),
             None => Frame {
-                around: None,
+                wrapper: None,
                 parts: Partial::Faulty(Fault::Whole(Reason::Plain(ParserErrorKind::InvalidType))),
             },
         }
@@ -143,7 +143,7 @@ pub fn wrapped<V: WasmValue>(
     built: Result<V, ReadError>,
 ) -> Result<V, ReadError>
     requires { IsOfPartWithin V.Type.tree V.is_of whole built }
-    ensures { (o w : Order) (T : TypeTree) (source : List ℕ) (n : NodeTree) → IsAround V.Type.tree T (type_of n) whole.entry ty.entry → place_of n ≡ span
+    ensures { (o w : Order) (T : TypeTree) (source : List ℕ) (n : NodeTree) → IsWrapper V.Type.tree T (type_of n) whole.entry ty.entry → place_of n ≡ span
         → IsReadAs V.tree V.is_of V.is_full o w (V.Type.tree ty.now) source n built → IsReadAs V.tree V.is_of V.is_full o w T source n result }
 {
     match whole {
@@ -155,7 +155,7 @@ pub fn wrapped<V: WasmValue>(
 /// What has been read of the parts of a value, or of the flat payload that stands for the value.
 #[derive(Drop)]
 pub struct Frame<'ty, T, V> {
-    around: Option<&'ty T>,
+    wrapper: Option<&'ty T>,
     parts: Partial<'ty, T, V>,
 }
 
@@ -167,9 +167,9 @@ impl<'ty, V: WasmValue> Frame<'ty, V::Type, V> {
             → AreKeptWhereExpected V.Type.tree V.tree V.is_of V.is_full w (Some (V.Type.tree ty.now)) source of [] result }
         ensures rejected { AreRefusedAtOnce V.Type.tree V.tree V.is_of V.is_full (V.Type.tree ty.now) of result.parts }
     {
-        let (around, expected) = wrapper_and_type(ty, of);
+        let (wrapper, expected) = wrapper_and_type(ty, of);
         Frame {
-            around,
+            wrapper,
             parts: Partial::new(alloc, expected, of),
         }
     }
@@ -279,20 +279,20 @@ impl<'ty, V: WasmValue> Frame<'ty, V::Type, V> {
     }
 
     /// What is read of a node that stands here and has these parts, which were read of a node's children.
-    pub fn whole(self, alloc: Global, span: Span) -> Result<V, ReadError>
+    pub fn finish(self, alloc: Global, span: Span) -> Result<V, ReadError>
         requires { AreKeptOfSome V.Type.tree V.tree V.is_of V.is_full self }
         ensures { (w : Order) (expected : Option TypeTree) (source : List ℕ) (ty : NodeType) (children : List NodeTree)
             → AreKeptWhereExpected V.Type.tree V.tree V.is_of V.is_full w expected source ty children self.entry
             → IsReadSparing V.tree V.is_of V.is_full in_text w expected source (node ty span (node_trees children)) result }
     {
-        let Frame { around: ty, parts } = self;
+        let Frame { wrapper: ty, parts } = self;
         match ty {
             Some(ty) => {
                 let place = span.start..span.end;
-                let built = parts.whole(alloc, span);
+                let built = parts.finish(alloc, span);
                 wrap(alloc, ty, place, built)
             }
-            None => parts.whole(alloc, span),
+            None => parts.finish(alloc, span),
         }
     }
 }
@@ -370,14 +370,14 @@ impl<'ty, V: WasmValue> Builder for ValueBuilder<'ty, V> {
     }
 
     #[inline(always)]
-    fn whole(
+    fn finish(
         self,
         alloc: Global,
         ty: NodeType,
         span: Span,
         parts: Frame<'ty, V::Type, V>,
     ) -> Result<V, ReadError> {
-        parts.whole(alloc, span)
+        parts.finish(alloc, span)
     }
 
     fn flags(

@@ -8,7 +8,7 @@ ghost use Rattle.wave_grammar.specs.declared.form.NodeType.TheVariants as node_t
 ghost use Rattle.wave_grammar.specs.PartReading.{IsCaused};
 ghost use Rattle.wave_read.specs.Leaves.{leaf_node};
 ghost use Rattle.wave_read.specs.CaseParts.{AreCaseParts, payload_expected};
-ghost use Rattle.wave_read.specs.Private.PartSteps.{AddsKey, AddsPart, IsWholeOf, WereRead};
+ghost use Rattle.wave_read.specs.Private.PartSteps.{AddsKey, AddsPart, FinishesAs, WereRead};
 ghost use Rattle.wave_read.specs.Reading.{IsReadOfLeaf};
 
 use crate::enums::no_case;
@@ -94,9 +94,9 @@ impl<'ty, V: WasmValue> CasePayload<'ty, V::Type, V> {
     }
 
     /// The variant of the case and the payload that were read, the payload at its type, at this place.
-    pub(crate) fn whole(self, alloc: Global, span: Span) -> Result<V, ReadError>
+    pub(crate) fn finish(self, alloc: Global, span: Span) -> Result<V, ReadError>
         requires { WereRead AreCaseParts V.Type.tree V.tree V.is_of V.is_full self }
-        ensures { IsWholeOf AreCaseParts V.Type.tree V.tree V.is_of V.is_full node_type.VariantWithPayload self.entry span result }
+        ensures { FinishesAs AreCaseParts V.Type.tree V.tree V.is_of V.is_full node_type.VariantWithPayload self.entry span result }
     {
         let CasePayload { ty, case, payload } = self;
         let (name, val) = match (case, payload) {

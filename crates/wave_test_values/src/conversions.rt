@@ -1,5 +1,5 @@
 //! What Rust values stand for, each with its type.
-use crate::makers::{Row, wrong};
+use crate::constructors::{Row, wrong};
 use std::test::Fail;
 use wave_type::ty::Type;
 use wave_value::convert::IntoValue;

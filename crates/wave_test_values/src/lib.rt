@@ -4,6 +4,8 @@
 #![tactic(auto)]
 
 #[cfg(test)]
+mod constructors;
+#[cfg(test)]
 mod conversions;
 #[cfg(test)]
 mod functions;
@@ -11,8 +13,6 @@ mod functions;
 mod kinds;
 #[cfg(test)]
 mod lexers;
-#[cfg(test)]
-mod makers;
 #[cfg(test)]
 mod names;
 #[cfg(test)]

@@ -234,7 +234,7 @@ impl<'source> Tokens<'source> {
         if let Err(error) = self.expect(Token::ParenClose) {
             return Err(error);
         }
-        Ok(self.whole(alloc, builder, ty, start, parts))
+        Ok(self.finish_node(alloc, builder, ty, start, parts))
     }
 
     /// Adds the label of a case, which was taken last, as the first part of its node; no part of other
@@ -281,7 +281,7 @@ impl<'source> Tokens<'source> {
             if close == Token::ParenClose {
                 return self.refuse_empty(start);
             }
-            return Ok(self.whole_of_none(alloc, builder, NodeType::List, start));
+            return Ok(self.finish_empty(alloc, builder, NodeType::List, start));
         }
         if levels == 0 {
             return self.refuse_depth();
@@ -307,7 +307,7 @@ impl<'source> Tokens<'source> {
                 return self.refuse_item(item);
             };
             if mark == close {
-                return Ok(self.whole(alloc, builder, ty, start, parts));
+                return Ok(self.finish_node(alloc, builder, ty, start, parts));
             }
             if mark != Token::Comma {
                 return self.refuse_token(mark);
@@ -317,7 +317,7 @@ impl<'source> Tokens<'source> {
                 return self.refuse_item(item);
             };
             if next == close {
-                return Ok(self.whole(alloc, builder, ty, start, parts));
+                return Ok(self.finish_node(alloc, builder, ty, start, parts));
             }
             token = next;
         }
@@ -340,11 +340,11 @@ impl<'source> Tokens<'source> {
         let start = self.span().start;
         let token = self.advance()?;
         if token == Token::BraceClose {
-            return Ok(self.whole_of_none(alloc, builder, NodeType::EmptySet, start));
+            return Ok(self.finish_empty(alloc, builder, NodeType::EmptySet, start));
         }
         if token == Token::Colon {
             self.expect(Token::BraceClose)?;
-            return Ok(self.whole_of_none(alloc, builder, NodeType::TupleSet, start));
+            return Ok(self.finish_empty(alloc, builder, NodeType::TupleSet, start));
         }
         if token == Token::LabelOrKeyword {
             if self.next_is(Token::Colon) {
@@ -390,7 +390,7 @@ impl<'source> Tokens<'source> {
                 return self.refuse_item(item);
             };
             if token == Token::BraceClose {
-                return Ok(self.whole(alloc, builder, NodeType::TupleSet, start, parts));
+                return Ok(self.finish_node(alloc, builder, NodeType::TupleSet, start, parts));
             }
             if token != Token::Comma {
                 return self.refuse_token(token);
@@ -400,7 +400,7 @@ impl<'source> Tokens<'source> {
                 return self.refuse_item(item);
             };
             if next == Token::BraceClose {
-                return Ok(self.whole(alloc, builder, NodeType::TupleSet, start, parts));
+                return Ok(self.finish_node(alloc, builder, NodeType::TupleSet, start, parts));
             }
             let Some(ty) = key_type(next) else {
                 return self.refuse_token(next);
@@ -429,14 +429,14 @@ impl<'source> Tokens<'source> {
         'flags: loop {
             let token = self.advance()?;
             if token == Token::BraceClose {
-                return self.whole_flags(alloc, builder, start, flags);
+                return self.finish_flags(alloc, builder, start, flags);
             }
             if token != Token::Comma {
                 return self.refuse_token(token);
             }
             let next = self.advance()?;
             if next == Token::BraceClose {
-                return self.whole_flags(alloc, builder, start, flags);
+                return self.finish_flags(alloc, builder, start, flags);
             }
             if next != Token::LabelOrKeyword {
                 return self.refuse_token(next);
@@ -451,7 +451,7 @@ impl<'source> Tokens<'source> {
     }
 
     /// What is made of these flags, by their names, up to the last token.
-    fn whole_flags<P: Builder>(
+    fn finish_flags<P: Builder>(
         &self,
         alloc: Global,
         builder: P,

@@ -102,7 +102,7 @@ impl Builder for NodeBuilder {
     }
 
     #[inline(always)]
-    fn whole(self, alloc: Global, ty: NodeType, span: Span, parts: Vec<Node>) -> Node {
+    fn finish(self, alloc: Global, ty: NodeType, span: Span, parts: Vec<Node>) -> Node {
         make::node(ty, span, parts)
     }
 

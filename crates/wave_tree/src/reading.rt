@@ -12,7 +12,7 @@ ghost use Rattle.wave_grammar.specs.FlagParts.{AreFlagsOf, flag_nodes};
 ghost use Rattle.wave_grammar.specs.NodeParts.{IsOfParts, TakesKey, TakesPart};
 ghost use Rattle.wave_read.specs.PlainReading.{IsReadSparing};
 ghost use Rattle.wave_read.specs.Reading.{IsReadAs};
-ghost use Rattle.wave_read.specs.Flat.{IsAround, IsCounted, ReadsNoRecord};
+ghost use Rattle.wave_read.specs.Flat.{IsWrapper, IsCounted, ReadsNoRecord};
 ghost use Rattle.wave_read.specs.KeptParts.{AreKeptWhereExpected};
 ghost use Rattle.wave_read.specs.PartsOfKinds.{AreRefusedAtOnce};
 ghost use Rattle.wave_tree.specs.Private.NodeForms.{IsOfOneToken};
@@ -62,9 +62,9 @@ impl Node {
         if self.is_of(NodeType::Flags) {
             return self.make_of_flags(alloc, builder, src);
         }
-        if let Some((around, ty)) = builder.record(self.ty()) {
+        if let Some((wrapper, ty)) = builder.record(self.ty()) {
             let built = self.read_record::<V>(alloc, ty, src);
-            return Ok(wrapped(alloc, around, ty, self.span(), built));
+            return Ok(wrapped(alloc, wrapper, ty, self.span(), built));
         }
         if self.has_parts() {
             return self.make_of_parts(alloc, builder, src);
@@ -155,7 +155,7 @@ impl Node {
                 parts.push_part(alloc, built)?;
             }
         }
-        Ok(parts.whole(alloc, self.span()))
+        Ok(parts.finish(alloc, self.span()))
     }
 
     /// The refusal of a node that has parts before any of them is read: where the type takes no such form,

@@ -319,7 +319,7 @@ impl<'source> Tokens<'source> {
 
     /// What is made of a node from `start` to the last token, of these parts, which were made of a
     /// node's children.
-    pub(crate) fn whole<P: Builder>(
+    pub(crate) fn finish_node<P: Builder>(
         &self,
         alloc: Global,
         builder: P,
@@ -331,12 +331,12 @@ impl<'source> Tokens<'source> {
         ensures { (children : List NodeTree) → P.are_parts builder self.now.place.lexer.source ty children parts
             → P.is_built builder self.now.place.lexer.source (node ty (span start self.now.place.lexer.end) (node_trees children)) result }
     {
-        builder.whole(alloc, ty, start..self.span().end, parts)
+        builder.finish(alloc, ty, start..self.span().end, parts)
     }
 
     /// The same of a node that has no parts.
     #[inline(never)]
-    pub(crate) fn whole_of_none<P: Builder>(
+    pub(crate) fn finish_empty<P: Builder>(
         &self,
         alloc: Global,
         builder: P,
@@ -347,7 +347,7 @@ impl<'source> Tokens<'source> {
         ensures { P.is_built builder self.now.place.lexer.source (node ty (span start self.now.place.lexer.end) no_nodes) result }
     {
         let none = builder.parts(alloc, ty);
-        self.whole(alloc, builder, ty, start, none)
+        self.finish_node(alloc, builder, ty, start, none)
     }
 
     /// Adds the last token to the parts: a key, or the label of a case.

@@ -9,8 +9,8 @@ use Rattle.wave.specs.declared.answer.Unanswered.{Unanswered}
 use Rattle.wave.specs.declared.answer.Unanswered.TheVariants as why
 use Rattle.wave.specs.declared.request.Request.{Request}
 use Rattle.wave.specs.declared.input.Input.{Input}
-use Rattle.wave.specs.declared.input.Fault.{Fault}
-use Rattle.wave.specs.declared.input.Fault.TheVariants.{NotUtf8, InputFailed, OutOfMemory}
+use Rattle.wave.specs.declared.input.RunError.{RunError}
+use Rattle.wave.specs.declared.input.RunError.TheVariants.{NotUtf8, InputFailed, OutOfMemory}
 use Rattle.wave.specs.declared.output.Output.{Output}
 use Rattle.wave.specs.declared.program.Outcome.{Outcome}
 use Rattle.wave.specs.declared.program.Outcome.TheVariants.{Answered, Refused}
@@ -42,13 +42,13 @@ HasAnswer request left = (whole : List ℕ) × (answer : List ℕ) × IsInput le
 module _ {R : Type 0} where
   -- why a request has no outcome: the input is no text, or was not read to its end; or there was no memory before the reader
   -- reported its end, or for the answer that the request has
-  abbrev pub IsNoOutcome : Request → Option (List ℕ) → Input R → Input R → Fault → Type 0
+  abbrev pub IsNoOutcome : Request → Option (List ℕ) → Input R → Input R → RunError → Type 0
   IsNoOutcome request left old new (NotUtf8 place) = IsNoText left place × IsReadToEnd old new
   IsNoOutcome request left old new InputFailed = IsUnread old new
   IsNoOutcome request left old new OutOfMemory = (new.failures ≡ old.failures) × ((new.has_ended ≡ false) ⊎ HasAnswer request left)
 
   -- the input was not read to its end; or there was no memory before the reader reported its end, and no read failed
-  abbrev pub IsReadFault : Input R → Input R → Fault → Type 0
+  abbrev pub IsReadFault : Input R → Input R → RunError → Type 0
   IsReadFault old new (NotUtf8 place) = ⊥
   IsReadFault old new InputFailed = IsUnread old new
   IsReadFault old new OutOfMemory = (new.failures ≡ old.failures) × (new.has_ended ≡ false)
@@ -62,7 +62,7 @@ module _ {W : Type 0} (contents : W → Option (List ℕ)) where
 
 -- the fault's words are the line that was written, and the place is shown; or a write failed, and nothing is shown
 abbrev pub ShowsFault : {W E : Type 0} → (W → Option (List ℕ)) → Output W → Output W → (E → Option (List ℕ)) → Output E → Output E
-    → Fault → Result (Unit {0}) AllocError → Type 0
+    → RunError → Result (Unit {0}) AllocError → Type 0
 ShowsFault contents before after held old new fault shown =
     WritesWhole contents before after (line (words_of_fault fault)) × ShowsPlace held old new fault shown
     ⊎ WritesLess contents before after (line (words_of_fault fault)) × (new ≡ old) × (shown ≡ Ok tt)

@@ -5,8 +5,8 @@ use Rattle.std.specs.Io.KnownBytes.{IsAtEnd, prepend_known}
 use Rattle.std.specs.List.{All}
 use Rattle.std.specs.Str.Lines.{lines}
 use Rattle.wave.specs.Counts.{CountsOne}
-use Rattle.wave.specs.declared.input.Fault.{Fault}
-use Rattle.wave.specs.declared.input.Fault.TheVariants.{NotUtf8, InputFailed, OutOfMemory}
+use Rattle.wave.specs.declared.input.RunError.{RunError}
+use Rattle.wave.specs.declared.input.RunError.TheVariants.{NotUtf8, InputFailed, OutOfMemory}
 use Rattle.wave.specs.declared.input.Input.{Input}
 use Rattle.wave.specs.declared.lines.Unread.{Unread}
 
@@ -36,7 +36,7 @@ unread_bytes u = slice_range u.chunk u.start u.end
 
 module _ {R : Type 0} where
   -- the last read failed, or no call of the reader is left, which did not report its end; or there was no memory, and no read failed
-  abbrev pub IsCutOff : Input R → Input R → Fault → Type 0
+  abbrev pub IsCutOff : Input R → Input R → RunError → Type 0
   IsCutOff old new (NotUtf8 place) = ⊥
   IsCutOff old new InputFailed =
       CountsOne old.failures new.failures × (new.has_ended ≡ false)

@@ -169,30 +169,30 @@ enum-through names n tokens v rest (l, (name, (text, e, f, k), one, g)) no_paren
     )
 
 -- an option, or a value that stands for `some` of itself
-option-through : (P P' : Spelling Value) (Q Q' : Meaning Tree Value) (n : ℕ) (around : Value → Value) → Through P (Takes (n - 1)) Q → Through P' (Takes n) Q' →
-    Through (r.Either (r.Provided (0 < n) (r.AnOption P)) (r.Stands around P')) (Takes n) (m.Or (m.OptionTree Q) (m.StandsTree around Q'))
-option-through P P' Q Q' n around through through' tokens v rest (inl (l, inl (e, f))) no_paren =
+option-through : (P P' : Spelling Value) (Q Q' : Meaning Tree Value) (n : ℕ) (wrap : Value → Value) → Through P (Takes (n - 1)) Q → Through P' (Takes n) Q' →
+    Through (r.Either (r.Provided (0 < n) (r.AnOption P)) (r.Stands wrap P')) (Takes n) (m.Or (m.OptionTree Q) (m.StandsTree wrap Q'))
+option-through P P' Q Q' n wrap through through' tokens v rest (inl (l, inl (e, f))) no_paren =
     (tree.none, takes-row n l tokens tree.none rest (subst (λ x. ATree (Takes (n - 1)) x tree.none rest) (sym e) (refl, refl)), inl (inl (refl, f)))
-option-through P P' Q Q' n around through through' tokens v rest (inl (l, inr (w, (behind, e, p), f))) no_paren =
+option-through P P' Q Q' n wrap through through' tokens v rest (inl (l, inr (w, (behind, e, p), f))) no_paren =
     let (inner, i, q) = parens-through P Q (n - 1) through behind w rest p in
     let t = tree.some inner in
     (t, takes-row n l tokens t rest (subst (λ x. ATree (Takes (n - 1)) x t rest) (sym e) (inner, i, refl)), inl (inr (inner, w, refl, q, f)))
-option-through P P' Q Q' n around through through' tokens v rest (inr (w, p, f)) no_paren =
+option-through P P' Q Q' n wrap through through' tokens v rest (inr (w, p, f)) no_paren =
     let (t, i, q) = through' tokens w rest p no_paren in (t, i, inr (w, q, f))
 
 -- a result, or a value that stands for `ok` of itself
-result-through : (P P' : Spelling MaybeValue) (P'' : Spelling Value) (Q Q' : Meaning MaybeTree MaybeValue) (Q'' : Meaning Tree Value) (n : ℕ) (around : Value → Value) →
+result-through : (P P' : Spelling MaybeValue) (P'' : Spelling Value) (Q Q' : Meaning MaybeTree MaybeValue) (Q'' : Meaning Tree Value) (n : ℕ) (wrap : Value → Value) →
     Through P (MaybeInParens (Takes (n - 1))) Q → Through P' (MaybeInParens (Takes (n - 1))) Q' → Through P'' (Takes n) Q'' →
-    Through (r.Either (r.Provided (0 < n) (r.AResult P P')) (r.Stands around P'')) (Takes n) (m.Or (m.ResultTree Q Q') (m.StandsTree around Q''))
-result-through P P' P'' Q Q' Q'' n around one two three tokens v rest (inl (l, inl (payload, (behind, e, p), f))) no_paren =
+    Through (r.Either (r.Provided (0 < n) (r.AResult P P')) (r.Stands wrap P'')) (Takes n) (m.Or (m.ResultTree Q Q') (m.StandsTree wrap Q''))
+result-through P P' P'' Q Q' Q'' n wrap one two three tokens v rest (inl (l, inl (payload, (behind, e, p), f))) no_paren =
     let (inner, i, q) = one behind payload rest p no_paren in
     let t = tree.ok inner in
     (t, takes-row n l tokens t rest (subst (λ x. ATree (Takes (n - 1)) x t rest) (sym e) (inner, i, refl)), inl (inl (inner, payload, refl, q, f)))
-result-through P P' P'' Q Q' Q'' n around one two three tokens v rest (inl (l, inr (payload, (behind, e, p), f))) no_paren =
+result-through P P' P'' Q Q' Q'' n wrap one two three tokens v rest (inl (l, inr (payload, (behind, e, p), f))) no_paren =
     let (inner, i, q) = two behind payload rest p no_paren in
     let t = tree.err inner in
     (t, takes-row n l tokens t rest (subst (λ x. ATree (Takes (n - 1)) x t rest) (sym e) (inner, i, refl)), inl (inr (inner, payload, refl, q, f)))
-result-through P P' P'' Q Q' Q'' n around one two three tokens v rest (inr (w, p, f)) no_paren =
+result-through P P' P'' Q Q' Q'' n wrap one two three tokens v rest (inr (w, p, f)) no_paren =
     let (t, i, q) = three tokens w rest p no_paren in (t, i, inr (w, q, f))
 
 -- under a premise

@@ -218,23 +218,23 @@ enum-back names n tokens t v rest h (text, e, one, f) =
     bare behind (inr (u, p, f)) = cc
 
 -- an option, or a value that stands for `some` of itself
-option-back : (Q Q' : Meaning Tree Value) (P P' : Spelling Value) (n : ℕ) (around : Value → Value) → Back (Takes (n - 1)) Q P → Back (Takes n) Q' P' →
-    Back (Takes n) (m.Or (m.OptionTree Q) (m.StandsTree around Q')) (r.Either (r.Provided (0 < n) (r.AnOption P)) (r.Stands around P'))
-option-back Q Q' P P' n around back back' tokens t v rest h (inl (inl (e, f))) = let (l, k) = takes-as n tokens t tree.none rest h e in inl (l, inl (k, f))
-option-back Q Q' P P' n around back back' tokens t v rest h (inl (inr (inner, w, e, q, f))) =
+option-back : (Q Q' : Meaning Tree Value) (P P' : Spelling Value) (n : ℕ) (wrap : Value → Value) → Back (Takes (n - 1)) Q P → Back (Takes n) Q' P' →
+    Back (Takes n) (m.Or (m.OptionTree Q) (m.StandsTree wrap Q')) (r.Either (r.Provided (0 < n) (r.AnOption P)) (r.Stands wrap P'))
+option-back Q Q' P P' n wrap back back' tokens t v rest h (inl (inl (e, f))) = let (l, k) = takes-as n tokens t tree.none rest h e in inl (l, inl (k, f))
+option-back Q Q' P P' n wrap back back' tokens t v rest h (inl (inr (inner, w, e, q, f))) =
     let (l, (behind, g, (prefix, i, k))) = takes-as n tokens t (tree.some inner) rest h e in
     inl (l, inr (w, (behind, g, (prefix, i, back prefix inner w (paren_close ∷ rest) k q)), f))
-option-back Q Q' P P' n around back back' tokens t v rest h (inr (w, q, f)) = inr (w, back' tokens t w rest h q, f)
+option-back Q Q' P P' n wrap back back' tokens t v rest h (inr (w, q, f)) = inr (w, back' tokens t w rest h q, f)
 
 -- a result, or a value that stands for `ok` of itself
-result-back : (Q Q' : Meaning MaybeTree MaybeValue) (Q'' : Meaning Tree Value) (P P' : Spelling MaybeValue) (P'' : Spelling Value) (n : ℕ) (around : Value → Value) →
+result-back : (Q Q' : Meaning MaybeTree MaybeValue) (Q'' : Meaning Tree Value) (P P' : Spelling MaybeValue) (P'' : Spelling Value) (n : ℕ) (wrap : Value → Value) →
     Back (MaybeInParens (Takes (n - 1))) Q P → Back (MaybeInParens (Takes (n - 1))) Q' P' → Back (Takes n) Q'' P'' →
-    Back (Takes n) (m.Or (m.ResultTree Q Q') (m.StandsTree around Q'')) (r.Either (r.Provided (0 < n) (r.AResult P P')) (r.Stands around P''))
-result-back Q Q' Q'' P P' P'' n around one two three tokens t v rest h (inl (inl (inner, payload, e, q, f))) =
+    Back (Takes n) (m.Or (m.ResultTree Q Q') (m.StandsTree wrap Q'')) (r.Either (r.Provided (0 < n) (r.AResult P P')) (r.Stands wrap P''))
+result-back Q Q' Q'' P P' P'' n wrap one two three tokens t v rest h (inl (inl (inner, payload, e, q, f))) =
     let (l, (behind, g, i)) = takes-as n tokens t (tree.ok inner) rest h e in inl (l, inl (payload, (behind, g, one behind inner payload rest i q), f))
-result-back Q Q' Q'' P P' P'' n around one two three tokens t v rest h (inl (inr (inner, payload, e, q, f))) =
+result-back Q Q' Q'' P P' P'' n wrap one two three tokens t v rest h (inl (inr (inner, payload, e, q, f))) =
     let (l, (behind, g, i)) = takes-as n tokens t (tree.err inner) rest h e in inl (l, inr (payload, (behind, g, two behind inner payload rest i q), f))
-result-back Q Q' Q'' P P' P'' n around one two three tokens t v rest h (inr (w, q, f)) = inr (w, three tokens t w rest h q, f)
+result-back Q Q' Q'' P P' P'' n wrap one two three tokens t v rest h (inr (w, q, f)) = inr (w, three tokens t w rest h q, f)
 
 -- a name and what it is for
 named-back : {A : Type 0} (I : Spelling Tree) (Q : List ℕ → Meaning Tree A) (P : List ℕ → Spelling A) → ((name : List ℕ) → Back I (Q name) (P name)) → Back (KeyAnd I) (m.NamedTree Q) (r.Named P)

@@ -295,8 +295,8 @@ or_carries P Q p q t u v h (inr read) = inr (q t u v h read)
 if_carries : (Holds : Type 0) (Inner : Meaning Tree Value) → Carries Inner → Carries (m.If Holds Inner)
 if_carries Holds Inner inner t u v h (holds, read) = (holds, inner t u v h read)
 
-stands_carries : (around : Value → Value) (Inner : Meaning Tree Value) → Carries Inner → Carries (m.StandsTree around Inner)
-stands_carries around Inner inner t u v h (w, read, f) = (w, inner t u w h read, f)
+stands_carries : (wrap : Value → Value) (Inner : Meaning Tree Value) → Carries Inner → Carries (m.StandsTree wrap Inner)
+stands_carries wrap Inner inner t u v h (w, read, f) = (w, inner t u w h read, f)
 
 mutual
   -- what a type reads from a tree it reads from each alike tree

@@ -58,9 +58,9 @@ either-framed P Q one two tokens a rest (inr p) = let (f, k, q) = two tokens a r
 never-framed : {A : Type 0} → Framed {A = A} Never
 never-framed tokens a rest h = absurd h
 
--- a value that stands for one around it
-stands-framed : (around : Value → Value) (P : Spelling Value) → Framed P → Framed (Stands around P)
-stands-framed around P framed tokens v rest (w, p, e) = let (f, k, q) = framed tokens w rest p in (f, k, λ x. (w, q x, e))
+-- a value that stands for one that wraps it
+stands-framed : (wrap : Value → Value) (P : Spelling Value) → Framed P → Framed (Stands wrap P)
+stands-framed wrap P framed tokens v rest (w, p, e) = let (f, k, q) = framed tokens w rest p in (f, k, λ x. (w, q x, e))
 
 -- what stands in parentheses
 parens-framed : {A : Type 0} (P : Spelling A) → Framed P → Framed (InParens P)

@@ -35,11 +35,11 @@ module _ {S V : Type 0} (type_tree : S → TypeTree) (tree : V → Value) (of : 
   pub count_reported : HasFullParts Full → (expected : Option TypeTree) (ty : NodeType) (x : Frame S V) → x.parts ≡ parts.TupleItems row → length children ≢ length row.types.items → refusal_of e ≡ caused (wrong_number (length row.types.items) (length children)) → e.span ≡ place → AreKeptWhereExpected type_tree tree of Full w expected source ty [] x → IsReadSparing tree of Full by_type w expected source (node ty place (node_trees children)) (Err e)
   count_reported full None ty x is apart refused stands bare = (tt, tt)
   count_reported full (Some T) ty x is apart refused stands h = (
-    by x.around h.0,
+    by x.wrapper h.0,
     λ plain. absurd (subst (IsSimpleAt type_tree T) is (h.1 plain)),
   )
     where
-      by : (around : Option (Bor S)) → AreOfType type_tree tree of Full w T source ty [] around x → IsReadAs tree of Full by_type w T source (node ty place (node_trees children)) (Err e)
+      by : (wrapper : Option (Bor S)) → AreOfType type_tree tree of Full w T source ty [] wrapper x → IsReadAs tree of Full by_type w T source (node ty place (node_trees children)) (Err e)
       by None h = row_reported T ty (subst (AreParts type_tree tree of Full w T source ty []) is h) apart refused stands
       by (Some whole) h =
           flat_refused tree of Full by_type w T h.1.0 source (node ty place (node_trees children)) e full h.1.1

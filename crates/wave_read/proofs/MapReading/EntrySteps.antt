@@ -117,6 +117,6 @@ module _ {V : Type 0} (tree : V → Value) (of : V → TypeTree → Type 0) (Ful
         subst (λ (W : TypeTree). TypedMap of W handed) (sym m.is) (subst (AllOf (λ (e : V × V). of e.0 (type.simple m.key) × of e.1 U)) (sym merged) (merged_of tree of Full m.key U x.entries.items keys values))
 
     -- the map was made of the merged entries, or its constructor refused
-    pub whole_built : (p : Range ℕ) (handed : List (V × V)) (built_map : Result V WasmValueError) (r : Result V Diagnostic) → ((v : V) (U : TypeTree) → of v U → HasType U (tree v)) → handed ≡ merge (same_texts tree of Full) x.entries.items → IfOk built_map (MakesMap tree of (type_tree x.ty.now) handed) → IfErr built_map (FullMap of Full (type_tree x.ty.now) handed) → IsBuiltOrMemory (node kind.TupleSet p (node_trees children)) built_map r → IsReadAs tree of Full o w T source (node kind.TupleSet p (node_trees children)) r
-    whole_built p handed built_map r fits merged ok full done =
+    pub finish_built : (p : Range ℕ) (handed : List (V × V)) (built_map : Result V WasmValueError) (r : Result V Diagnostic) → ((v : V) (U : TypeTree) → of v U → HasType U (tree v)) → handed ≡ merge (same_texts tree of Full) x.entries.items → IfOk built_map (MakesMap tree of (type_tree x.ty.now) handed) → IfErr built_map (FullMap of Full (type_tree x.ty.now) handed) → IsBuiltOrMemory (node kind.TupleSet p (node_trees children)) built_map r → IsReadAs tree of Full o w T source (node kind.TupleSet p (node_trees children)) r
+    finish_built p handed built_map r fits merged ok full done =
         entries_built tree of Full o w T (type_tree x.key_type.now) (type_tree x.value_type.now) source children x.entries.items handed x.key p built_map r parts_of h.read fits merged (subst (λ (U : TypeTree). IfOk built_map (MakesMap tree of U handed)) h.type_is ok) (subst (λ (U : TypeTree). IfErr built_map (FullMap of Full U handed)) h.type_is full) done

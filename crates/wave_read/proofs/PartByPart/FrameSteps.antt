@@ -36,10 +36,10 @@ module _ {S V : Type 0} (type_tree : S → TypeTree) (tree : V → Value) (of : 
   more_of_type T children n (Some x) kept new step h = (h.0, (h.1.0, h.1.1, step h.1.0 h.1.2))
 
   -- after one more
-  pub one_more : (expected : Option TypeTree) (children : List NodeTree) (n : NodeTree) (kept : Frame S V) (next : Partial S V) → ((U : TypeTree) → AreParts type_tree tree of Full w U source ty children kept.parts → AreParts type_tree tree of Full w U source ty (children ++ n ∷ []) next) → (IsBare kept.parts → next ≡ kept.parts) → AreKeptWhereExpected type_tree tree of Full w expected source ty children kept → AreKeptWhereExpected type_tree tree of Full w expected source ty (children ++ n ∷ []) (record { around = kept.around; parts = next })
+  pub one_more : (expected : Option TypeTree) (children : List NodeTree) (n : NodeTree) (kept : Frame S V) (next : Partial S V) → ((U : TypeTree) → AreParts type_tree tree of Full w U source ty children kept.parts → AreParts type_tree tree of Full w U source ty (children ++ n ∷ []) next) → (IsBare kept.parts → next ≡ kept.parts) → AreKeptWhereExpected type_tree tree of Full w expected source ty children kept → AreKeptWhereExpected type_tree tree of Full w expected source ty (children ++ n ∷ []) (record { wrapper = kept.wrapper; parts = next })
   one_more None children n kept next step stays h = (subst (λ (x : Partial S V). IsBare x) (sym (stays h.0)) h.0, h.1)
   one_more (Some T) children n kept next step stays h = (
-    more_of_type T children n kept.around kept (record { around = kept.around; parts = next }) step h.0,
+    more_of_type T children n kept.wrapper kept (record { wrapper = kept.wrapper; parts = next }) step h.0,
     λ plain. let simple = h.1 plain in subst (λ (x : Partial S V). IsSimpleAt type_tree T x) (sym (stays (simple_bare type_tree T kept.parts simple))) simple,
   )
 
@@ -50,38 +50,38 @@ module _ {S V : Type 0} (type_tree : S → TypeTree) (tree : V → Value) (of : 
   -- of those that are kept nothing is kept, or they were read
   pub kept_read : (expected : Option TypeTree) (children : List NodeTree) (kept : Frame S V) → AreKeptWhereExpected type_tree tree of Full w expected source ty children kept → AreBareOrRead type_tree tree of Full kept.parts
   kept_read None children kept h = inl h.0
-  kept_read (Some T) children kept h = of_type_read T children kept.around kept h.0
+  kept_read (Some T) children kept h = of_type_read T children kept.wrapper kept h.0
 
   module _ (children : List NodeTree) (place : Range ℕ) where
-    -- the whole, where nothing is around it
-    pub whole_alone : (expected : Option TypeTree) (kept : Frame S V) (r : Result V Diagnostic) → kept.around ≡ None → ((U : TypeTree) → AreParts type_tree tree of Full w U source ty children kept.parts → IsReadAs tree of Full in_text w U source (node ty place (node_trees children)) r) → AreKeptWhereExpected type_tree tree of Full w expected source ty children kept → IsReadWhereExpected tree of Full in_text w expected source (node ty place (node_trees children)) r
-    whole_alone None kept r alone whole h = tt
-    whole_alone (Some T) kept r alone whole h = whole T (subst (λ (o : Option (Bor S)). AreOfType type_tree tree of Full w T source ty children o kept) alone h.0)
+    -- what finish gives, where nothing wraps them
+    pub finish_alone : (expected : Option TypeTree) (kept : Frame S V) (r : Result V Diagnostic) → kept.wrapper ≡ None → ((U : TypeTree) → AreParts type_tree tree of Full w U source ty children kept.parts → IsReadAs tree of Full in_text w U source (node ty place (node_trees children)) r) → AreKeptWhereExpected type_tree tree of Full w expected source ty children kept → IsReadWhereExpected tree of Full in_text w expected source (node ty place (node_trees children)) r
+    finish_alone None kept r alone finished h = tt
+    finish_alone (Some T) kept r alone finished h = finished T (subst (λ (o : Option (Bor S)). AreOfType type_tree tree of Full w T source ty children o kept) alone h.0)
 
-    -- where an option or a result is
-    pub whole_around : (expected : Option TypeTree) (kept : Frame S V) (x : Bor S) (built r : Result V Diagnostic) → kept.around ≡ Some x → ((U : TypeTree) → AreParts type_tree tree of Full w U source ty children kept.parts → IsReadAs tree of Full in_text w U source (node ty place (node_trees children)) built) → ((U : TypeTree) → IsFlatAt (type_tree x.now) ty U → IsReadAs tree of Full in_text w U source (node ty place (node_trees children)) built → IsReadAs tree of Full in_text w (type_tree x.now) source (node ty place (node_trees children)) r) → AreKeptWhereExpected type_tree tree of Full w expected source ty children kept → IsReadWhereExpected tree of Full in_text w expected source (node ty place (node_trees children)) r
-    whole_around None kept x built r is whole around h = tt
-    whole_around (Some T) kept x built r is whole around h =
+    -- where an option or a result does
+    pub finish_wrapped : (expected : Option TypeTree) (kept : Frame S V) (x : Bor S) (built r : Result V Diagnostic) → kept.wrapper ≡ Some x → ((U : TypeTree) → AreParts type_tree tree of Full w U source ty children kept.parts → IsReadAs tree of Full in_text w U source (node ty place (node_trees children)) built) → ((U : TypeTree) → IsFlatAt (type_tree x.now) ty U → IsReadAs tree of Full in_text w U source (node ty place (node_trees children)) built → IsReadAs tree of Full in_text w (type_tree x.now) source (node ty place (node_trees children)) r) → AreKeptWhereExpected type_tree tree of Full w expected source ty children kept → IsReadWhereExpected tree of Full in_text w expected source (node ty place (node_trees children)) r
+    finish_wrapped None kept x built r is finished wraps h = tt
+    finish_wrapped (Some T) kept x built r is finished wraps h =
         let held = subst (λ (o : Option (Bor S)). AreOfType type_tree tree of Full w T source ty children o kept) is h.0 in
         subst (λ (W : TypeTree). IsReadAs tree of Full in_text w W source (node ty place (node_trees children)) r) held.0
-        (around held.1.0 (subst (λ (W : TypeTree). IsFlatAt W ty held.1.0) (sym held.0) held.1.1) (whole held.1.0 held.1.2))
+        (wraps held.1.0 (subst (λ (W : TypeTree). IsFlatAt W ty held.1.0) (sym held.0) held.1.1) (finished held.1.0 held.1.2))
 
     -- what is read of the parts of a flat payload is of its type
-    pub part_around : (expected : Option TypeTree) (kept : Frame S V) (x : Bor S) (built : Result V Diagnostic) → kept.around ≡ Some x → ((U : TypeTree) → AreParts type_tree tree of Full w U source ty children kept.parts → IsReadAs tree of Full in_text w U source (node ty place (node_trees children)) built) → AreKeptWhereExpected type_tree tree of Full w expected source ty children kept → IsOfFlatPart of (type_tree x.now) built
-    part_around None kept x built is whole h = absurd (cc (sym h.1 ∙ is))
-    part_around (Some T) kept x built is whole h =
+    pub part_wrapped : (expected : Option TypeTree) (kept : Frame S V) (x : Bor S) (built : Result V Diagnostic) → kept.wrapper ≡ Some x → ((U : TypeTree) → AreParts type_tree tree of Full w U source ty children kept.parts → IsReadAs tree of Full in_text w U source (node ty place (node_trees children)) built) → AreKeptWhereExpected type_tree tree of Full w expected source ty children kept → IsOfFlatPart of (type_tree x.now) built
+    part_wrapped None kept x built is finished h = absurd (cc (sym h.1 ∙ is))
+    part_wrapped (Some T) kept x built is finished h =
         let held = subst (λ (o : Option (Bor S)). AreOfType type_tree tree of Full w T source ty children o kept) is h.0 in
-        (ty, held.1.0, subst (λ (W : TypeTree). IsFlatAt W ty held.1.0) (sym held.0) held.1.1, (whole held.1.0 held.1.2).typed)
+        (ty, held.1.0, subst (λ (W : TypeTree). IsFlatAt W ty held.1.0) (sym held.0) held.1.1, (finished held.1.0 held.1.2).typed)
 
     -- at a plain type it is refused without memory
     pub alone_spares : (expected : Option TypeTree) (n : NodeTree) (kept : Frame S V) (r : Result V Diagnostic) → ((T : TypeTree) → IsPlain T → IsSimpleAt type_tree T kept.parts → IfErr r (λ e. Says e InvalidType place None)) → AreKeptWhereExpected type_tree tree of Full w expected source ty children kept → SparesWhereExpected expected n r
-    alone_spares None n kept r whole h = tt
-    alone_spares (Some T) n kept r whole h = λ plain row. form_spares r place (whole T plain (h.1 plain))
+    alone_spares None n kept r finished h = tt
+    alone_spares (Some T) n kept r finished h = λ plain row. form_spares r place (finished T plain (h.1 plain))
 
-    -- and nothing is around it
-    pub around_spares : (expected : Option TypeTree) (n : NodeTree) (kept : Frame S V) (x : Bor S) (s : Result V Diagnostic) → kept.around ≡ Some x → AreKeptWhereExpected type_tree tree of Full w expected source ty children kept → SparesWhereExpected expected n s
-    around_spares None n kept x s is h = tt
-    around_spares (Some T) n kept x s is h = λ plain row.
+    -- and nothing wraps it
+    pub wrapped_spares : (expected : Option TypeTree) (n : NodeTree) (kept : Frame S V) (x : Bor S) (s : Result V Diagnostic) → kept.wrapper ≡ Some x → AreKeptWhereExpected type_tree tree of Full w expected source ty children kept → SparesWhereExpected expected n s
+    wrapped_spares None n kept x s is h = tt
+    wrapped_spares (Some T) n kept x s is h = λ plain row.
         let held = subst (λ (o : Option (Bor S)). AreOfType type_tree tree of Full w T source ty children o kept) is h.0 in
         absurd (none_flat T held.1.0 ty plain held.1.1)
 

@@ -16,7 +16,7 @@ use Rattle.wave_grammar.proofs.ByKind.Tuples.{as_shown, counted}
 use Rattle.wave_read.specs.Leaves.{IsSimpleOrUnreadable}
 use Rattle.wave_read.specs.PlainReading.{IsReadSparing}
 use Rattle.wave_read.specs.Faults.{IsOfKind, Reports}
-use Rattle.wave_read.specs.Flat.{IsAround, IsCounted, IsFlatAt, IsReadAt, ReadsFlags, ReadsNoRecord}
+use Rattle.wave_read.specs.Flat.{IsWrapper, IsCounted, IsFlatAt, IsReadAt, ReadsFlags, ReadsNoRecord}
 use Rattle.wave_read.specs.KeptParts.{AreKeptWhereExpected, AreOfType}
 use Rattle.wave_read.specs.Payloads.{result_node}
 use Rattle.wave_read.specs.TupleParts.{IsRow}
@@ -33,7 +33,7 @@ one_flat (type.option P) U W ty h k = h.0 ∙ sym k.0
 one_flat (type.result (type.a_type A) B) U W ty h k = h.0 ∙ sym k.0
 one_flat _ U W ty h k = absurd h
 
--- around a flat payload stands no record and no tuple
+-- no record and no tuple wraps a flat payload
 flat_record : (T U : TypeTree) (ty : NodeType) → IsFlatAt T ty U → kind_of T ≢ kinds.Record
 flat_record (type.option P) U ty h e = cc
 flat_record (type.result (type.a_type A) B) U ty h e = cc
@@ -54,20 +54,20 @@ flat_tuple T U ty Ts h e = flat_kind T U ty h (ap kind_of (sym e))
 
 module _ {S : Type 0} (type_tree : S → TypeTree) (T : TypeTree) (ty : NodeType) where
   -- the type at which the node is read is that of the parts
-  read_within : (around : Option (Bor S)) (x : Bor S) → IsAround type_tree T ty around x → IsReadAt T ty (type_tree x.now)
+  read_within : (wrapper : Option (Bor S)) (x : Bor S) → IsWrapper type_tree T ty wrapper x → IsReadAt T ty (type_tree x.now)
   read_within None x h = inl h.0
   read_within (Some whole) x h = inr h.1
 
   -- where they are of another kind no record is read
-  pub no_record : (around : Option (Bor S)) (x : Bor S) → IsAround type_tree T ty around x → kind_of (type_tree x.now) ≢ kinds.Record → ReadsNoRecord T ty
+  pub no_record : (wrapper : Option (Bor S)) (x : Bor S) → IsWrapper type_tree T ty wrapper x → kind_of (type_tree x.now) ≢ kinds.Record → ReadsNoRecord T ty
   no_record None x h other U (inl is) at_set e = other (ap kind_of h.0 ∙ (ap kind_of (sym is) ∙ e))
   no_record None x h other U (inr flat) at_set e = h.1 U flat
   no_record (Some whole) x h other U (inl is) at_set e = flat_record T (type_tree x.now) ty h.1 (ap kind_of (sym is) ∙ e)
   no_record (Some whole) x h other U (inr flat) at_set e = other (ap kind_of (one_flat T (type_tree x.now) U ty h.1 flat) ∙ e)
 
 -- where they are flags, flags are read
-pub reads_flags : {S : Type 0} (type_tree : S → TypeTree) (T : TypeTree) (around : Option (Bor S)) (x : Bor S) → IsAround type_tree T node_type.Flags around x → kind_of (type_tree x.now) ≡ kinds.Flags → ReadsFlags T
-reads_flags type_tree T around x h is = (type_tree x.now, read_within type_tree T node_type.Flags around x h, is)
+pub reads_flags : {S : Type 0} (type_tree : S → TypeTree) (T : TypeTree) (wrapper : Option (Bor S)) (x : Bor S) → IsWrapper type_tree T node_type.Flags wrapper x → kind_of (type_tree x.now) ≡ kinds.Flags → ReadsFlags T
+reads_flags type_tree T wrapper x h is = (type_tree x.now, read_within type_tree T node_type.Flags wrapper x h, is)
 
 -- ---- tuples
 
@@ -99,18 +99,18 @@ module _ {S V : Type 0} (type_tree : S → TypeTree) (tree : V → Value) (of : 
       rows r row ∙ (sym (as_shown type_tree r.types.items) ∙ (ap length types ∙ counted Ts))
   row_counted Ts U x count is rows (inr simple) = absurd (subst IsSimpleOrUnreadable (sym is) simple)
 
-  -- around a flat payload stands neither a row nor a simple type
-  none_around : (T U : TypeTree) (ty : NodeType) (x : Partial S V) → IsFlatAt T ty U → IsRowOrSimple T x → ⊥
-  none_around T U ty x flat (inl (r, row, h)) = flat_kind T U ty flat h.kind
-  none_around T U ty x flat (inr simple) = flat_simple T U ty flat simple
+  -- neither a row nor a simple type wraps a flat payload
+  none_wrapped : (T U : TypeTree) (ty : NodeType) (x : Partial S V) → IsFlatAt T ty U → IsRowOrSimple T x → ⊥
+  none_wrapped T U ty x flat (inl (r, row, h)) = flat_kind T U ty flat h.kind
+  none_wrapped T U ty x flat (inr simple) = flat_simple T U ty flat simple
 
   -- where the parts have no fault, and a row as many types as there are items, the tuple that is read has so many
-  pub counted_items : (T : TypeTree) (ty : NodeType) (x : Frame S V) (count : ℕ) → ((f : Fault) → x.parts ≡ parts.Faulty f → ⊥) → ((r : TupleItems S V) → x.parts ≡ parts.TupleItems r → count ≡ length r.types.items) → AreOfType type_tree tree of Full w T source ty [] x.around x → IsCounted T ty count
-  counted_items T ty x count faulty rows h Ts read is = by x.around h read
+  pub counted_items : (T : TypeTree) (ty : NodeType) (x : Frame S V) (count : ℕ) → ((f : Fault) → x.parts ≡ parts.Faulty f → ⊥) → ((r : TupleItems S V) → x.parts ≡ parts.TupleItems r → count ≡ length r.types.items) → AreOfType type_tree tree of Full w T source ty [] x.wrapper x → IsCounted T ty count
+  counted_items T ty x count faulty rows h Ts read is = by x.wrapper h read
     where
-      by : (around : Option (Bor S)) → AreOfType type_tree tree of Full w T source ty [] around x → IsReadAt T ty (type.tuple Ts) → count ≡ count_of Ts
+      by : (wrapper : Option (Bor S)) → AreOfType type_tree tree of Full w T source ty [] wrapper x → IsReadAt T ty (type.tuple Ts) → count ≡ count_of Ts
       by None h (inl same) = row_counted Ts T x.parts count same rows (of_tuple T ty x.parts faulty is h)
-      by None h (inr flat) = absurd (none_around T (type.tuple Ts) ty x.parts flat (of_tuple T ty x.parts faulty is h))
+      by None h (inr flat) = absurd (none_wrapped T (type.tuple Ts) ty x.parts flat (of_tuple T ty x.parts faulty is h))
       by (Some whole) h (inl same) = absurd (flat_tuple T h.1.0 ty Ts h.1.1 same)
       by (Some whole) h (inr flat) = row_counted Ts h.1.0 x.parts count (one_flat T (type.tuple Ts) h.1.0 ty flat h.1.1) rows (of_tuple h.1.0 ty x.parts faulty is h.1.2)
 

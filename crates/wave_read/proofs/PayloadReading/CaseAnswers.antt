@@ -145,8 +145,8 @@ module _ {S V : Type 0} (type_tree : S → TypeTree) (tree : V → Value) (of : 
       subst (λ (W : TypeTree). TypedVariant of W name (Some v)) (sym variant.is) (Some U, some_case variant.cases name (type.a_type U) found, read.1.typed names)
   read_typed T source (c ∷ n ∷ d ∷ more) case v is read distinct = absurd read
 
-  pub whole_typed : (T : TypeTree) (source : List ℕ) (children : List NodeTree) (x : CasePayload S V) (case : Bor (List ℕ) × Bor S) (v : V) → x.case ≡ Some case → x.payload ≡ Some v → AreCaseParts type_tree tree of Full w T source children x → HasDistinctNames (type_tree x.ty.now) → TypedVariant of (type_tree x.ty.now) case.0.now (Some v)
-  whole_typed T source children x case v named valued h =
+  pub finish_typed : (T : TypeTree) (source : List ℕ) (children : List NodeTree) (x : CasePayload S V) (case : Bor (List ℕ) × Bor S) (v : V) → x.case ≡ Some case → x.payload ≡ Some v → AreCaseParts type_tree tree of Full w T source children x → HasDistinctNames (type_tree x.ty.now) → TypedVariant of (type_tree x.ty.now) case.0.now (Some v)
+  finish_typed T source children x case v named valued h =
       let cased = subst (λ (o : Option (Bor (List ℕ) × Bor S)). IsCaseRead type_tree tree of Full w T source children o x.payload) named h.read in
       subst (λ (U : TypeTree). HasDistinctNames U → TypedVariant of U case.0.now (Some v)) h.ty
       (read_typed T source children case v h.kind (subst (IsCaseRead type_tree tree of Full w T source children (Some case)) valued cased))
@@ -174,8 +174,8 @@ module _ {S V : Type 0} (type_tree : S → TypeTree) (tree : V → Value) (of : 
   read_whole T source (c ∷ n ∷ d ∷ more) p case v m r is read ok full done = absurd read
 
   -- the variant was made, or its constructor refused
-  pub whole_built : (T : TypeTree) (source : List ℕ) (children : List NodeTree) (x : CasePayload S V) (p : Range ℕ) (case : Bor (List ℕ) × Bor S) (v : V) (m : Result V WasmValueError) (r : Result V Diagnostic) → x.case ≡ Some case → x.payload ≡ Some v → AreCaseParts type_tree tree of Full w T source children x → IfOk m (MakesVariant tree of (type_tree x.ty.now) case.0.now (Some v)) → IfErr m (FullVariant of Full (type_tree x.ty.now) case.0.now (Some v)) → IsBuiltOrMemory (node kind.VariantWithPayload p (node_trees children)) m r → IsReadAs tree of Full o w T source (node kind.VariantWithPayload p (node_trees children)) r
-  whole_built T source children x p case v m r named valued h ok full done =
+  pub finish_built : (T : TypeTree) (source : List ℕ) (children : List NodeTree) (x : CasePayload S V) (p : Range ℕ) (case : Bor (List ℕ) × Bor S) (v : V) (m : Result V WasmValueError) (r : Result V Diagnostic) → x.case ≡ Some case → x.payload ≡ Some v → AreCaseParts type_tree tree of Full w T source children x → IfOk m (MakesVariant tree of (type_tree x.ty.now) case.0.now (Some v)) → IfErr m (FullVariant of Full (type_tree x.ty.now) case.0.now (Some v)) → IsBuiltOrMemory (node kind.VariantWithPayload p (node_trees children)) m r → IsReadAs tree of Full o w T source (node kind.VariantWithPayload p (node_trees children)) r
+  finish_built T source children x p case v m r named valued h ok full done =
       let cased = subst (λ (o : Option (Bor (List ℕ) × Bor S)). IsCaseRead type_tree tree of Full w T source children o x.payload) named h.read in
       read_whole T source children p case v m r h.kind (subst (IsCaseRead type_tree tree of Full w T source children (Some case)) valued cased)
       (subst (λ (U : TypeTree). IfOk m (MakesVariant tree of U case.0.now (Some v))) (sym h.ty) ok) (subst (λ (U : TypeTree). IfErr m (FullVariant of Full U case.0.now (Some v))) (sym h.ty) full) done

@@ -1,4 +1,4 @@
--- Values that stand for an option or a result of themselves, around what was read.
+-- Values that stand for an option or a result of themselves, which wraps what was read.
 use Rattle.std.proofs.Common.{ℕ, ◌≡◌, ◌≢◌, ◌++◌, inl, List, [], Option, Some, None, Bor, Result, Ok, Err, IfOk, IfErr, refl, sym, subst}
 use Rattle.wave_grammar.specs.FaultOrder.{Order}
 use Rattle.wave_wasm.specs.Types as type
@@ -18,7 +18,7 @@ use Rattle.wave_grammar.proofs.ByKind.Results.{result_flat_built, result_flat_bl
 use Rattle.wave_grammar.proofs.ErrorSpans.Nodes.{built_in}
 use Rattle.wave_read.specs.PlainReading.{IsPlain}
 use Rattle.wave_read.specs.Reading.{IsReadAs}
-use Rattle.wave_read.specs.Flat.{IsFlatAt, IsAround}
+use Rattle.wave_read.specs.Flat.{IsFlatAt, IsWrapper}
 use Rattle.wave_read.specs.KeptParts.{AreOfType}
 use Rattle.wave_read.specs.PartsOfKinds.{AreRefusedAtOnce, AreParts, IsSimpleAt}
 use Rattle.wave_read.specs.declared.parts.Partial.{Partial}
@@ -44,23 +44,23 @@ module _ {V : Type 0} (tree : V → Value) (of : V → TypeTree → Type 0) (Ful
       record { answer = λ t is distinct. result_flat_blame tree of Full o w (type.result (type.a_type A) B) A B source n t (other_form n) e refl is.0 (h.2, h.3, is_other n) h.1 parts (inner.answer t is distinct.0); within = inner.within; typed = tt }
   flat_refused _ U source n e parts h read = absurd h
 
-  -- an option around a value of the payload's type
-  pub option_around : (T U : TypeTree) (source : List ℕ) (n : NodeTree) (v : V) (m : Result V WasmValueError) (r : Result V Diagnostic) → kind_of T ≡ kinds.Option → IsFlatAt T (type_of n) U → IsReadAs tree of Full o w U source n (Ok v) → IfOk m (MakesOption tree of T (Some v)) → IfErr m (FullOption of Full T (Some v)) → IsBuiltOrMemory n m r → IsReadAs tree of Full o w T source n r
-  option_around (type.option P) U source n v m r kind h read makes full done =
+  -- an option that wraps a value of the payload's type
+  pub option_wrapped : (T U : TypeTree) (source : List ℕ) (n : NodeTree) (v : V) (m : Result V WasmValueError) (r : Result V Diagnostic) → kind_of T ≡ kinds.Option → IsFlatAt T (type_of n) U → IsReadAs tree of Full o w U source n (Ok v) → IfOk m (MakesOption tree of T (Some v)) → IfErr m (FullOption of Full T (Some v)) → IsBuiltOrMemory n m r → IsReadAs tree of Full o w T source n r
+  option_wrapped (type.option P) U source n v m r kind h read makes full done =
       built_anew (MakesOption tree of (type.option P) (Some v)) (FullOption of Full (type.option P) (Some v)) (n) m r (λ a f P is of. tt) makes full done (λ m makes full done.
       let inner : IsReadAs tree of Full o w P source n (Ok v) = subst (λ (W : TypeTree). IsReadAs tree of Full o w W source n (Ok v)) h.0 read in
       record { answer = λ t is distinct. flat_built tree of Full o w (type.option P) P t n v m r refl distinct h.1 (inner.answer t is distinct) makes full done; within = λ value. built_in source n m r (inl value) done; typed = built_of of (type.option P) (MakesOption tree of (type.option P) (Some v)) n m r (λ x makes distinct. (makes distinct).is_of) makes done })
-  option_around (type.result A B) U source n v m r kind h read makes full done = absurd (cc kind)
-  option_around _ U source n v m r kind h read makes full done = absurd h
+  option_wrapped (type.result A B) U source n v m r kind h read makes full done = absurd (cc kind)
+  option_wrapped _ U source n v m r kind h read makes full done = absurd h
 
-  -- a result around one
-  pub result_around : (T U : TypeTree) (source : List ℕ) (n : NodeTree) (v : V) (m : Result V WasmValueError) (r : Result V Diagnostic) → kind_of T ≢ kinds.Option → IsFlatAt T (type_of n) U → IsReadAs tree of Full o w U source n (Ok v) → IfOk m (MakesResult tree of T (Ok (Some v))) → IfErr m (FullResult of Full T (Ok (Some v))) → IsBuiltOrMemory n m r → IsReadAs tree of Full o w T source n r
-  result_around (type.result (type.a_type A) B) U source n v m r kind h read makes full done =
+  -- a result that wraps one
+  pub result_wrapped : (T U : TypeTree) (source : List ℕ) (n : NodeTree) (v : V) (m : Result V WasmValueError) (r : Result V Diagnostic) → kind_of T ≢ kinds.Option → IsFlatAt T (type_of n) U → IsReadAs tree of Full o w U source n (Ok v) → IfOk m (MakesResult tree of T (Ok (Some v))) → IfErr m (FullResult of Full T (Ok (Some v))) → IsBuiltOrMemory n m r → IsReadAs tree of Full o w T source n r
+  result_wrapped (type.result (type.a_type A) B) U source n v m r kind h read makes full done =
       built_anew (MakesResult tree of (type.result (type.a_type A) B) (Ok (Some v))) (FullResult of Full (type.result (type.a_type A) B) (Ok (Some v))) (n) m r (λ a f A B is of. tt) makes full done (λ m makes full done.
       let inner : IsReadAs tree of Full o w A source n (Ok v) = subst (λ (W : TypeTree). IsReadAs tree of Full o w W source n (Ok v)) h.0 read in
       record { answer = λ t is distinct. result_flat_built tree of Full o w (type.result (type.a_type A) B) A B t n v m r refl distinct h.1 (inner.answer t is distinct.0) makes full done; within = λ value. built_in source n m r (inl value) done; typed = built_of of (type.result (type.a_type A) B) (MakesResult tree of (type.result (type.a_type A) B) (Ok (Some v))) n m r (λ x makes distinct. (makes distinct).is_of) makes done })
-  result_around (type.option P) U source n v m r kind h read makes full done = absurd (kind refl)
-  result_around _ U source n v m r kind h read makes full done = absurd h
+  result_wrapped (type.option P) U source n v m r kind h read makes full done = absurd (kind refl)
+  result_wrapped _ U source n v m r kind h read makes full done = absurd h
 
 -- an option whose flat payload is of its type has it
 pub option_typed : {V : Type 0} (of : V → TypeTree → Type 0) (T U : TypeTree) (ty : NodeType) (v : V) → kind_of T ≡ kinds.Option → IsFlatAt T ty U → (HasDistinctNames U → of v U) → HasDistinctNames T → TypedOption of T (Some v)
@@ -92,24 +92,24 @@ none_flat _ U ty plain h = absurd plain
 
 module _ {S : Type 0} (type_tree : S → TypeTree) (T : TypeTree) (ty : NodeType) where
   -- the type whose parts are read is no option or result of a flat payload
-  pub none_flat_within : (around : Option (Bor S)) (x : Bor S) → IsAround type_tree T ty around x → (U : TypeTree) → IsFlatAt (type_tree x.now) ty U → ⊥
+  pub none_flat_within : (wrapper : Option (Bor S)) (x : Bor S) → IsWrapper type_tree T ty wrapper x → (U : TypeTree) → IsFlatAt (type_tree x.now) ty U → ⊥
   none_flat_within None x h U flat = h.1 U (subst (λ (W : TypeTree). IsFlatAt W ty U) h.0 flat)
   none_flat_within (Some whole) x h U flat = none_in_flat (type_tree x.now) U ty (payload_flat T (type_tree x.now) ty h.1) flat
 
   -- no parts of that type are no parts of the whole
-  pub begun_around : {V : Type 0} (tree : V → Value) (of : V → TypeTree → Type 0) (Full : TypeTree → Type 0) (w : Order) (source : List ℕ) (around : Option (Bor S)) (x : Bor S) (kept : Frame S V) → IsAround type_tree T ty around x → AreParts type_tree tree of Full w (type_tree x.now) source ty [] kept.parts → AreOfType type_tree tree of Full w T source ty [] around kept
-  begun_around tree of Full w source None x kept h parts = subst (λ (W : TypeTree). AreParts type_tree tree of Full w W source ty [] kept.parts) h.0 parts
-  begun_around tree of Full w source (Some whole) x kept h parts = (h.0, (type_tree x.now, h.1, parts))
+  pub begun_wrapped : {V : Type 0} (tree : V → Value) (of : V → TypeTree → Type 0) (Full : TypeTree → Type 0) (w : Order) (source : List ℕ) (wrapper : Option (Bor S)) (x : Bor S) (kept : Frame S V) → IsWrapper type_tree T ty wrapper x → AreParts type_tree tree of Full w (type_tree x.now) source ty [] kept.parts → AreOfType type_tree tree of Full w T source ty [] wrapper kept
+  begun_wrapped tree of Full w source None x kept h parts = subst (λ (W : TypeTree). AreParts type_tree tree of Full w W source ty [] kept.parts) h.0 parts
+  begun_wrapped tree of Full w source (Some whole) x kept h parts = (h.0, (type_tree x.now, h.1, parts))
 
   -- where parts of that type have a fault at once, so have those of the whole
-  pub rejected_around : {V : Type 0} (tree : V → Value) (of : V → TypeTree → Type 0) (Full : TypeTree → Type 0) (around : Option (Bor S)) (x : Bor S) (begun : Partial S V) → HasFullParts Full → IsAround type_tree T ty around x → AreRefusedAtOnce type_tree tree of Full (type_tree x.now) ty begun → AreRefusedAtOnce type_tree tree of Full T ty begun
-  rejected_around tree of Full None x begun full h rejected = subst (λ (W : TypeTree). AreRefusedAtOnce type_tree tree of Full W ty begun) h.0 rejected
-  rejected_around tree of Full (Some whole) x begun full h rejected = λ f is. (
+  pub rejected_wrapped : {V : Type 0} (tree : V → Value) (of : V → TypeTree → Type 0) (Full : TypeTree → Type 0) (wrapper : Option (Bor S)) (x : Bor S) (begun : Partial S V) → HasFullParts Full → IsWrapper type_tree T ty wrapper x → AreRefusedAtOnce type_tree tree of Full (type_tree x.now) ty begun → AreRefusedAtOnce type_tree tree of Full T ty begun
+  rejected_wrapped tree of Full None x begun full h rejected = subst (λ (W : TypeTree). AreRefusedAtOnce type_tree tree of Full W ty begun) h.0 rejected
+  rejected_wrapped tree of Full (Some whole) x begun full h rejected = λ f is. (
     (rejected f is).0,
     λ o w source of_parts more p e tells. flat_refused tree of Full o w T (type_tree x.now) source (node ty p (node_trees ([] ++ more))) e full h.1 ((rejected f is).1 o w source of_parts more p e tells),
   )
 
   -- of a plain type nothing is kept
-  pub plain_begun : {V : Type 0} (around : Option (Bor S)) (x : Bor S) (begun : Partial S V) → IsAround type_tree T ty around x → (IsPlain (type_tree x.now) → IsSimpleAt type_tree (type_tree x.now) begun) → IsPlain T → IsSimpleAt type_tree T begun
+  pub plain_begun : {V : Type 0} (wrapper : Option (Bor S)) (x : Bor S) (begun : Partial S V) → IsWrapper type_tree T ty wrapper x → (IsPlain (type_tree x.now) → IsSimpleAt type_tree (type_tree x.now) begun) → IsPlain T → IsSimpleAt type_tree T begun
   plain_begun None x begun h simple plain = subst (λ (W : TypeTree). IsSimpleAt type_tree W begun) h.0 (simple (subst IsPlain (sym h.0) plain))
   plain_begun (Some whole) x begun h simple plain = absurd (none_flat T (type_tree x.now) ty plain h.1)

@@ -44,7 +44,7 @@ module _ {S V X : Type 0} (Are : PartsFact S V X) (type_tree : S → TypeTree) (
       → HasOneMore w ty T source children n new found
 
   -- this is read of all of the parts, where the value stands there
-  abbrev pub IsWholeOf : NodeType → X → Range ℕ → Result V Diagnostic → Type 0
-  IsWholeOf ty x p r =
+  abbrev pub FinishesAs : NodeType → X → Range ℕ → Result V Diagnostic → Type 0
+  FinishesAs ty x p r =
       (w : Order) (T : TypeTree) (source : List ℕ) (children : List NodeTree) → Are type_tree tree of Full w T source children x
       → IsReadAs tree of Full in_text w T source (node ty p (node_trees children)) r

@@ -16,7 +16,7 @@ use Rattle.wave_grammar.specs.ErrorSpans.{RefusesIn, RefusesAt, RefusesInPart}
 use Rattle.wave_grammar.specs.NodeTree.{NodeTree, type_of, place_of}
 use Rattle.wave_grammar.specs.declared.form.NodeType.{NodeType}
 use Rattle.wave_grammar.specs.declared.form.NodeType.TheVariants as kind
-use Rattle.wave_read.specs.Flat.{IsAround, IsAroundWhereExpected}
+use Rattle.wave_read.specs.Flat.{IsWrapper, IsWrapperWhereExpected}
 use Rattle.wave_grammar.specs.NodeAccessors.{RefusedAs}
 use Rattle.wave_grammar.specs.PartReading.{IsCaused}
 use Rattle.wave_read.specs.Reading.{IsReadAs, IsReadWhereExpected}
@@ -28,9 +28,9 @@ module _ {V S : Type 0} (tree : V → Value) (of : V → TypeTree → Type 0) (F
   expected_read source n expected ty r e h = subst (λ (d : Option (Bor S)). IsReadWhereExpected tree of Full o w (shown type_tree d) source n r) e h
 
   -- that of a record, where one is expected at entries
-  pub record_read : (source : List ℕ) (n : NodeTree) (expected : Option TypeTree) (around : Option (Bor S)) (x : Bor S) (r : Result V Diagnostic) → type_of n ≡ kind.TupleSet → IsAroundWhereExpected type_tree expected kind.TupleSet around x → ((T : TypeTree) → IsAround type_tree T (type_of n) around x → IsReadAs tree of Full o w T source n r) → IsReadWhereExpected tree of Full o w expected source n r
-  record_read source n None around x r set is read = tt
-  record_read source n (Some T) around x r set is read = read T (subst (λ (ty : NodeType). IsAround type_tree T ty around x) (sym set) is)
+  pub record_read : (source : List ℕ) (n : NodeTree) (expected : Option TypeTree) (wrapper : Option (Bor S)) (x : Bor S) (r : Result V Diagnostic) → type_of n ≡ kind.TupleSet → IsWrapperWhereExpected type_tree expected kind.TupleSet wrapper x → ((T : TypeTree) → IsWrapper type_tree T (type_of n) wrapper x → IsReadAs tree of Full o w T source n r) → IsReadWhereExpected tree of Full o w expected source n r
+  record_read source n None wrapper x r set is read = tt
+  record_read source n (Some T) wrapper x r set is read = read T (subst (λ (ty : NodeType). IsWrapper type_tree T ty wrapper x) (sym set) is)
 
 -- what follows from what holds of a value that is there, and from what holds where none is
 pub where_some : {A : Type 0} (P Q : A → Type 0) (o : Option A) → ((x : A) → P x → Q x) → IfSome o P → IfSome o Q

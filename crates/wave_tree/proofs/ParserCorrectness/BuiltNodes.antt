@@ -35,10 +35,10 @@ abbrev pub as_ok : NodeTree → Result NodeTree (Unit {0})
 as_ok n = Ok n
 
 -- what is made of a node of these children
-pub whole_node_built : {M Q : Type 0} (Of : List ℕ → NodeTree → M → Type 0) (Are : List ℕ → List NodeTree → Q → Type 0) (p q : Place) (ty : NodeType) (start : ℕ) (built : M) (parts : Q) (children : List NodeTree) (B : NodeTree → Type 0) →
+pub finish_node_built : {M Q : Type 0} (Of : List ℕ → NodeTree → M → Type 0) (Are : List ℕ → List NodeTree → Q → Type 0) (p q : Place) (ty : NodeType) (start : ℕ) (built : M) (parts : Q) (children : List NodeTree) (B : NodeTree → Type 0) →
     q.lexer.source ≡ p.lexer.source → Are p.lexer.source children parts → ((cs : List NodeTree) → Are q.lexer.source cs parts → Of q.lexer.source (node ty (span start q.lexer.end) (node_trees cs)) built) →
     B (node ty (span start q.lexer.end) (node_trees children)) → IsNodeBuilt Of p B built
-whole_node_built Of Are p q ty start built parts children B e are of b =
+finish_node_built Of Are p q ty start built parts children B e are of b =
     let n = node ty (span start q.lexer.end) (node_trees children) in
     (n, b, subst (λ (s : List ℕ). Of s n built) e (of children (subst (λ (s : List ℕ). Are s children parts) (sym e) are)))
 
@@ -59,9 +59,9 @@ as_added (Ok built) a f = f a
 as_added (Err e) a f = tt
 
 -- what is made of a node that has no parts
-pub none_node_built : {M : Type 0} (Of : List ℕ → NodeTree → M → Type 0) (p q : Place) (ty : NodeType) (start : ℕ) (built : M) (B : NodeTree → Type 0) →
+pub finish_empty_built : {M : Type 0} (Of : List ℕ → NodeTree → M → Type 0) (p q : Place) (ty : NodeType) (start : ℕ) (built : M) (B : NodeTree → Type 0) →
     q.lexer.source ≡ p.lexer.source → Of q.lexer.source (node ty (span start q.lexer.end) no_nodes) built → B (node ty (span start q.lexer.end) no_nodes) → IsNodeBuilt Of p B built
-none_node_built Of p q ty start built B e of b = let n = node ty (span start q.lexer.end) no_nodes in (n, b, subst (λ (s : List ℕ). Of s n built) e of)
+finish_empty_built Of p q ty start built B e of b = let n = node ty (span start q.lexer.end) no_nodes in (n, b, subst (λ (s : List ℕ). Of s n built) e of)
 
 -- a key, which was taken last, and a value after its colon were added to the parts
 pub entry_added : {Q : Type 0} (Are : List ℕ → List NodeTree → Q → Type 0) (levels : ℕ) (p0 p b m : Place) (ty : NodeType) (children : List NodeTree) (old keyed new : Q) →

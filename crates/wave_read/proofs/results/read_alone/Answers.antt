@@ -6,10 +6,10 @@ use Rattle.wave_read.specs.Reading.{IsReadAs}
 use Rattle.wave_read.specs.Payloads.{result_node}
 use Rattle.wave_read.proofs.results.read_alone.Goals as goal
 
-pub whole-requires : goal.whole-requires
-whole-requires g c = (in_text, g.V.Type.WasmType.tree c.args.ty.now, [], [], c.new-payload.ensures.parts in_text [])
+pub finish-requires : goal.finish-requires
+finish-requires g c = (in_text, g.V.Type.WasmType.tree c.args.ty.now, [], [], c.new-payload.ensures.parts in_text [])
 
 pub returns : goal.returns
 returns g c = λ o w source.
-    subst (λ (ty : NodeType). IsReadAs g.V.WasmValue.tree g.V.WasmValue.is_of g.V.WasmValue.is_full o w (g.V.Type.WasmType.tree c.args.ty.now) source (node ty c.args.leaf.now.span no_nodes) c.whole.result) (ap result_node c.new-payload.ensures.case ∙ sym c.requires.form)
-    (c.whole.ensures o w (g.V.Type.WasmType.tree c.args.ty.now) source [] (c.new-payload.ensures.parts w source))
+    subst (λ (ty : NodeType). IsReadAs g.V.WasmValue.tree g.V.WasmValue.is_of g.V.WasmValue.is_full o w (g.V.Type.WasmType.tree c.args.ty.now) source (node ty c.args.leaf.now.span no_nodes) c.finish.result) (ap result_node c.new-payload.ensures.case ∙ sym c.requires.form)
+    (c.finish.ensures o w (g.V.Type.WasmType.tree c.args.ty.now) source [] (c.new-payload.ensures.parts w source))

@@ -14,12 +14,12 @@ pub returns-clause-kept : goal.returns-clause-kept
 returns-clause-kept g c =
     let same = rw c.if-branch.false at c.in_ok-push_fast.ensures.grown in
     where_ok _ _ c.push_token.result (λ done step. λ w expected source whole children here takes kept. step w expected source whole children here takes
-    (subst (λ p. AreKeptWhereExpected g.V.Type.WasmType.tree g.V.WasmValue.tree g.V.WasmValue.is_of g.V.WasmValue.is_full w expected source whole children (record { around = c.args.self.now.around; parts = p })) (sym same) kept))
+    (subst (λ p. AreKeptWhereExpected g.V.Type.WasmType.tree g.V.WasmValue.tree g.V.WasmValue.is_of g.V.WasmValue.is_full w expected source whole children (record { wrapper = c.args.self.now.wrapper; parts = p })) (sym same) kept))
     c.push_token.ensures.kept
 
 pub returns-clause-memory : goal.returns-clause-memory
 returns-clause-memory g c =
     let same = rw c.if-branch.false at c.in_ok-push_fast.ensures.grown in
     where_err _ _ c.push_token.result (λ error wants. λ w expected source whole children kept. wants w expected source whole children
-    (subst (λ p. AreKeptWhereExpected g.V.Type.WasmType.tree g.V.WasmValue.tree g.V.WasmValue.is_of g.V.WasmValue.is_full w expected source whole children (record { around = c.args.self.now.around; parts = p })) (sym same) kept))
+    (subst (λ p. AreKeptWhereExpected g.V.Type.WasmType.tree g.V.WasmValue.tree g.V.WasmValue.is_of g.V.WasmValue.is_full w expected source whole children (record { wrapper = c.args.self.now.wrapper; parts = p })) (sym same) kept))
     c.push_token.ensures.memory

@@ -43,7 +43,7 @@ use Rattle.wave_read.proofs.ReadErrors.HandedOn.{built_in, no_memory, same_or_me
 pub make-returns-in-Some : goal.make-returns-in-Some
 make-returns-in-Some g t c =
     let set : type_of c.args.self.now ≡ kind.TupleSet = sym c.ty.ensures ∙ c.in-Some.ensures.node in (
-      record_read g.V.WasmValue.tree g.V.WasmValue.is_of g.V.WasmValue.is_full by_type by_type g.V.Type.WasmType.tree c.args.src.now c.args.self.now (shown g.V.Type.WasmType.tree c.args.builder.expected) c.in-Some.around c.in-Some.ty c.wrapped.result set c.in-Some.ensures.around
+      record_read g.V.WasmValue.tree g.V.WasmValue.is_of g.V.WasmValue.is_full by_type by_type g.V.Type.WasmType.tree c.args.src.now c.args.self.now (shown g.V.Type.WasmType.tree c.args.builder.expected) c.in-Some.wrapper c.in-Some.ty c.wrapped.result set c.in-Some.ensures.wrapper
           (λ T is. c.wrapped.ensures by_type by_type T c.args.src.now c.args.self.now is (sym c.span.ensures) c.read_record-built.ensures),
       no_row_spares (shown g.V.Type.WasmType.tree c.args.builder.expected) c.args.self.now c.wrapped.result (set_no_row (type_of c.args.self.now) set),
     )
@@ -51,7 +51,7 @@ make-returns-in-Some g t c =
 pub make-wrapped-requires : goal.make-wrapped-requires
 make-wrapped-requires g t c =
     let set : type_of c.args.self.now ≡ kind.TupleSet = sym c.ty.ensures ∙ c.in-Some.ensures.node in
-    expected_within g.V.Type.WasmType.tree g.V.WasmValue.is_of kind.TupleSet c.read_record-built.result (shown g.V.Type.WasmType.tree c.args.builder.expected) c.in-Some.around c.in-Some.ty c.in-Some.ensures.around c.read_record-built.ensures.typed
+    expected_within g.V.Type.WasmType.tree g.V.WasmValue.is_of kind.TupleSet c.read_record-built.result (shown g.V.Type.WasmType.tree c.args.builder.expected) c.in-Some.wrapper c.in-Some.ty c.in-Some.ensures.wrapper c.read_record-built.ensures.typed
 
 pub read-returns-in-Ok : goal.read-returns-in-Ok
 read-returns-in-Ok g t c =
@@ -237,8 +237,8 @@ make_of_parts-loop-i-preserved g t c =
           (w.in_ok-push_part.ensures.kept by_type (shown g.V.Type.WasmType.tree c.args.builder.expected) c.args.src.now (type_of c.args.self.now) (take c.loop-i.i (children_of c.args.self.now)) c.index-nodes-i.result next c.loop-i.invariant built))
     ]
 
-pub make_of_parts-whole-requires : goal.make_of_parts-whole-requires
-make_of_parts-whole-requires g t c = (by_type, shown g.V.Type.WasmType.tree c.args.builder.expected, c.args.src.now, type_of c.args.self.now, take c.loop-i.i (children_of c.args.self.now), c.loop-i.invariant)
+pub make_of_parts-finish-requires : goal.make_of_parts-finish-requires
+make_of_parts-finish-requires g t c = (by_type, shown g.V.Type.WasmType.tree c.args.builder.expected, c.args.src.now, type_of c.args.self.now, take c.loop-i.i (children_of c.args.self.now), c.loop-i.invariant)
 
 pub make_of_parts-returns : goal.make_of_parts-returns
 make_of_parts-returns g t c =
@@ -247,9 +247,9 @@ make_of_parts-returns g t c =
     let no_record : (T : TypeTree) → shown g.V.Type.WasmType.tree c.args.builder.expected ≡ Some T → ReadsNoRecord T (type_of c.args.self.now) = assumption in
     let ended : length (children_of c.args.self.now) ≤ c.loop-i.i = subst (λ (l : List NodeTree). length l ≤ c.loop-i.i) c.nodes-nodes.ensures c.loop-i-test.false in
     let all = subst (λ (l : List NodeTree). AreKeptWhereExpected g.V.Type.WasmType.tree g.V.WasmValue.tree g.V.WasmValue.is_of g.V.WasmValue.is_full by_type (shown g.V.Type.WasmType.tree c.args.builder.expected) c.args.src.now (type_of c.args.self.now) l c.loop-i.parts) (take_all c.loop-i.i (children_of c.args.self.now) ended) c.loop-i.invariant in
-    let read = subst (λ (n : NodeTree). IsReadSparing g.V.WasmValue.tree g.V.WasmValue.is_of g.V.WasmValue.is_full in_text by_type (shown g.V.Type.WasmType.tree c.args.builder.expected) c.args.src.now n c.whole.result) (whole_at c.args.self.now (type_of c.args.self.now) c.span.result refl c.span.ensures)
-    (c.whole.ensures by_type (shown g.V.Type.WasmType.tree c.args.builder.expected) c.args.src.now (type_of c.args.self.now) (children_of c.args.self.now) all) in
-    read_by_type g.V.WasmValue.tree g.V.WasmValue.is_of g.V.WasmValue.is_full by_type (shown g.V.Type.WasmType.tree c.args.builder.expected) c.args.src.now c.args.self.now c.whole.result no_record
+    let read = subst (λ (n : NodeTree). IsReadSparing g.V.WasmValue.tree g.V.WasmValue.is_of g.V.WasmValue.is_full in_text by_type (shown g.V.Type.WasmType.tree c.args.builder.expected) c.args.src.now n c.finish.result) (whole_at c.args.self.now (type_of c.args.self.now) c.span.result refl c.span.ensures)
+    (c.finish.ensures by_type (shown g.V.Type.WasmType.tree c.args.builder.expected) c.args.src.now (type_of c.args.self.now) (children_of c.args.self.now) all) in
+    read_by_type g.V.WasmValue.tree g.V.WasmValue.is_of g.V.WasmValue.is_full by_type (shown g.V.Type.WasmType.tree c.args.builder.expected) c.args.src.now c.args.self.now c.finish.result no_record
     (λ T expected.
     let begun = subst (λ (o : Option TypeTree). AreKeptWhereExpected g.V.Type.WasmType.tree g.V.WasmValue.tree g.V.WasmValue.is_of g.V.WasmValue.is_full by_type o c.args.src.now c.ty-ty.result [] c.begin-parts.result) expected (c.begin-parts.ensures.begun by_type c.args.src.now parts) in
     c.in_default.ensures.counted by_type T c.args.src.now form (subst (λ (k : NodeType). AreKeptWhereExpected g.V.Type.WasmType.tree g.V.WasmValue.tree g.V.WasmValue.is_of g.V.WasmValue.is_full by_type (Some T) c.args.src.now k [] c.begin-parts.result) c.ty-ty.ensures begun)

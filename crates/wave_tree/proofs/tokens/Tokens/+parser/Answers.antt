@@ -24,7 +24,7 @@ use Rattle.wave_tree.specs.Private.ParserState.{OnlyOutOfMemory}
 use Rattle.wave_tree.proofs.ParserCorrectness.AloneTokens.{alone_parsed, alone_led, label_behind, nothing_begins}
 use Rattle.wave_tree.proofs.ParserCorrectness.OutOfMemory.{wants_token, whatever_parts, wants_any, wants_refused, wants_reached, wants_less, answer_token, answer_brace, wants_other, wants_fails, wants_taken}
 use Rattle.wave_tree.proofs.ParserCorrectness.PartsExpected.{key_next, value_next, payload_expected, payload_parts}
-use Rattle.wave_tree.proofs.ParserCorrectness.BuiltNodes.{as_added, part_added, entry_added, built_node, whole_node_built, none_node_built, as_ok, never_built, source_item, source_parsed, source_reached}
+use Rattle.wave_tree.proofs.ParserCorrectness.BuiltNodes.{as_added, part_added, entry_added, built_node, finish_node_built, finish_empty_built, as_ok, never_built, source_item, source_parsed, source_reached}
 use Rattle.wave_grammar.specs.NodeParts.{IsOfParts, TakesPart}
 use Rattle.wave_tree.proofs.ParserCorrectness.NumbersInTurn.{asks_in_items, behind_item, numbers_less, still_in_items}
 use Rattle.wave_tree.proofs.ParserCorrectness.ClassTests.{is_class, is_other, differs, differs_not}
@@ -290,7 +290,7 @@ parse_items-returns-then-eq-3-clause-tree g t c =
     let (n, is, grown) = part_added (λ (s : List ℕ) cs ps. g.P.Builder.are_parts c.args.builder s c.if-eq-2.ty cs ps) c.push_numbers.new.parts c.parse_part_after_token.new.parts children (IsParsed c.args.levels at c.parse_part_after_token.new.self.place) here (c.in_default-parse_part_after_token.ensures.kept at there c.if-eq-2.ty children part_expected) first in
     let behind : c.parse_part_after_token.new.self.place.lexer.source ≡ c.args.self.now.place.lexer.source = source_parsed c.args.levels at c.parse_part_after_token.new.self.place n is ∙ here in
     let marked : c.take-item.new.self.place.lexer.source ≡ c.args.self.now.place.lexer.source = source_item c.parse_part_after_token.new.self.place c.take-item.new.self.place c.in-Token.mark c.in-Token.ensures.takes ∙ behind in
-    whole_node_built (g.P.Builder.is_built c.args.builder) (λ (s : List ℕ) cs ps. g.P.Builder.are_parts c.args.builder s c.if-eq-2.ty cs ps) c.args.self.now.place c.take-item.new.self.place c.if-eq-2.ty c.span-start.result.start c.whole.result c.parse_part_after_token.new.parts (children ++ n ∷ []) (IsOfItems c.args.levels c.args.close c.args.self.now.place c.take-item.new.self.place) marked grown c.whole.ensures
+    finish_node_built (g.P.Builder.is_built c.args.builder) (λ (s : List ℕ) cs ps. g.P.Builder.are_parts c.args.builder s c.if-eq-2.ty cs ps) c.args.self.now.place c.take-item.new.self.place c.if-eq-2.ty c.span-start.result.start c.finish_node.result c.parse_part_after_token.new.parts (children ++ n ∷ []) (IsOfItems c.args.levels c.args.close c.args.self.now.place c.take-item.new.self.place) marked grown c.finish_node.ensures
     (items_built c.args.levels c.args.close c.args.self.now.place c.take-item.new.self.place c.if-eq-2.ty c.span-start.result.start (children ++ n ∷ []) _ refl (elim c.if-eq-2.branch [
       | parse_items-then-eq-2 w ↦ w.ty-is ∙ sym (ap items_type (is_class c.args.close ParenClose c.eq-2.ensures w.if-eq-2.true))
       | parse_items-else-eq-2 w ↦ w.ty-is ∙ sym (type_of_items c.args.close c.requires (is_other _ _ c.eq-2.ensures w.if-eq-2.false))
@@ -306,7 +306,7 @@ parse_items-returns-then-eq-4-clause-tree g t c =
     let behind : c.parse_part_after_token.new.self.place.lexer.source ≡ c.args.self.now.place.lexer.source = source_parsed c.args.levels at c.parse_part_after_token.new.self.place n is ∙ here in
     let marked : c.take-item.new.self.place.lexer.source ≡ c.args.self.now.place.lexer.source = source_item c.parse_part_after_token.new.self.place c.take-item.new.self.place c.in-Token.mark c.in-Token.ensures.takes ∙ behind in
     let close : c.take-item-in-items.new.self.place.lexer.source ≡ c.args.self.now.place.lexer.source = source_item c.take-item.new.self.place c.take-item-in-items.new.self.place c.in-Token-item.next c.in-Token-item.ensures.takes ∙ marked in
-    whole_node_built (g.P.Builder.is_built c.args.builder) (λ (s : List ℕ) cs ps. g.P.Builder.are_parts c.args.builder s c.if-eq-2.ty cs ps) c.args.self.now.place c.take-item-in-items.new.self.place c.if-eq-2.ty c.span-start.result.start c.whole-then-eq-4.result c.parse_part_after_token.new.parts (children ++ n ∷ []) (IsOfItems c.args.levels c.args.close c.args.self.now.place c.take-item-in-items.new.self.place) close grown c.whole-then-eq-4.ensures
+    finish_node_built (g.P.Builder.is_built c.args.builder) (λ (s : List ℕ) cs ps. g.P.Builder.are_parts c.args.builder s c.if-eq-2.ty cs ps) c.args.self.now.place c.take-item-in-items.new.self.place c.if-eq-2.ty c.span-start.result.start c.finish_node-then-eq-4.result c.parse_part_after_token.new.parts (children ++ n ∷ []) (IsOfItems c.args.levels c.args.close c.args.self.now.place c.take-item-in-items.new.self.place) close grown c.finish_node-then-eq-4.ensures
     (items_built c.args.levels c.args.close c.args.self.now.place c.take-item-in-items.new.self.place c.if-eq-2.ty c.span-start.result.start (children ++ n ∷ []) _ refl (elim c.if-eq-2.branch [
       | parse_items-then-eq-2 w ↦ w.ty-is ∙ sym (ap items_type (is_class c.args.close ParenClose c.eq-2.ensures w.if-eq-2.true))
       | parse_items-else-eq-2 w ↦ w.ty-is ∙ sym (type_of_items c.args.close c.requires (is_other _ _ c.eq-2.ensures w.if-eq-2.false))
@@ -348,8 +348,8 @@ parse_items-returns-in-Err-parse_part_after_token-clause-memory g t c = (let (at
     let (d, i, r) = expected_at (c.args.levels + 1) [] (omega arith) in
     wants_reached (g.P.Builder.takes_memory c.args.builder) c.in-Err-parse_part_after_token.error r (c.in-Err-parse_part_after_token.ensures.memory at there c.args.self.now.place.lexer.source c.if-eq-2.ty children first))
 
-pub parse_items-whole-requires : goal.parse_items-whole-requires
-parse_items-whole-requires g t c =
+pub parse_items-finish_node-requires : goal.parse_items-finish_node-requires
+parse_items-finish_node-requires g t c =
     let (at, there, none, expected_at, children, first, go) = still_in_items c.args.levels (omega arith) c.args.close c.requires c.args.self.now.place (λ s of cs ps. g.P.Builder.are_parts c.args.builder s of cs ps) c.if-eq-2.ty c.items.invariant.takes c.items.token c.items.self.place c.push_numbers.new.self.place c.items.parts c.push_numbers.new.parts c.items.invariant.from c.in_default.ensures.kept c.in_default.ensures.only in
     let (d, i, r) = expected_at (c.args.levels + 1) [] (omega arith) in
     let here : at.lexer.source ≡ c.args.self.now.place.lexer.source = source_reached r in
@@ -357,8 +357,8 @@ parse_items-whole-requires g t c =
     let (n, is, grown) = part_added (λ (s : List ℕ) cs ps. g.P.Builder.are_parts c.args.builder s c.if-eq-2.ty cs ps) c.push_numbers.new.parts c.parse_part_after_token.new.parts children (IsParsed c.args.levels at c.parse_part_after_token.new.self.place) here (c.in_default-parse_part_after_token.ensures.kept at there c.if-eq-2.ty children part_expected) first in
     (c.args.self.now.place.lexer.source, children ++ n ∷ [], grown)
 
-pub parse_items-whole-requires-then-eq-4 : goal.parse_items-whole-requires-then-eq-4
-parse_items-whole-requires-then-eq-4 g t c =
+pub parse_items-finish_node-requires-then-eq-4 : goal.parse_items-finish_node-requires-then-eq-4
+parse_items-finish_node-requires-then-eq-4 g t c =
     let (at, there, none, expected_at, children, first, go) = still_in_items c.args.levels (omega arith) c.args.close c.requires c.args.self.now.place (λ s of cs ps. g.P.Builder.are_parts c.args.builder s of cs ps) c.if-eq-2.ty c.items.invariant.takes c.items.token c.items.self.place c.push_numbers.new.self.place c.items.parts c.push_numbers.new.parts c.items.invariant.from c.in_default.ensures.kept c.in_default.ensures.only in
     let (d, i, r) = expected_at (c.args.levels + 1) [] (omega arith) in
     let here : at.lexer.source ≡ c.args.self.now.place.lexer.source = source_reached r in
@@ -509,14 +509,14 @@ parse_payload-returns-clause-tree g t c =
     let opened : c.expect.new.self.place.lexer.source ≡ c.args.self.now.place.lexer.source = source_item c.args.self.now.place c.expect.new.self.place ParenOpen c.in_default-expect.ensures.takes in
     let (n, is, grown) = part_added (λ (s : List ℕ) cs ps. g.P.Builder.are_parts c.args.builder s c.args.ty cs ps) c.push_label.new.parts c.parse_part.new.parts label (IsParsed c.args.levels c.expect.new.self.place c.parse_part.new.self.place) opened (c.in_default-parse_part.ensures.kept c.args.ty label (payload_expected c.args.ty (span_at c.args.self.now.place) c.requires)) first in
     let source : c.expect-2.new.self.place.lexer.source ≡ c.args.self.now.place.lexer.source = source_item c.parse_part.new.self.place c.expect-2.new.self.place ParenClose c.in_default-expect-2.ensures.takes ∙ (source_parsed c.args.levels c.expect.new.self.place c.parse_part.new.self.place n is ∙ opened) in
-    whole_node_built (g.P.Builder.is_built c.args.builder) (λ (s : List ℕ) cs ps. g.P.Builder.are_parts c.args.builder s c.args.ty cs ps) c.args.self.now.place c.expect-2.new.self.place c.args.ty c.span-start.result.start c.whole.result c.parse_part.new.parts (label ++ n ∷ []) (IsInParens c.args.levels c.args.ty c.args.self.now.place c.expect-2.new.self.place) source grown c.whole.ensures (
+    finish_node_built (g.P.Builder.is_built c.args.builder) (λ (s : List ℕ) cs ps. g.P.Builder.are_parts c.args.builder s c.args.ty cs ps) c.args.self.now.place c.expect-2.new.self.place c.args.ty c.span-start.result.start c.finish_node.result c.parse_part.new.parts (label ++ n ∷ []) (IsInParens c.args.levels c.args.ty c.args.self.now.place c.expect-2.new.self.place) source grown c.finish_node.ensures (
       c.expect.new.self.place,
       c.in_default-expect.ensures.takes,
       record { payload = n; behind = c.parse_part.new.self.place; inner = is; close = c.in_default-expect-2.ensures.takes; is = ap (λ (z : Range ℕ). node c.args.ty (span z.start c.expect-2.new.self.place.lexer.end) (node_trees (label ++ n ∷ []))) c.span-start.ensures },
     )
 
-pub parse_payload-whole-requires : goal.parse_payload-whole-requires
-parse_payload-whole-requires g t c =
+pub parse_payload-finish_node-requires : goal.parse_payload-finish_node-requires
+parse_payload-finish_node-requires g t c =
     let label = label_children c.args.ty (span_at c.args.self.now.place) in
     let first = c.in_default.ensures.kept (c.no_parts-parts.ensures c.args.self.now.place.lexer.source (payload_parts c.args.ty c.requires)) in
     let opened : c.expect.new.self.place.lexer.source ≡ c.args.self.now.place.lexer.source = source_item c.args.self.now.place c.expect.new.self.place ParenOpen c.in_default-expect.ensures.takes in
@@ -586,12 +586,12 @@ parse_braces-returns-clause-asks g t c =
 
 pub parse_braces-returns-then-eq-clause-tree : goal.parse_braces-returns-then-eq-clause-tree
 parse_braces-returns-then-eq-clause-tree g t c =
-    none_node_built (g.P.Builder.is_built c.args.builder) c.args.self.now.place c.advance.new.self.place kind_of_node.EmptySet c.span-start.result.start c.whole_of_none.result (IsParsedBehind BraceOpen (c.args.levels + 1) c.args.self.now.place c.advance.new.self.place) (source_item c.args.self.now.place c.advance.new.self.place c.in_ok-token.token c.in_ok-token.ensures.takes) c.whole_of_none.ensures
+    finish_empty_built (g.P.Builder.is_built c.args.builder) c.args.self.now.place c.advance.new.self.place kind_of_node.EmptySet c.span-start.result.start c.finish_empty.result (IsParsedBehind BraceOpen (c.args.levels + 1) c.args.self.now.place c.advance.new.self.place) (source_item c.args.self.now.place c.advance.new.self.place c.in_ok-token.token c.in_ok-token.ensures.takes) c.finish_empty.ensures
     (empty_tied c.args.levels c.args.self.now.place c.advance.new.self.place c.span-start.result.start [] _ (class_as _ _ _ BraceClose c.in_ok-token.ensures.takes (is_class _ _ c.eq.ensures c.if-eq.true)) (ap (λ (z : Range ℕ). z.start) c.span-start.ensures) refl refl)
 
 pub parse_braces-returns-then-eq-2-clause-tree : goal.parse_braces-returns-then-eq-2-clause-tree
 parse_braces-returns-then-eq-2-clause-tree g t c =
-    none_node_built (g.P.Builder.is_built c.args.builder) c.args.self.now.place c.expect.new.self.place kind_of_node.TupleSet c.span-start.result.start c.whole_of_none-then-eq-2.result (IsParsedBehind BraceOpen (c.args.levels + 1) c.args.self.now.place c.expect.new.self.place) (source_item c.advance.new.self.place c.expect.new.self.place BraceClose c.in_ok-expect.ensures.takes ∙ (source_item c.args.self.now.place c.advance.new.self.place c.in_ok-token.token c.in_ok-token.ensures.takes)) c.whole_of_none-then-eq-2.ensures
+    finish_empty_built (g.P.Builder.is_built c.args.builder) c.args.self.now.place c.expect.new.self.place kind_of_node.TupleSet c.span-start.result.start c.finish_empty-then-eq-2.result (IsParsedBehind BraceOpen (c.args.levels + 1) c.args.self.now.place c.expect.new.self.place) (source_item c.advance.new.self.place c.expect.new.self.place BraceClose c.in_ok-expect.ensures.takes ∙ (source_item c.args.self.now.place c.advance.new.self.place c.in_ok-token.token c.in_ok-token.ensures.takes)) c.finish_empty-then-eq-2.ensures
     (no_fields_tied c.args.levels c.args.self.now.place c.advance.new.self.place c.expect.new.self.place c.span-start.result.start [] _ (class_as _ _ _ Colon c.in_ok-token.ensures.takes (is_class _ _ c.eq-2.ensures c.if-eq-2.true)) c.in_ok-expect.ensures.takes (ap (λ (z : Range ℕ). z.start) c.span-start.ensures) refl refl)
 
 pub parse_braces-returns-then-next_is-clause-tree : goal.parse_braces-returns-then-next_is-clause-tree
@@ -692,7 +692,7 @@ parse_entries-returns-then-eq-clause-tree g t c =
     let (n, is, grown) = entry_added (λ (s : List ℕ) cs ps. g.P.Builder.are_parts c.args.builder s kind_of_node.TupleSet cs ps) c.args.levels c.args.self.now.place c.entries.self.place c.expect.new.self.place c.parse_part.new.self.place c.entries.key children c.entries.parts c.push_key.new.parts c.parse_part.new.parts here c.in_default-expect.ensures.takes so_far
     (c.in_default.ensures.kept kind_of_node.TupleSet children even) (c.in_default-parse_part.ensures.kept kind_of_node.TupleSet (children ++ key ∷ []) value_expected) in
     let token : c.take-item.new.self.place.lexer.source ≡ c.args.self.now.place.lexer.source = source_item c.parse_part.new.self.place c.take-item.new.self.place c.in-Token.token c.in-Token.ensures.takes ∙ (source_parsed c.args.levels c.expect.new.self.place c.parse_part.new.self.place n is ∙ (source_item c.entries.self.place c.expect.new.self.place Colon c.in_default-expect.ensures.takes ∙ here)) in
-    whole_node_built (g.P.Builder.is_built c.args.builder) (λ (s : List ℕ) cs ps. g.P.Builder.are_parts c.args.builder s kind_of_node.TupleSet cs ps) c.args.self.now.place c.take-item.new.self.place kind_of_node.TupleSet c.args.start c.whole.result c.parse_part.new.parts ((children ++ key ∷ []) ++ n ∷ []) (IsOfEntries c.args.levels c.args.start c.args.first c.args.self.now.place c.take-item.new.self.place) token grown c.whole.ensures
+    finish_node_built (g.P.Builder.is_built c.args.builder) (λ (s : List ℕ) cs ps. g.P.Builder.are_parts c.args.builder s kind_of_node.TupleSet cs ps) c.args.self.now.place c.take-item.new.self.place kind_of_node.TupleSet c.args.start c.finish_node.result c.parse_part.new.parts ((children ++ key ∷ []) ++ n ∷ []) (IsOfEntries c.args.levels c.args.start c.args.first c.args.self.now.place c.take-item.new.self.place) token grown c.finish_node.ensures
     (record { children = (children ++ key ∷ []) ++ n ∷ []; are = keyed_close c.args.levels c.args.self.now.place c.entries.self.place c.expect.new.self.place c.parse_part.new.self.place c.take-item.new.self.place c.args.first c.entries.key children n go c.in_default-expect.ensures.takes is (inl (class_as _ _ _ BraceClose c.in-Token.ensures.takes (is_class _ _ c.eq.ensures c.if-eq.true))); is = refl })
 
 pub parse_entries-returns-then-eq-2-clause-tree : goal.parse_entries-returns-then-eq-2-clause-tree
@@ -705,11 +705,11 @@ parse_entries-returns-then-eq-2-clause-tree g t c =
     (c.in_default.ensures.kept kind_of_node.TupleSet children even) (c.in_default-parse_part.ensures.kept kind_of_node.TupleSet (children ++ key ∷ []) value_expected) in
     let token : c.take-item.new.self.place.lexer.source ≡ c.args.self.now.place.lexer.source = source_item c.parse_part.new.self.place c.take-item.new.self.place c.in-Token.token c.in-Token.ensures.takes ∙ (source_parsed c.args.levels c.expect.new.self.place c.parse_part.new.self.place n is ∙ (source_item c.entries.self.place c.expect.new.self.place Colon c.in_default-expect.ensures.takes ∙ here)) in
     let close : c.take-item-in-entries.new.self.place.lexer.source ≡ c.args.self.now.place.lexer.source = source_item c.take-item.new.self.place c.take-item-in-entries.new.self.place c.in-Token-item.next c.in-Token-item.ensures.takes ∙ token in
-    whole_node_built (g.P.Builder.is_built c.args.builder) (λ (s : List ℕ) cs ps. g.P.Builder.are_parts c.args.builder s kind_of_node.TupleSet cs ps) c.args.self.now.place c.take-item-in-entries.new.self.place kind_of_node.TupleSet c.args.start c.whole-then-eq-2.result c.parse_part.new.parts ((children ++ key ∷ []) ++ n ∷ []) (IsOfEntries c.args.levels c.args.start c.args.first c.args.self.now.place c.take-item-in-entries.new.self.place) close grown c.whole-then-eq-2.ensures
+    finish_node_built (g.P.Builder.is_built c.args.builder) (λ (s : List ℕ) cs ps. g.P.Builder.are_parts c.args.builder s kind_of_node.TupleSet cs ps) c.args.self.now.place c.take-item-in-entries.new.self.place kind_of_node.TupleSet c.args.start c.finish_node-then-eq-2.result c.parse_part.new.parts ((children ++ key ∷ []) ++ n ∷ []) (IsOfEntries c.args.levels c.args.start c.args.first c.args.self.now.place c.take-item-in-entries.new.self.place) close grown c.finish_node-then-eq-2.ensures
     (record { children = (children ++ key ∷ []) ++ n ∷ []; are = keyed_close c.args.levels c.args.self.now.place c.entries.self.place c.expect.new.self.place c.parse_part.new.self.place c.take-item-in-entries.new.self.place c.args.first c.entries.key children n go c.in_default-expect.ensures.takes is (inr (c.take-item.new.self.place, (class_as _ _ _ Comma c.in-Token.ensures.takes (differs_not _ _ c.ne.ensures c.if-ne.false)), class_as _ _ _ BraceClose c.in-Token-item.ensures.takes (is_class _ _ c.eq-in-entries.ensures c.if-eq-2.true))); is = refl })
 
-pub parse_entries-whole-requires : goal.parse_entries-whole-requires
-parse_entries-whole-requires g t c =
+pub parse_entries-finish_node-requires : goal.parse_entries-finish_node-requires
+parse_entries-finish_node-requires g t c =
     let (children, so_far, even, go) = c.entries.invariant.tree in
     let here : c.entries.self.place.lexer.source ≡ c.args.self.now.place.lexer.source = source_reached (c.entries.invariant.led (c.args.levels + 1) [] (omega arith)) in
     let key = node c.entries.key (span_at c.entries.self.place) no_nodes in
@@ -718,8 +718,8 @@ parse_entries-whole-requires g t c =
     (c.in_default.ensures.kept kind_of_node.TupleSet children even) (c.in_default-parse_part.ensures.kept kind_of_node.TupleSet (children ++ key ∷ []) value_expected) in
     (c.args.self.now.place.lexer.source, (children ++ key ∷ []) ++ n ∷ [], grown)
 
-pub parse_entries-whole-requires-then-eq-2 : goal.parse_entries-whole-requires-then-eq-2
-parse_entries-whole-requires-then-eq-2 g t c =
+pub parse_entries-finish_node-requires-then-eq-2 : goal.parse_entries-finish_node-requires-then-eq-2
+parse_entries-finish_node-requires-then-eq-2 g t c =
     let (children, so_far, even, go) = c.entries.invariant.tree in
     let here : c.entries.self.place.lexer.source ≡ c.args.self.now.place.lexer.source = source_reached (c.entries.invariant.led (c.args.levels + 1) [] (omega arith)) in
     let key = node c.entries.key (span_at c.entries.self.place) no_nodes in
@@ -754,7 +754,7 @@ pub parse_items-returns-then-next_is-clause-tree : goal.parse_items-returns-then
 parse_items-returns-then-next_is-clause-tree g t c =
     let stays = c.next_is.ensures.stays in
     let source : c.expect.new.self.place.lexer.source ≡ c.args.self.now.place.lexer.source = source_item c.next_is.new.self.place c.expect.new.self.place c.args.close c.in_ok-expect.ensures.takes ∙ ap (λ (z : Place). z.lexer.source) stays in
-    none_node_built (g.P.Builder.is_built c.args.builder) c.args.self.now.place c.expect.new.self.place kind_of_node.List c.span-start.result.start c.whole_of_none.result (IsOfItems c.args.levels c.args.close c.args.self.now.place c.expect.new.self.place) source c.whole_of_none.ensures
+    finish_empty_built (g.P.Builder.is_built c.args.builder) c.args.self.now.place c.expect.new.self.place kind_of_node.List c.span-start.result.start c.finish_empty.result (IsOfItems c.args.levels c.args.close c.args.self.now.place c.expect.new.self.place) source c.finish_empty.ensures
     (items_none c.args.levels c.args.close c.args.self.now.place c.next_is.new.self.place c.expect.new.self.place c.span-start.result.start [] _ refl refl c.requires (is_other _ _ c.eq.ensures c.if-eq.false) (ap (λ (z : Range ℕ). z.start) c.span-start.ensures) stays c.in_ok-expect.ensures.takes)
 
 pub parse_part-returns-in_default : goal.parse_part-returns-in_default

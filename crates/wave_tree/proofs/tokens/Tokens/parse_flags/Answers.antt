@@ -57,7 +57,7 @@ returns-in_err-token-clause-led g c = λ n s.
 pub returns-then-eq-clause-led : goal.returns-then-eq-clause-led
 returns-then-eq-clause-led g c = λ n s.
     let (d, i, r) = c.flags.invariant.0.led n s in
-    gives_read s c.whole_flags.result c.whole_flags.ensures.memory (read_there (then_same {f = expectation.behind_value} {v = s} c.in_ok-token.token r c.in_ok-token.ensures.takes
+    gives_read s c.finish_flags.result c.finish_flags.ensures.memory (read_there (then_same {f = expectation.behind_value} {v = s} c.in_ok-token.token r c.in_ok-token.ensures.takes
     (flag_same n d _ s _ _ c.in_ok-token.token i c.in_ok-token.ensures.takes ∙ ap (λ z. behind_flag_step (map flag_name (flag_at c.args.self.now.place ∷ c.flags.invariant.0.more)) s (token_of z (text_at c.advance.new.self.place))) (is_class c.in_ok-token.token BraceClose c.eq.ensures c.if-eq.true))) (inl refl))
 
 pub returns-then-ne-clause-led : goal.returns-then-ne-clause-led
@@ -78,7 +78,7 @@ pub returns-then-eq-2-clause-led : goal.returns-then-eq-2-clause-led
 returns-then-eq-2-clause-led g c = λ n s.
     let (d, i, r) = c.flags.invariant.0.led n s in
     let comma = expected_flag (map flag_name (flag_at c.args.self.now.place ∷ c.flags.invariant.0.more)) d c.in_ok-token.token i r c.in_ok-token.ensures.takes (differs_not _ _ c.ne.ensures c.if-ne.false) in
-    gives_read s c.whole_flags-then-eq-2.result c.whole_flags-then-eq-2.ensures.memory (read_there (then_class BraceClose comma c.in_ok-next.ensures.takes (is_class _ _ c.eq-in-flags.ensures c.if-eq-2.true) refl) (inl refl))
+    gives_read s c.finish_flags-then-eq-2.result c.finish_flags-then-eq-2.ensures.memory (read_there (then_class BraceClose comma c.in_ok-next.ensures.takes (is_class _ _ c.eq-in-flags.ensures c.if-eq-2.true) refl) (inl refl))
 
 pub returns-then-ne-2-clause-led : goal.returns-then-ne-2-clause-led
 returns-then-ne-2-clause-led g c = λ n s.
@@ -127,10 +127,10 @@ flags-preserved g c =
     )
 
 pub returns-then-eq-clause-tree : goal.returns-then-eq-clause-tree
-returns-then-eq-clause-tree g c = ended (g.P.Builder.is_built c.args.builder) c.flags.flags _ c.flags.self.place _ _ c.whole_flags.result c.flags.invariant.0 (inl (class_as _ _ _ BraceClose c.in_ok-token.ensures.takes (is_class _ _ c.eq.ensures c.if-eq.true))) c.whole_flags.ensures.built
+returns-then-eq-clause-tree g c = ended (g.P.Builder.is_built c.args.builder) c.flags.flags _ c.flags.self.place _ _ c.finish_flags.result c.flags.invariant.0 (inl (class_as _ _ _ BraceClose c.in_ok-token.ensures.takes (is_class _ _ c.eq.ensures c.if-eq.true))) c.finish_flags.ensures.built
 
 pub returns-then-eq-2-clause-tree : goal.returns-then-eq-2-clause-tree
-returns-then-eq-2-clause-tree g c = ended (g.P.Builder.is_built c.args.builder) c.flags.flags _ c.flags.self.place _ _ c.whole_flags-then-eq-2.result c.flags.invariant.0 (inr (c.advance.new.self.place, class_as _ _ _ Comma c.in_ok-token.ensures.takes (differs_not _ _ c.ne.ensures c.if-ne.false), class_as _ _ _ BraceClose c.in_ok-next.ensures.takes (is_class _ _ c.eq-in-flags.ensures c.if-eq-2.true))) c.whole_flags-then-eq-2.ensures.built
+returns-then-eq-2-clause-tree g c = ended (g.P.Builder.is_built c.args.builder) c.flags.flags _ c.flags.self.place _ _ c.finish_flags-then-eq-2.result c.flags.invariant.0 (inr (c.advance.new.self.place, class_as _ _ _ Comma c.in_ok-token.ensures.takes (differs_not _ _ c.ne.ensures c.if-ne.false), class_as _ _ _ BraceClose c.in_ok-next.ensures.takes (is_class _ _ c.eq-in-flags.ensures c.if-eq-2.true))) c.finish_flags-then-eq-2.ensures.built
 
 pub returns-in_err-token-clause-asks : goal.returns-in_err-token-clause-asks
 returns-in_err-token-clause-asks g c =

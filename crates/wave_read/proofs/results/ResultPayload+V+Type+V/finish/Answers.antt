@@ -8,7 +8,7 @@ use Rattle.wave_grammar.specs.NodeAccessors.{first_of}
 use Rattle.wave_grammar.specs.PartReading.{AnswersPayload}
 use Rattle.wave_read.specs.Payloads.{result_node}
 use Rattle.wave_read.proofs.PayloadReading.Results.{result_typed, result_read, result_refused}
-use Rattle.wave_read.proofs.results.ResultPayload+V+Type+V.whole.Goals as goal
+use Rattle.wave_read.proofs.results.ResultPayload+V+Type+V.finish.Goals as goal
 
 pub make_result_unchecked-requires : goal.make_result_unchecked-requires
 make_result_unchecked-requires g c =

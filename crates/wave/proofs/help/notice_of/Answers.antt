@@ -1,7 +1,7 @@
 use Rattle.std.proofs.Common.{MatchOption, sym, subst}
-use Rattle.wave.specs.Notices.{IsNotice, IsNoNotice}
+use Rattle.wave.specs.Help.{IsNotice, IsNoNotice}
 use Rattle.wave.proofs.Requested.{one_word, two_words}
-use Rattle.wave.proofs.notices.notice_of.Goals as goal
+use Rattle.wave.proofs.help.notice_of.Goals as goal
 
 pub returns-in-len1 : goal.returns-in-len1
 returns-in-len1 c =

@@ -10,34 +10,34 @@ use Rattle.wave_read.specs.PartsOfKinds.{AreParts, AreBareOrRead}
 use Rattle.wave_read.specs.declared.parts.Partial.{Partial}
 use Rattle.wave_read.proofs.ReadErrors.RejectedValues.{reported}
 use Rattle.wave_read.proofs.PartByPart.ReadByKind.{items_read, row_read, some_was_read, result_was_read, case_read, fields_read, entries_read}
-use Rattle.wave_read.proofs.parts.Partial+V+Type+V.whole.Goals as goal
+use Rattle.wave_read.proofs.parts.Partial+V+Type+V.finish.Goals as goal
 
-pub whole-requires : goal.whole-requires
-whole-requires g c =
+pub finish-requires : goal.finish-requires
+finish-requires g c =
     items_read g.V.Type.WasmType.tree g.V.WasmValue.tree g.V.WasmValue.is_of g.V.WasmValue.is_full c.in-Items.items (subst (AreBareOrRead g.V.Type.WasmType.tree g.V.WasmValue.tree g.V.WasmValue.is_of g.V.WasmValue.is_full) c.in-Items.is c.requires)
 
-pub whole-requires-in-TupleItems : goal.whole-requires-in-TupleItems
-whole-requires-in-TupleItems g c =
+pub finish-requires-in-TupleItems : goal.finish-requires-in-TupleItems
+finish-requires-in-TupleItems g c =
     row_read g.V.Type.WasmType.tree g.V.WasmValue.tree g.V.WasmValue.is_of g.V.WasmValue.is_full c.in-TupleItems.row (subst (AreBareOrRead g.V.Type.WasmType.tree g.V.WasmValue.tree g.V.WasmValue.is_of g.V.WasmValue.is_full) c.in-TupleItems.is c.requires)
 
-pub whole-requires-in-OfSome : goal.whole-requires-in-OfSome
-whole-requires-in-OfSome g c =
+pub finish-requires-in-OfSome : goal.finish-requires-in-OfSome
+finish-requires-in-OfSome g c =
     some_was_read g.V.Type.WasmType.tree g.V.WasmValue.tree g.V.WasmValue.is_of g.V.WasmValue.is_full c.in-OfSome.payload (subst (AreBareOrRead g.V.Type.WasmType.tree g.V.WasmValue.tree g.V.WasmValue.is_of g.V.WasmValue.is_full) c.in-OfSome.is c.requires)
 
-pub whole-requires-in-OfResult : goal.whole-requires-in-OfResult
-whole-requires-in-OfResult g c =
+pub finish-requires-in-OfResult : goal.finish-requires-in-OfResult
+finish-requires-in-OfResult g c =
     result_was_read g.V.Type.WasmType.tree g.V.WasmValue.tree g.V.WasmValue.is_of g.V.WasmValue.is_full c.in-OfResult.payload (subst (AreBareOrRead g.V.Type.WasmType.tree g.V.WasmValue.tree g.V.WasmValue.is_of g.V.WasmValue.is_full) c.in-OfResult.is c.requires)
 
-pub whole-requires-in-OfCase : goal.whole-requires-in-OfCase
-whole-requires-in-OfCase g c =
+pub finish-requires-in-OfCase : goal.finish-requires-in-OfCase
+finish-requires-in-OfCase g c =
     case_read g.V.Type.WasmType.tree g.V.WasmValue.tree g.V.WasmValue.is_of g.V.WasmValue.is_full c.in-OfCase.payload (subst (AreBareOrRead g.V.Type.WasmType.tree g.V.WasmValue.tree g.V.WasmValue.is_of g.V.WasmValue.is_full) c.in-OfCase.is c.requires)
 
-pub whole-requires-in-Fields : goal.whole-requires-in-Fields
-whole-requires-in-Fields g c =
+pub finish-requires-in-Fields : goal.finish-requires-in-Fields
+finish-requires-in-Fields g c =
     fields_read g.V.Type.WasmType.tree g.V.WasmValue.tree g.V.WasmValue.is_of g.V.WasmValue.is_full c.in-Fields.fields (subst (AreBareOrRead g.V.Type.WasmType.tree g.V.WasmValue.tree g.V.WasmValue.is_of g.V.WasmValue.is_full) c.in-Fields.is c.requires)
 
-pub whole-requires-in-Entries : goal.whole-requires-in-Entries
-whole-requires-in-Entries g c =
+pub finish-requires-in-Entries : goal.finish-requires-in-Entries
+finish-requires-in-Entries g c =
     entries_read g.V.Type.WasmType.tree g.V.WasmValue.tree g.V.WasmValue.is_of g.V.WasmValue.is_full c.in-Entries.entries (subst (AreBareOrRead g.V.Type.WasmType.tree g.V.WasmValue.tree g.V.WasmValue.is_of g.V.WasmValue.is_full) c.in-Entries.is c.requires)
 
 pub returns-in-Faulty-clause-read : goal.returns-in-Faulty-clause-read
@@ -59,37 +59,37 @@ returns-in-Empty-clause-read g c = λ w T source of children parts.
 pub returns-in-Items-clause-read : goal.returns-in-Items-clause-read
 returns-in-Items-clause-read g c = λ w T source of children parts.
     let h = subst (λ (x : Partial g.row.V-Type.Denot g.row.V.Denot). AreParts g.V.Type.WasmType.tree g.V.WasmValue.tree g.V.WasmValue.is_of g.V.WasmValue.is_full w T source of children x) c.in-Items.is parts in
-    subst (λ (k : NodeType). IsReadAs g.V.WasmValue.tree g.V.WasmValue.is_of g.V.WasmValue.is_full in_text w T source (node k c.args.span (node_trees children)) c.whole.result) (sym h.0) (c.whole.ensures w T source children h.1)
+    subst (λ (k : NodeType). IsReadAs g.V.WasmValue.tree g.V.WasmValue.is_of g.V.WasmValue.is_full in_text w T source (node k c.args.span (node_trees children)) c.finish.result) (sym h.0) (c.finish.ensures w T source children h.1)
 
 pub returns-in-TupleItems-clause-read : goal.returns-in-TupleItems-clause-read
 returns-in-TupleItems-clause-read g c = λ w T source of children parts.
     let h = subst (λ (x : Partial g.row.V-Type.Denot g.row.V.Denot). AreParts g.V.Type.WasmType.tree g.V.WasmValue.tree g.V.WasmValue.is_of g.V.WasmValue.is_full w T source of children x) c.in-TupleItems.is parts in
-    subst (λ (k : NodeType). IsReadAs g.V.WasmValue.tree g.V.WasmValue.is_of g.V.WasmValue.is_full in_text w T source (node k c.args.span (node_trees children)) c.whole-in-TupleItems.result) (sym h.0) (c.whole-in-TupleItems.ensures w T source children h.1)
+    subst (λ (k : NodeType). IsReadAs g.V.WasmValue.tree g.V.WasmValue.is_of g.V.WasmValue.is_full in_text w T source (node k c.args.span (node_trees children)) c.finish-in-TupleItems.result) (sym h.0) (c.finish-in-TupleItems.ensures w T source children h.1)
 
 pub returns-in-OfSome-clause-read : goal.returns-in-OfSome-clause-read
 returns-in-OfSome-clause-read g c = λ w T source of children parts.
     let h = subst (λ (x : Partial g.row.V-Type.Denot g.row.V.Denot). AreParts g.V.Type.WasmType.tree g.V.WasmValue.tree g.V.WasmValue.is_of g.V.WasmValue.is_full w T source of children x) c.in-OfSome.is parts in
-    subst (λ (k : NodeType). IsReadAs g.V.WasmValue.tree g.V.WasmValue.is_of g.V.WasmValue.is_full in_text w T source (node k c.args.span (node_trees children)) c.whole-in-OfSome.result) (sym h.0) (c.whole-in-OfSome.ensures w T source children h.1)
+    subst (λ (k : NodeType). IsReadAs g.V.WasmValue.tree g.V.WasmValue.is_of g.V.WasmValue.is_full in_text w T source (node k c.args.span (node_trees children)) c.finish-in-OfSome.result) (sym h.0) (c.finish-in-OfSome.ensures w T source children h.1)
 
 pub returns-in-OfResult-clause-read : goal.returns-in-OfResult-clause-read
 returns-in-OfResult-clause-read g c = λ w T source of children parts.
     let h = subst (λ (x : Partial g.row.V-Type.Denot g.row.V.Denot). AreParts g.V.Type.WasmType.tree g.V.WasmValue.tree g.V.WasmValue.is_of g.V.WasmValue.is_full w T source of children x) c.in-OfResult.is parts in
-    subst (λ (k : NodeType). IsReadAs g.V.WasmValue.tree g.V.WasmValue.is_of g.V.WasmValue.is_full in_text w T source (node k c.args.span (node_trees children)) c.whole-in-OfResult.result) (sym h.0) (c.whole-in-OfResult.ensures in_text w T source children h.1)
+    subst (λ (k : NodeType). IsReadAs g.V.WasmValue.tree g.V.WasmValue.is_of g.V.WasmValue.is_full in_text w T source (node k c.args.span (node_trees children)) c.finish-in-OfResult.result) (sym h.0) (c.finish-in-OfResult.ensures in_text w T source children h.1)
 
 pub returns-in-OfCase-clause-read : goal.returns-in-OfCase-clause-read
 returns-in-OfCase-clause-read g c = λ w T source of children parts.
     let h = subst (λ (x : Partial g.row.V-Type.Denot g.row.V.Denot). AreParts g.V.Type.WasmType.tree g.V.WasmValue.tree g.V.WasmValue.is_of g.V.WasmValue.is_full w T source of children x) c.in-OfCase.is parts in
-    subst (λ (k : NodeType). IsReadAs g.V.WasmValue.tree g.V.WasmValue.is_of g.V.WasmValue.is_full in_text w T source (node k c.args.span (node_trees children)) c.whole-in-OfCase.result) (sym h.0) (c.whole-in-OfCase.ensures w T source children h.1)
+    subst (λ (k : NodeType). IsReadAs g.V.WasmValue.tree g.V.WasmValue.is_of g.V.WasmValue.is_full in_text w T source (node k c.args.span (node_trees children)) c.finish-in-OfCase.result) (sym h.0) (c.finish-in-OfCase.ensures w T source children h.1)
 
 pub returns-in-Fields-clause-read : goal.returns-in-Fields-clause-read
 returns-in-Fields-clause-read g c = λ w T source of children parts.
     let h = subst (λ (x : Partial g.row.V-Type.Denot g.row.V.Denot). AreParts g.V.Type.WasmType.tree g.V.WasmValue.tree g.V.WasmValue.is_of g.V.WasmValue.is_full w T source of children x) c.in-Fields.is parts in
-    subst (λ (k : NodeType). IsReadAs g.V.WasmValue.tree g.V.WasmValue.is_of g.V.WasmValue.is_full in_text w T source (node k c.args.span (node_trees children)) c.whole-in-Fields.result) (sym h.0) (c.whole-in-Fields.ensures w T source children h.1)
+    subst (λ (k : NodeType). IsReadAs g.V.WasmValue.tree g.V.WasmValue.is_of g.V.WasmValue.is_full in_text w T source (node k c.args.span (node_trees children)) c.finish-in-Fields.result) (sym h.0) (c.finish-in-Fields.ensures w T source children h.1)
 
 pub returns-in-Entries-clause-read : goal.returns-in-Entries-clause-read
 returns-in-Entries-clause-read g c = λ w T source of children parts.
     let h = subst (λ (x : Partial g.row.V-Type.Denot g.row.V.Denot). AreParts g.V.Type.WasmType.tree g.V.WasmValue.tree g.V.WasmValue.is_of g.V.WasmValue.is_full w T source of children x) c.in-Entries.is parts in
-    subst (λ (k : NodeType). IsReadAs g.V.WasmValue.tree g.V.WasmValue.is_of g.V.WasmValue.is_full in_text w T source (node k c.args.span (node_trees children)) c.whole-in-Entries.result) (sym h.0) (c.whole-in-Entries.ensures w T source children h.1)
+    subst (λ (k : NodeType). IsReadAs g.V.WasmValue.tree g.V.WasmValue.is_of g.V.WasmValue.is_full in_text w T source (node k c.args.span (node_trees children)) c.finish-in-Entries.result) (sym h.0) (c.finish-in-Entries.ensures w T source children h.1)
 
 pub returns-in-Simple-clause-plain : goal.returns-in-Simple-clause-plain
 returns-in-Simple-clause-plain g c = λ T plain simple.

@@ -1,6 +1,6 @@
 // What the program prints of itself.
 ghost use Rattle.std.specs.Prelude.{[], ◌∷◌, MatchBool, MatchOption, map, string_bytes};
-ghost use Rattle.wave.specs.Notices.{IsRequestWord, IsHelpOption, IsNotice, IsNoNotice};
+ghost use Rattle.wave.specs.Help.{IsRequestWord, IsHelpOption, IsNotice, IsNoNotice};
 
 const VERSION: &str =
     "wave 0.1.0, a port of wasm-wave 0.263.0, proved with Rattle, logic dac8208d650f15bf\n";

@@ -9,7 +9,7 @@ use Rattle.wave_grammar.specs.declared.form.NodeType.TheVariants as kind
 use Rattle.wave_read.specs.Reading.{IsReadAs}
 use Rattle.wave_read.specs.ListParts.{ReadOrHeld}
 use Rattle.wave_read.proofs.ItemReading.Lists.{refusal_handed, length_refused, item_refused, items_typed, list_read}
-use Rattle.wave_read.proofs.lists.Items+V+Type+V.whole.Goals as goal
+use Rattle.wave_read.proofs.lists.Items+V+Type+V.finish.Goals as goal
 
 pub returns-in_err-check_length : goal.returns-in_err-check_length
 returns-in_err-check_length g c = λ w T source children a.

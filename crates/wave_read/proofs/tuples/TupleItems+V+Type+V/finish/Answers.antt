@@ -9,7 +9,7 @@ use Rattle.wave_grammar.specs.declared.form.NodeType.TheVariants as kind
 use Rattle.wave_grammar.proofs.ByKind.Tuples.{as_shown}
 use Rattle.wave_read.specs.TupleParts.{AreReadEach}
 use Rattle.wave_read.proofs.ItemReading.Tuples.{items_fine, count_refused, row_typed, tuple_read}
-use Rattle.wave_read.proofs.tuples.TupleItems+V+Type+V.whole.Goals as goal
+use Rattle.wave_read.proofs.tuples.TupleItems+V+Type+V.finish.Goals as goal
 
 pub returns-then-count-want : goal.returns-then-count-want
 returns-then-count-want g c = λ w T source children a.

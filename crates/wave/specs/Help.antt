@@ -1,6 +1,6 @@
 -- What is printed of the program itself.
 use Rattle.std.specs.Prelude.{ℕ, List, [], ◌∷◌, ◌≡◌, ◌⊎◌, codes}
-use Rattle.wave.specs.declared.notices.TheConstants.{HELP, VERSION}
+use Rattle.wave.specs.declared.help.TheConstants.{HELP, VERSION}
 
 -- the word begins a request
 abbrev pub IsRequestWord : List ℕ → Type 0

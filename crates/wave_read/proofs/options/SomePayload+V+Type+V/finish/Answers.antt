@@ -7,7 +7,7 @@ use Rattle.wave_grammar.specs.declared.form.NodeType.TheVariants as node_type
 use Rattle.wave_read.specs.Reading.{IsReadAs}
 use Rattle.wave_read.specs.Payloads.{IsReadPayload}
 use Rattle.wave_read.proofs.PayloadReading.Options.{some_typed, some_read, some_refused}
-use Rattle.wave_read.proofs.options.SomePayload+V+Type+V.whole.Goals as goal
+use Rattle.wave_read.proofs.options.SomePayload+V+Type+V.finish.Goals as goal
 
 pub make_option_unchecked-requires : goal.make_option_unchecked-requires
 make_option_unchecked-requires g c =

@@ -131,8 +131,8 @@ module _ {V : Type 0} (tree : V → Value) (of : V → TypeTree → Type 0) (Ful
         )
 
     -- the record was made of all its values, or its constructor refused
-    pub whole_built : (p : Range ℕ) (vals : List (Bor (List ℕ) × V)) (built_record : Result V cause.WasmValueError) (r : Result V Diagnostic) → AreFull tree of type_tree x.fields.items vals → IfOk built_record (MakesRecord tree of (type_tree x.ty.now) vals) → IfErr built_record (FullRecord of Full (type_tree x.ty.now) vals) → IsBuiltOrMemory (node kind.TupleSet p (node_trees children)) built_record r → IsReadAs tree of Full in_text w T source (node kind.TupleSet p (node_trees children)) r
-    whole_built p vals built_record r filled ok full done =
+    pub finish_built : (p : Range ℕ) (vals : List (Bor (List ℕ) × V)) (built_record : Result V cause.WasmValueError) (r : Result V Diagnostic) → AreFull tree of type_tree x.fields.items vals → IfOk built_record (MakesRecord tree of (type_tree x.ty.now) vals) → IfErr built_record (FullRecord of Full (type_tree x.ty.now) vals) → IsBuiltOrMemory (node kind.TupleSet p (node_trees children)) built_record r → IsReadAs tree of Full in_text w T source (node kind.TupleSet p (node_trees children)) r
+    finish_built p vals built_record r filled ok full done =
         built_anew (MakesRecord tree of (type_tree x.ty.now) vals) (FullRecord of Full (type_tree x.ty.now) vals) (node kind.TupleSet p (node_trees children)) built_record r (λ a f fs is apart ordered same of. tt) ok full done (λ built_record ok full done.
         let n : NodeTree = node kind.TupleSet p (node_trees children) in
         record {
@@ -153,8 +153,8 @@ module _ {V : Type 0} (tree : V → Value) (of : V → TypeTree → Type 0) (Ful
         })
 
     -- a field was left out, or there was no memory
-    pub whole_unfilled : (p : Range ℕ) (e : Diagnostic) (r : Result V Diagnostic) → IsErrAnd r (λ f. f ≡ e) → HasFullParts Full → IsLeftUnfilled Full type_tree x.fields.items (node kind.TupleSet p (node_trees children)) e → RefusesAt (node kind.TupleSet p (node_trees children)) e → IsReadAs tree of Full in_text w T source (node kind.TupleSet p (node_trees children)) r
-    whole_unfilled p e r same full left reported =
+    pub finish_unfilled : (p : Range ℕ) (e : Diagnostic) (r : Result V Diagnostic) → IsErrAnd r (λ f. f ≡ e) → HasFullParts Full → IsLeftUnfilled Full type_tree x.fields.items (node kind.TupleSet p (node_trees children)) e → RefusesAt (node kind.TupleSet p (node_trees children)) e → IsReadAs tree of Full in_text w T source (node kind.TupleSet p (node_trees children)) r
+    finish_unfilled p e r same full left reported =
         let n : NodeTree = node kind.TupleSet p (node_trees children) in
         handed_on n e r same (record {
           answer = λ t is distinct. blamed t is distinct left;
