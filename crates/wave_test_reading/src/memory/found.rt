@@ -29,7 +29,7 @@ impl fmt::Display for Found {
             Found::Expected => "as expected",
             Found::OutOfMemory => "ran out of memory",
             Found::ExpectedAgain => "ran out of memory, then as expected",
-            Found::OutOfMemoryAgain => "ran out of memory twice",
+            Found::OutOfMemoryAgain => "ran out of memory, then ran out of memory",
             Found::NotCalled => "not called",
             Found::Other => "wrong",
             Found::Unknown => "no such call",
