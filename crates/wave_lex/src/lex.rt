@@ -24,6 +24,7 @@ pub use wave_wasm::keyword::Keyword;
 
 mod func_name;
 mod scan;
+pub(crate) mod sets;
 
 /// Byte positions in the source.
 pub type Span = Range<usize>;

@@ -13,15 +13,14 @@ ghost use Rattle.wave_lex.specs.Private.Runs.{IsRun};
 ghost use Rattle.wave_lex.specs.Private.Lines.{IsNumberAt, PartTaken, EndIs, LinesEndIs, NoLineEntered, SplitsLine, OpeningIs, BehindLastFeed};
 
 use crate::error::{ParserError, ParserErrorKind};
+use crate::lex::sets::NoBackslashes;
 use crate::machine::escape::short_escape;
 use memchr::{memchr, memchr2};
 use std::marker::Model;
+use wave_wasm::byte_runs::run_of;
 
 /// How many digits an escape has at most.
 const MOST_DIGITS: usize = 6;
-
-/// How many bytes of a run are looked at in turn before the others are searched at once.
-const FEW: usize = 16;
 
 /// A run of the source without escapes, or a decoded escape, or the line feed between two lines.
 #[derive(Clone, Copy, Debug)]
@@ -468,35 +467,7 @@ fn run_length(text: &str) -> usize
     ensures run { IsRun text.now result }
     ensures utf8 { IsUtf8 text.now }
 {
-    let bytes = text.as_bytes();
-    if bytes.len() <= FEW {
-        return run_bytewise(bytes);
-    }
-    let run = run_bytewise(&bytes[..FEW]);
-    if run < FEW {
-        return run;
-    }
-    FEW + run_by_memchr(&bytes[FEW..])
-}
-
-/// The same, by looking at each byte.
-#[inline(always)]
-fn run_bytewise(bytes: &[u8]) -> usize
-    ensures { IsRun bytes.now result }
-{
-    for (i, byte) in bytes.iter().enumerate() {
-        if *byte == b'\\' {
-            return i;
-        }
-    }
-    bytes.len()
-}
-
-/// The same, by a search.
-fn run_by_memchr(bytes: &[u8]) -> usize
-    ensures { IsRun bytes.now result }
-{
-    memchr(b'\\', bytes).unwrap_or(bytes.len())
+    run_of::<NoBackslashes>(text.as_bytes())
 }
 
 /// How many spaces stand at the start.

@@ -5,3 +5,5 @@ pub mod CanonicalText
 pub mod Escapes
 pub mod Displays
 pub mod Names
+pub mod SetRuns
+pub mod EachNumber

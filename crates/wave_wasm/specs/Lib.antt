@@ -18,3 +18,4 @@ pub mod ValueErrors
 pub mod WriterState
 pub mod Laws
 pub mod Fingerprints
+pub mod ByteRuns

@@ -1,6 +1,7 @@
 //! Component values, their types, and their text.
 #![tactic(auto)]
 
+pub mod byte_runs;
 pub mod fingerprints;
 pub mod keyword;
 pub mod laws;

@@ -2,6 +2,31 @@
 ghost use Rattle.std.specs.Prelude.{◌≡◌, ℕ, ◌≤◌, ◌<◌, true, false, length, slice_index};
 ghost use Rattle.wave_wasm.specs.Private.Text.{is_plain_byte};
 
+use crate::byte_runs::{ByteSet, run_of};
+use std::simd::prelude::*;
+
+/// The bytes of ASCII that stand for themselves between quotes.
+struct Plain;
+
+impl ByteSet for Plain {
+    ghost use Rattle.wave_wasm.specs.Private.Text.{is_plain_byte};
+
+    ghost holds = { is_plain_byte };
+
+    #[inline(always)]
+    fn others(bytes: u8x16) -> u64 {
+        let quotes = bytes.simd_eq(u8x16::splat(b'"')) | bytes.simd_eq(u8x16::splat(b'\''));
+        let marks = quotes | bytes.simd_eq(u8x16::splat(b'\\'));
+        let outside = bytes.simd_lt(u8x16::splat(b' ')) | bytes.simd_gt(u8x16::splat(b'~'));
+        (marks | outside).to_bitmask()
+    }
+
+    #[inline(always)]
+    fn has(byte: u8) -> bool {
+        matches!(byte, b' '..=b'~') && !matches!(byte, b'"' | b'\'' | b'\\')
+    }
+}
+
 /// Where the bytes of ASCII from a place on that stand for themselves between quotes end: the place of
 /// the first other byte, or of the end.
 pub fn plain_end(bytes: &[u8], from: usize) -> usize
@@ -10,50 +35,5 @@ pub fn plain_end(bytes: &[u8], from: usize) -> usize
     ensures plain { (i : ℕ) → from ≤ i → i < result → is_plain_byte (slice_index bytes.now i) ≡ true }
     ensures longest { result < length bytes.now → is_plain_byte (slice_index bytes.now result) ≡ false }
 {
-    if from < bytes.len() && !is_plain_byte(bytes[from]) {
-        return from;
-    }
-    for at in fours_end(bytes, from)..bytes.len() {
-        if !is_plain_byte(bytes[at]) {
-            return at;
-        }
-    }
-    bytes.len()
-}
-
-/// Where four such bytes at a time end.
-fn fours_end(bytes: &[u8], from: usize) -> usize
-    requires { from ≤ length bytes.now }
-    ensures within { (from ≤ result) × (result ≤ length bytes.now) }
-    ensures plain { (i : ℕ) → from ≤ i → i < result → is_plain_byte (slice_index bytes.now i) ≡ true }
-{
-    let mut at = from;
-    while bytes.len() - at >= 4
-        && is_plain_byte(bytes[at])
-        && is_plain_byte(bytes[at + 1])
-        && is_plain_byte(bytes[at + 2])
-        && is_plain_byte(bytes[at + 3])
-    {
-        at += 4;
-    }
-    at
-}
-
-/// A point at the place of each byte of ASCII that stands for itself between quotes, and a comma at every
-/// other.
-static PLAINS: [u8; 256] = *b"\
-    ,,,,,,,,,,,,,,,,,,,,,,,,,,,,,,,,\
-    ..,....,........................\
-    ............................,...\
-    ...............................,\
-    ,,,,,,,,,,,,,,,,,,,,,,,,,,,,,,,,\
-    ,,,,,,,,,,,,,,,,,,,,,,,,,,,,,,,,\
-    ,,,,,,,,,,,,,,,,,,,,,,,,,,,,,,,,\
-    ,,,,,,,,,,,,,,,,,,,,,,,,,,,,,,,,";
-
-/// The byte is of ASCII and stands for itself between quotes.
-fn is_plain_byte(byte: u8) -> bool
-    ensures { result ≡ is_plain_byte byte }
-{
-    PLAINS[byte as usize] == b'.'
+    from + run_of::<Plain>(&bytes[from..])
 }

@@ -1,5 +1,5 @@
 -- The bytes that leave a machine in its state, and marks.
-use Rattle.std.proofs.Common.{◌≡◌, ℕ, ◌≤◌, ◌<◌, ◌+◌, ◌-◌, Bool, true, false, nat_eq, zero, suc, List, [], ◌∷◌, ◌++◌, ◌⊎◌, inl, inr, refl, sym, ap, subst, ◌∙◌, length, take, drop, arith, get_or, Option, Some, None, unwrap_or, length-take-le, get_or-take, get_or-drop}
+use Rattle.std.proofs.Common.{◌≡◌, ℕ, ◌≤◌, ◌<◌, ◌+◌, ◌-◌, Bool, true, false, nat_eq, zero, suc, List, [], ◌∷◌, ◌++◌, ◌⊎◌, inl, inr, refl, sym, ap, subst, ◌∙◌, length, take, drop, arith, get_or, Option, Some, None, length-take-le, get_or-take, get_or-drop}
 use Rattle.std.specs.Prelude.{◌≢◌, not, if◌then◌else◌, encode_utf8, encode_utf8_all}
 use Rattle.std.specs.Str.{IsUtf8, chars}
 use Rattle.std.proofs.lemmas.Bool.{cases_lt}
@@ -8,12 +8,12 @@ use Rattle.std.proofs.Math.Seq.{get_or-append_right}
 use Rattle.std.proofs.lemmas.Str.{encode_ascii, IsUtf8-take, IsUtf8-drop, encodes-chars}
 use Rattle.std.specs.Str.{IsCharBoundary}
 use Rattle.std.proofs.Common.{length-append, length-drop}
-use Rattle.memchr.specs.Find.{IsFirstByte, is_byte, is_byte3}
+use Rattle.memchr.specs.Find.{IsFirstByte, is_byte}
 use Rattle.wave_lex.specs.Regex.{Regex, nothing, empty, is_within}
 use Rattle.wave_lex.specs.Derive.{nullable, derivative, derivative_by, after_next}
 use Rattle.wave_lex.specs.LongestMatch.{Greatest, IsPrefixOf}
 use Rattle.wave_lex.specs.Tokens.{one, string, whitespace, number, label_or_keyword}
-use Rattle.wave_lex.specs.Private.Reading.{LeadsTo, IsPlainRun}
+use Rattle.wave_lex.specs.Private.Reading.{LeadsTo}
 use Rattle.wave_lex.specs.Private.Machines.{after_sign, is_blank, is_plain, ends_whole, whitespace_step, whitespace_rest}
 use Rattle.wave_lex.specs.Machines.{is_digit, is_lower, number_step, number_rest, label_step, label_token_step, label_token_rest, in_token, string_step, string_rest}
 use Rattle.wave_lex.specs.declared.machine.number.NumberState.{NumberState}
@@ -229,51 +229,6 @@ first_and_others (a ∷ s) n b l e = ap (λ (z : ℕ). z ∷ take n s) e
 -- what is not plain is ASCII
 pub not_plain_ascii : (c : ℕ) → is_plain c ≡ false → c < 128
 not_plain_ascii c e = grind (arith, nat_tests)
-
--- what a search for the three others passes is plain
-passed_plain : (c : ℕ) → ¬ (is_byte3 34 92 10 c ≡ true) → is_plain c ≡ true
-passed_plain c h = by_test (is_byte3 34 92 10 c) refl
-  where
-    by_test : (t : Bool) → is_byte3 34 92 10 c ≡ t → is_plain c ≡ true
-    by_test true e = absurd (h e)
-    by_test false e = ap not e
-
--- the run that a search for the three others ends
-pub plain_found : (s : List ℕ) (o : Option ℕ) → IsFirstByte (is_byte3 34 92 10) s o → IsPlainRun s (unwrap_or o (length s))
-plain_found s None h = record { within = omega arith; all = λ i l. passed_plain (get_or s i 0) (h i (omega arith) l); stops = λ l. let w : ⊥ = omega arith in absurd w }
-plain_found s (Some k) (first, there) = record {
-  within = omega (arith, first.high);
-  all = λ i l. passed_plain (get_or s i 0) (first.before i (omega arith) l);
-  stops = λ l. ap not there;
-}
-
--- the run that ends within the first k bytes
-pub plain_first : (s t : List ℕ) (k n : ℕ) → k ≤ length s → t ≡ take k s → n < k → IsPlainRun t n → IsPlainRun s n
-plain_first s t k n fits e less run =
-    let long : length t ≡ k = ap length e ∙ length-take-le k s fits in
-    let same : (i : ℕ) → i < k → get_or t i 0 ≡ get_or s i 0 = λ i l. ap (λ (z : List ℕ). get_or z i 0) e ∙ get_or-take k s i 0 l in
-    record {
-      within = omega arith;
-      all = λ i l. sym (ap is_plain (same i (omega arith))) ∙ run.all i l;
-      stops = λ l. sym (ap is_plain (same n less)) ∙ run.stops (omega arith);
-    }
-
--- the run that goes on after the first k bytes
-pub plain_joined : (s t u : List ℕ) (k n m : ℕ) → k ≤ length s → t ≡ take k s → u ≡ drop k s → k ≤ n → IsPlainRun t n → IsPlainRun u m → IsPlainRun s (k + m)
-plain_joined s t u k n m fits e f all run rest =
-    let long : length u ≡ length s - k = ap length f ∙ length-drop k s in
-    let inside : m ≤ length u = rest.within in
-    let prefix : (i : ℕ) → i < k → get_or t i 0 ≡ get_or s i 0 = λ i l. ap (λ (z : List ℕ). get_or z i 0) e ∙ get_or-take k s i 0 l in
-    let behind : (i : ℕ) → get_or u i 0 ≡ get_or s (k + i) 0 = λ i. ap (λ (z : List ℕ). get_or z i 0) f ∙ get_or-drop k s i 0 in
-    record {
-      within = omega arith;
-      all = λ i l. elim (cases_lt i k) as (λ _. is_plain (get_or s i 0) ≡ true) [
-        | inl less ↦ sym (ap is_plain (prefix i less)) ∙ run.all i (omega arith)
-        | inr more ↦ let same : k + (i - k) ≡ i = omega arith in
-            sym (ap is_plain (behind (i - k) ∙ ap (λ (z : ℕ). get_or s z 0) same)) ∙ rest.all (i - k) (omega arith)
-      ];
-      stops = λ l. sym (ap is_plain (behind m)) ∙ rest.stops (omega arith);
-    }
 
 -- ---- after a string
 

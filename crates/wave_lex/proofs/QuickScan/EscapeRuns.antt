@@ -6,12 +6,13 @@ use Rattle.std.specs.Str.{IsUtf8}
 use Rattle.std.specs.Str.Parse.{AllDigits}
 use Rattle.std.proofs.lemmas.Bool.Decides.{nat_tests}
 use Rattle.std.proofs.Math.Seq.{take-append_seam}
+use Rattle.wave_wasm.specs.ByteRuns.{IsRunOf}
 use Rattle.wave_lex.specs.Regex.{Regex}
 use Rattle.wave_lex.specs.Derive.{derivative, derivative_by, after_next}
 use Rattle.wave_lex.specs.LongestMatch.{Greatest, IsPrefixOf}
 use Rattle.wave_lex.specs.Strings.{short_escape}
 use Rattle.wave_lex.specs.Tokens.{string}
-use Rattle.wave_lex.specs.Private.Reading.{LeadsTo, IsPlainRun}
+use Rattle.wave_lex.specs.Private.Reading.{LeadsTo}
 use Rattle.wave_lex.specs.Machines.{is_hexadecimal, escape_step, ends_short, in_string, string_rest}
 use Rattle.wave_lex.specs.Private.Machines.{is_plain}
 use Rattle.wave_lex.specs.declared.machine.escape.EscapeState.{EscapeState}
@@ -147,7 +148,7 @@ long_leads s d n w some few within digits closed =
 -- ---- plain bytes
 
 -- what the code counts as plain
-pub plains_here : (s b : List ℕ) (n : ℕ) → b ≡ s → IsUtf8 s → IsPlainRun b n → LeadsTo (string_rest string.Inside) (string_rest string.Inside) s n
+pub plains_here : (s b : List ℕ) (n : ℕ) → b ≡ s → IsUtf8 s → IsRunOf is_plain b n → LeadsTo (string_rest string.Inside) (string_rest string.Inside) s n
 plains_here s b n e u run = subst (λ (z : List ℕ). LeadsTo (string_rest string.Inside) (string_rest string.Inside) z n) e
     (run_kept is_plain (string_rest string.Inside) b n plain_kept (subst IsUtf8 (sym e) u) run.within run.all (cut_here b n run.within (λ l. not_plain_ascii (get_or b n 0) (run.stops l))))
 
@@ -156,7 +157,7 @@ pub quote_leads : (s b : List ℕ) → b ≡ s → 0 < length b → get_or b 0 0
 quote_leads s b e l q = first_byte string (string_rest string.Inside) 34 s b e (omega arith) refl l q
 
 -- a quote and plain bytes lead into a string
-pub plains_lead : (s b t p : List ℕ) (n : ℕ) → b ≡ s → 0 < length b → get_or b 0 0 ≡ 34 → t ≡ drop 1 s → IsUtf8 t → p ≡ t → IsPlainRun p n → LeadsTo string (string_rest string.Inside) s (n + 1)
+pub plains_lead : (s b t p : List ℕ) (n : ℕ) → b ≡ s → 0 < length b → get_or b 0 0 ≡ 34 → t ≡ drop 1 s → IsUtf8 t → p ≡ t → IsRunOf is_plain p n → LeadsTo string (string_rest string.Inside) s (n + 1)
 plains_lead s b t p n e l q f u g run =
     let same : 1 + n ≡ n + 1 = omega arith in
     subst (λ (z : ℕ). LeadsTo string (string_rest string.Inside) s z) same

@@ -1,9 +1,11 @@
 -- Shapes that are compared by computing, and numbers that are tried one by one.
-use Rattle.std.proofs.Common.{◌≡◌, ℕ, ◌≤◌, ◌<◌, zero, suc, Bool, true, false, cond, nat_eq, nat_lt, List, [], ◌∷◌, refl, sym, ap, subst, ◌∙◌, arith, inl, inr}
+use Rattle.std.proofs.Common.{◌≡◌, ℕ, ◌≤◌, ◌<◌, Bool, true, false, cond, nat_eq, nat_lt, List, [], ◌∷◌, refl, sym, ap, ◌∙◌, arith}
 use Rattle.std.specs.Prelude.{◌&&◌}
 use Rattle.std.specs.Bool.{beq}
-use Rattle.std.proofs.lemmas.Bool.{cases_lt, eqb-true, ltb-true, and_parts}
+use Rattle.std.proofs.lemmas.Bool.{eqb-true, ltb-true, and_parts}
 use Rattle.std.proofs.lemmas.Bool.Decides.{nat_tests}
+pub use Rattle.wave_wasm.proofs.EachNumber.{each_below, each_below_at}
+use Rattle.wave_wasm.proofs.EachNumber.{tests_agree}
 use Rattle.wave_lex.specs.Regex.{Regex, nothing, empty, range, except, seq, alt, star, is_one_of, is_within}
 use Rattle.wave_lex.specs.Derive.{derivative, join, choice, nullable}
 
@@ -52,31 +54,9 @@ same_true (alt a b) (alt c d) e = let h : (same a c ≡ true) × (same b d ≡ t
 same_true (star a) (star b) e = ap star (same_true a b e)
 same_true p q e = cc
 
--- p holds of each number below n
-abbrev pub each_below : ℕ → (ℕ → Bool) → Bool
-each_below zero p = true
-each_below (suc n) p = p n && each_below n p
-
--- what is tested below n holds below n
-pub each_below_at : (n b : ℕ) (p : ℕ → Bool) → each_below n p ≡ true → b < n → p b ≡ true
-each_below_at zero b p e l = let w : ⊥ = omega arith in absurd w
-each_below_at (suc n) b p e l =
-    let h : (p n ≡ true) × (each_below n p ≡ true) = and_parts _ _ e in
-    elim (cases_lt b n) as (λ _. p b ≡ true) [
-      | inl k ↦ each_below_at n b p h.1 k
-      | inr k ↦ let s : b ≡ n = omega arith in subst (λ (z : ℕ). p z ≡ true) (sym s) h.0
-    ]
-
--- two answers that are equal by computing are one
-same_answer : (x y : Bool) → beq x y ≡ true → x ≡ y
-same_answer true true e = refl
-same_answer true false e = cc
-same_answer false true e = cc
-same_answer false false e = refl
-
 -- tests that agree on each byte, by computing, agree
 pub bytes_agree : (p q : ℕ → Bool) (b : ℕ) → b < 256 → each_below 256 (λ k. beq (p k) (q k)) ≡ true → p b ≡ q b
-bytes_agree p q b l computed = same_answer (p b) (q b) (each_below_at 256 b (λ k. beq (p k) (q k)) computed l)
+bytes_agree p q b l computed = tests_agree 256 p q b l computed
 
 -- the shape tells no scalar past ASCII apart from another
 abbrev pub all_ascii : List ℕ → Bool

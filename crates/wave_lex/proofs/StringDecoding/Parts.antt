@@ -1,8 +1,6 @@
 -- The steps of a string's parts, and what all of them are together.
-use Rattle.std.specs.Prelude.{unwrap_or}
-use Rattle.std.proofs.Common.{Option, ◌≡◌, ℕ, ◌≤◌, ◌<◌, ◌+◌, ◌-◌, ◌≢◌, zero, suc, true, List, [], ◌∷◌, ◌++◌, ◌⊎◌, inl, inr, refl, sym, ap, subst, ◌∙◌, length, take, drop, arith, Some, None, Ok, get_or, append_assoc, length-take-le, length-append, length-drop, get_or-take, get_or-drop}
-use Rattle.std.proofs.lemmas.Bool.{eqb-true, cases_lt}
-use Rattle.memchr.specs.Find.{IsFirstByte, is_byte}
+use Rattle.std.proofs.Common.{◌≡◌, ℕ, ◌≤◌, ◌<◌, ◌+◌, ◌≢◌, zero, suc, true, List, [], ◌∷◌, ◌++◌, ◌⊎◌, inl, inr, refl, sym, ap, subst, ◌∙◌, length, take, drop, arith, Some, None, Ok, get_or, append_assoc, length-take-le, length-append}
+use Rattle.memchr.specs.Find.{is_byte}
 use Rattle.std.specs.Prelude.{encode_utf8}
 use Rattle.std.specs.Char.{digit_value}
 use Rattle.std.specs.Str.Parse.{AllDigits}
@@ -11,6 +9,7 @@ use Rattle.std.proofs.lemmas.List.{take-append-drop}
 use Rattle.std.proofs.Math.Seq.{drop-append_seam}
 use Rattle.std.proofs.lemmas.Bool.Decides.{nat_tests}
 use Rattle.std.proofs.lemmas.Str.{IsUtf8-past_char, encode_ascii, IsCharBoundary-at_seam}
+use Rattle.wave_wasm.specs.ByteRuns.{IsRunOf}
 use Rattle.wave_wasm.specs.Lists.{AllOf}
 use Rattle.wave_lex.specs.Errors.{Diagnostic}
 use Rattle.wave_lex.specs.declared.strings.StringPart.{StringPart}
@@ -18,7 +17,7 @@ use Rattle.wave_lex.specs.declared.strings.StringPart.TheVariants.{Run, Char}
 use Rattle.wave_lex.specs.Strings.{short_escape, IsEscape, Decodes, UnescapesTo, IsBadEscapeAt}
 use Rattle.wave_lex.specs.Parts.{part_text, part_texts, TakesRun, TakesEscape, ReportsBadEscape, MeetsBadEscape, BeginsNoEscape, PartIs, RunsTo, PartsJoin}
 use Rattle.wave_lex.specs.Remaining.{Undecoded}
-use Rattle.wave_lex.specs.Private.Runs.{IsRun}
+use Rattle.wave_lex.specs.Private.Runs.{is_no_backslash, IsRun}
 use Rattle.wave_lex.proofs.StringDecoding.OneMeaning.{plain_from, escape_from}
 
 -- ---- one step
@@ -49,38 +48,13 @@ left_at (a ∷ s) (suc k) b l h = left_at s k b (omega arith) (λ m. h (omega ar
 not_none : (s : List ℕ) → 0 < length s → s ≢ []
 not_none s l e = let w : length s ≡ 0 = ap length e in let v : ⊥ = omega arith in v
 
--- the run that a search ends
-pub run_found : (s : List ℕ) (o : Option ℕ) → IsFirstByte (is_byte 92) s o → IsRun s (unwrap_or o (length s))
-run_found s None h = record { within = omega arith; before = λ i l e. h i (omega arith) l (is_same (get_or s i 0) e); stops = λ l. let w : ⊥ = omega arith in absurd w }
-run_found s (Some k) (first, there) = record { within = omega (arith, first.high); before = λ i l e. first.before i (omega arith) l (is_same (get_or s i 0) e); stops = λ l. eqb-true (get_or s k 0) 92 there }
-
--- the run that ends within the first k bytes
-pub run_first : (s t : List ℕ) (k n : ℕ) → k ≤ length s → t ≡ take k s → n < k → IsRun t n → IsRun s n
-run_first s t k n fits e less run =
-    let long : length t ≡ k = ap length e ∙ length-take-le k s fits in
-    let same : (i : ℕ) → i < k → get_or t i 0 ≡ get_or s i 0 = λ i l. ap (λ (z : List ℕ). get_or z i 0) e ∙ get_or-take k s i 0 l in
-    record {
-      within = omega arith;
-      before = λ i l f. run.before i l (same i (omega arith) ∙ f);
-      stops = λ l. sym (same n less) ∙ run.stops (omega arith);
-    }
-
--- the run that goes on after the first k bytes
-pub run_joined : (s t u : List ℕ) (k n m : ℕ) → k ≤ length s → t ≡ take k s → u ≡ drop k s → k ≤ n → IsRun t n → IsRun u m → IsRun s (k + m)
-run_joined s t u k n m fits e f all run rest =
-    let long : length u ≡ length s - k = ap length f ∙ length-drop k s in
-    let inside : m ≤ length u = rest.within in
-    let prefix : (i : ℕ) → i < k → get_or t i 0 ≡ get_or s i 0 = λ i l. ap (λ (z : List ℕ). get_or z i 0) e ∙ get_or-take k s i 0 l in
-    let behind : (i : ℕ) → get_or u i 0 ≡ get_or s (k + i) 0 = λ i. ap (λ (z : List ℕ). get_or z i 0) f ∙ get_or-drop k s i 0 in
-    record {
-      within = omega arith;
-      before = λ i l. elim (cases_lt i k) as (λ _. get_or s i 0 ≢ 92) [
-        | inl less ↦ λ g. run.before i (omega arith) (prefix i less ∙ g)
-        | inr more ↦ let same : k + (i - k) ≡ i = omega arith in
-            λ g. rest.before (i - k) (omega arith) (behind (i - k) ∙ (ap (λ (z : ℕ). get_or s z 0) same ∙ g))
-      ];
-      stops = λ l. sym (behind m) ∙ rest.stops (omega arith);
-    }
+-- the bytes before the first backslash are those that are none
+pub run_is : (s : List ℕ) (n : ℕ) → IsRunOf is_no_backslash s n → IsRun s n
+run_is s n run = record {
+  within = run.within;
+  before = λ i l. grind (arith, nat_tests, run.all i l);
+  stops = λ l. grind (arith, nat_tests, run.stops l);
+}
 
 -- the bytes through the first `\` are a run
 pub run_taken : (s part rest : List ℕ) (pos k : ℕ) → 0 < k → IsRun s k → part ≡ take k s → rest ≡ drop k s → TakesRun (record { rest = s; pos = pos }) (record { rest = rest; pos = pos + k }) part

@@ -1,5 +1,5 @@
 -- What the lexer's own functions answer.
-use Rattle.std.specs.Prelude.{◌≡◌, ℕ, ◌<◌, ◌≤◌, true, false, List, Option, Some, None, length, drop, slice_index}
+use Rattle.std.specs.Prelude.{◌≡◌, ℕ, ◌<◌, false, List, Option, Some, None, length, drop, slice_index}
 use Rattle.wave_lex.specs.declared.lex.Token.{Token}
 use Rattle.wave_lex.specs.declared.lex.Token.TheVariants.{BraceOpen, BraceClose, ParenOpen, ParenClose, BracketOpen, BracketClose, Colon, Comma, Number}
 use Rattle.wave_lex.specs.declared.machine.label.LabelState.TheVariants.{Lower}
@@ -8,7 +8,6 @@ use Rattle.wave_lex.specs.Regex.{Regex}
 use Rattle.wave_lex.specs.Derive.{derivative_by}
 use Rattle.wave_lex.specs.LongestMatch.{PrefixHas}
 use Rattle.wave_lex.specs.Machines.{is_lower, label_token_rest}
-use Rattle.wave_lex.specs.Private.Machines.{is_plain}
 use Rattle.wave_lex.specs.Tokenization.{IsLongestToken, IsWhitespace, NoToken}
 
 -- which byte the mark of a class is
@@ -54,9 +53,3 @@ pub record EndsWord (shape : Regex) (s : List ℕ) (k : ℕ) : Type 0 where
 abbrev pub IsWordStep : List ℕ → Option ℕ → Type 0
 IsWordStep s None = Unit {0}
 IsWordStep s (Some k) = (0 < k) × EndsWord (label_token_rest (Label Lower)) s k
-
--- the plain bytes at the start of s are n
-pub record IsPlainRun (s : List ℕ) (n : ℕ) : Type 0 where
-  pub within : n ≤ length s
-  pub all : (i : ℕ) → i < n → is_plain (slice_index s i) ≡ true
-  pub stops : n < length s → is_plain (slice_index s n) ≡ false

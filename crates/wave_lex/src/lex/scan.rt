@@ -1,16 +1,18 @@
 //! How many bytes whitespace or a token takes at the start of a text. Runs of bytes that leave a machine
-//! in its state are counted at once; the machine reads what stands after them. The ends of a comment and
-//! of a multiline string are searched, and a char of one scalar that stands for itself is found at once.
+//! in its state are counted sixteen at a time; the machine reads what stands after them. The ends of a
+//! comment and of a multiline string are searched, and a char of one scalar that stands for itself is found
+//! at once.
 ghost use Rattle.std.specs.Prelude.{◌≡◌, ℕ, ◌+◌, ◌<◌, ◌≤◌, true, false, Some, IfSome, is_some, length, drop, slice_index};
 ghost use Rattle.wave_lex.specs.LongestMatch.{Greatest, IsPrefixOf};
 ghost use Rattle.wave_lex.specs.Strings.{short_escape};
-ghost use Rattle.wave_lex.specs.Private.Machines.{after_sign, begins_number, ends_whole, is_blank, is_plain};
-ghost use Rattle.wave_lex.specs.Machines.{is_digit, is_lower, number_rest, string_rest};
-ghost use Rattle.wave_lex.specs.Private.Reading.{LeadsTo, EndsWord, IsPlainRun, IsStep, IsWordStep};
+ghost use Rattle.wave_lex.specs.Private.Machines.{after_sign, begins_number, ends_whole, is_blank};
+ghost use Rattle.wave_lex.specs.Machines.{is_digit, number_rest, string_rest};
+ghost use Rattle.wave_lex.specs.Private.Reading.{LeadsTo, EndsWord, IsStep, IsWordStep};
 ghost use Rattle.wave_lex.specs.declared.machine.string.StringState.TheVariants.{Inside};
 ghost use Rattle.wave_lex.specs.Tokenization.{IsWhitespace};
 ghost use Rattle.wave_lex.specs.Tokens.{character, label_or_keyword, multiline_string, number, one, string, whitespace};
 
+use crate::lex::sets::{Blanks, Digits, Lowers, Plains};
 use crate::machine::character::CharState;
 use crate::machine::label::{LabelState, LabelTokenState};
 use crate::machine::longest_prefix;
@@ -18,10 +20,8 @@ use crate::machine::number::NumberState;
 use crate::machine::string::StringState;
 use crate::machine::whitespace::WhitespaceState;
 use crate::strings::hex_length;
-use memchr::{memchr, memchr3, memmem};
-
-/// How many bytes of a run are looked at in turn before the others are searched at once.
-const FEW: usize = 16;
+use memchr::{memchr, memmem};
+use wave_wasm::byte_runs::run_of;
 
 /// How many bytes the whitespace at the start takes.
 pub fn whitespace_at(text: &str) -> usize
@@ -34,7 +34,7 @@ pub fn whitespace_at(text: &str) -> usize
     if bytes.len() > 0 && bytes[0] > b' ' && bytes[0] != b'/' {
         return 0;
     }
-    let run = blanks(bytes);
+    let run = run_of::<Blanks>(bytes);
     if run == bytes.len() {
         return run;
     }
@@ -68,7 +68,7 @@ fn comments_end(text: &str) -> usize
     ensures leads { LeadsTo whitespace whitespace text.now result }
     ensures stops { result < length text.now → is_blank (slice_index text.now result) ≡ false }
 {
-    let mut place = blanks(text.as_bytes());
+    let mut place = run_of::<Blanks>(text.as_bytes());
     while let Some(count) = comment_at(text, place) {
         place += count;
     }
@@ -86,7 +86,7 @@ fn comment_at(text: &str, place: usize) -> Option<usize>
         return None;
     }
     let line = memchr(b'\n', &rest[2..])? + 3;
-    Some(line + blanks(&rest[line..]))
+    Some(line + run_of::<Blanks>(&rest[line..]))
 }
 
 /// How many bytes the mark takes, where it stands at the start.
@@ -110,7 +110,7 @@ pub fn number_at(text: &str) -> Option<usize>
 {
     let sign = sign_at(text);
     let whole = &text.as_bytes()[sign..];
-    let run = digits(whole);
+    let run = run_of::<Digits>(whole);
     if run == 0 {
         return longest_prefix(NumberState::Start, text);
     }
@@ -141,7 +141,7 @@ pub fn label_at(text: &str) -> Option<usize>
     ensures { Greatest (IsPrefixOf label_or_keyword text.now) result }
 {
     let bytes = text.as_bytes();
-    let run = lowers(bytes);
+    let run = run_of::<Lowers>(bytes);
     if run == 0 {
         return longest_prefix(LabelTokenState::Start, text);
     }
@@ -186,7 +186,7 @@ pub fn string_at(text: &str) -> Option<usize>
     if bytes[0] != b'"' {
         return longest_prefix(StringState::Start, text);
     }
-    let plain = plains(text[1..].as_bytes()) + 1;
+    let plain = run_of::<Plains>(text[1..].as_bytes()) + 1;
     if plain < bytes.len() && bytes[plain] == b'"' {
         return Some(plain + 1);
     }
@@ -265,7 +265,7 @@ fn word_at(text: &str) -> Option<usize>
     if bytes.len() < 2 || bytes[0] != b'-' || is_digit(bytes[1]) {
         return None;
     }
-    let run = lowers(&bytes[1..]);
+    let run = run_of::<Lowers>(&bytes[1..]);
     if run == 0 {
         return None;
     }
@@ -294,7 +294,7 @@ fn piece_at(text: &str, place: usize) -> Option<usize>
     if let Some(count) = escape_at(rest) {
         return Some(count);
     }
-    let run = plains(rest);
+    let run = run_of::<Plains>(rest);
     if run == 0 {
         return None;
     }
@@ -340,13 +340,6 @@ fn ends_short(byte: u8) -> bool
     SHORTS[byte as usize] == b'.'
 }
 
-/// The byte is a space, a tab, a line feed or a carriage return.
-fn is_blank(byte: u8) -> bool
-    ensures { result ≡ is_blank byte }
-{
-    matches!(byte, b' ' | b'\t' | b'\n' | b'\r')
-}
-
 /// The byte is a minus or a digit.
 pub fn begins_number(byte: u8) -> bool
     ensures { result ≡ begins_number byte }
@@ -366,116 +359,4 @@ fn ends_whole(byte: u8) -> bool
     ensures { result ≡ ends_whole byte }
 {
     !matches!(byte, b'.' | b'e' | b'E')
-}
-
-/// Each lower-case letter and each digit at its own place, and a comma at every other.
-static LOWERS: [u8; 256] = *b"\
-    ,,,,,,,,,,,,,,,,,,,,,,,,,,,,,,,,\
-    ,,,,,,,,,,,,,,,,0123456789,,,,,,\
-    ,,,,,,,,,,,,,,,,,,,,,,,,,,,,,,,,\
-    ,abcdefghijklmnopqrstuvwxyz,,,,,\
-    ,,,,,,,,,,,,,,,,,,,,,,,,,,,,,,,,\
-    ,,,,,,,,,,,,,,,,,,,,,,,,,,,,,,,,\
-    ,,,,,,,,,,,,,,,,,,,,,,,,,,,,,,,,\
-    ,,,,,,,,,,,,,,,,,,,,,,,,,,,,,,,,";
-
-/// The byte is a lower-case letter or a digit.
-fn is_lower(byte: u8) -> bool
-    ensures { result ≡ is_lower byte }
-{
-    LOWERS[byte as usize] != b','
-}
-
-/// A comma at the place of each byte that does not stand for itself within a string in one line: the
-/// double quote, the backslash and the line feed.
-static PLAINS: [u8; 256] = *b"\
-    ..........,.....................\
-    ..,.............................\
-    ............................,...\
-    ................................\
-    ................................\
-    ................................\
-    ................................\
-    ................................";
-
-/// The byte stands for itself within a string in one line.
-fn is_plain(byte: u8) -> bool
-    ensures { result ≡ is_plain byte }
-{
-    PLAINS[byte as usize] == b'.'
-}
-
-/// How many blanks stand at the start.
-fn blanks(bytes: &[u8]) -> usize
-    ensures within { result ≤ length bytes.now }
-    ensures all { (i : ℕ) → i < result → is_blank (slice_index bytes.now i) ≡ true }
-    ensures stops { result < length bytes.now → is_blank (slice_index bytes.now result) ≡ false }
-{
-    for (i, byte) in bytes.iter().enumerate() {
-        if !is_blank(*byte) {
-            return i;
-        }
-    }
-    bytes.len()
-}
-
-/// How many digits stand at the start.
-fn digits(bytes: &[u8]) -> usize
-    ensures within { result ≤ length bytes.now }
-    ensures all { (i : ℕ) → i < result → is_digit (slice_index bytes.now i) ≡ true }
-    ensures stops { result < length bytes.now → is_digit (slice_index bytes.now result) ≡ false }
-{
-    for (i, byte) in bytes.iter().enumerate() {
-        if !is_digit(*byte) {
-            return i;
-        }
-    }
-    bytes.len()
-}
-
-/// How many lower-case letters and digits stand at the start.
-fn lowers(bytes: &[u8]) -> usize
-    ensures within { result ≤ length bytes.now }
-    ensures all { (i : ℕ) → i < result → is_lower (slice_index bytes.now i) ≡ true }
-    ensures stops { result < length bytes.now → is_lower (slice_index bytes.now result) ≡ false }
-{
-    for (i, byte) in bytes.iter().enumerate() {
-        if !is_lower(*byte) {
-            return i;
-        }
-    }
-    bytes.len()
-}
-
-/// How many bytes at the start stand for themselves within a string in one line.
-fn plains(bytes: &[u8]) -> usize
-    ensures { IsPlainRun bytes.now result }
-{
-    if bytes.len() <= FEW {
-        return plains_bytewise(bytes);
-    }
-    let run = plains_bytewise(&bytes[..FEW]);
-    if run < FEW {
-        return run;
-    }
-    FEW + plains_by_memchr(&bytes[FEW..])
-}
-
-/// The same, by looking at each.
-fn plains_bytewise(bytes: &[u8]) -> usize
-    ensures { IsPlainRun bytes.now result }
-{
-    for (i, byte) in bytes.iter().enumerate() {
-        if !is_plain(*byte) {
-            return i;
-        }
-    }
-    bytes.len()
-}
-
-/// The same, by a search for the bytes that are not plain.
-fn plains_by_memchr(bytes: &[u8]) -> usize
-    ensures { IsPlainRun bytes.now result }
-{
-    memchr3(b'"', b'\\', b'\n', bytes).unwrap_or(bytes.len())
 }

@@ -9,9 +9,9 @@ pub returns-clause-step : goal.returns-clause-step
 returns-clause-step c = (
   omega arith,
   comment_step _ _ _ _ _ _ (take_rest _ c.args.place ∙ ap (drop c.args.place) c.as_bytes.ensures.value) (IsUtf8-drop _ _ c.utf8.text (lead_boundary _ _ _ _ c.utf8.text c.requires))
-      (omega arith) (omega arith) (omega arith) (take_rest _ 2) c.in_ok-line.ensures (take_rest _ (c.in_ok-line.field-0 + 3)) c.blanks.ensures.within c.blanks.ensures.all,
+      (omega arith) (omega arith) (omega arith) (take_rest _ 2) c.in_ok-line.ensures (take_rest _ (c.in_ok-line.field-0 + 3)) c.run_of.ensures.within c.run_of.ensures.all,
 )
 
 pub returns-clause-stops : goal.returns-clause-stops
-returns-clause-stops c = behind_comment _ _ _ c.args.place (c.in_ok-line.field-0 + 3) c.blanks.result
-    (take_rest _ c.args.place ∙ ap (drop c.args.place) c.as_bytes.ensures.value) (take_rest _ (c.in_ok-line.field-0 + 3)) c.blanks.ensures.stops
+returns-clause-stops c = behind_comment _ _ _ c.args.place (c.in_ok-line.field-0 + 3) c.run_of.result
+    (take_rest _ c.args.place ∙ ap (drop c.args.place) c.as_bytes.ensures.value) (take_rest _ (c.in_ok-line.field-0 + 3)) c.run_of.ensures.stops

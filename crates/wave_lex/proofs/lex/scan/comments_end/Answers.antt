@@ -7,8 +7,8 @@ use Rattle.wave_lex.proofs.lex.scan.comments_end.Goals as goal
 
 pub loop-count-init : goal.loop-count-init
 loop-count-init c = (
-  blanks_lead _ _ _ c.as_bytes.ensures.value c.blanks-place.ensures.within c.blanks-place.ensures.all,
-  subst (λ (s : List ℕ). c.blanks-place.result < length s → is_blank (get_or s c.blanks-place.result 0) ≡ false) c.as_bytes.ensures.value c.blanks-place.ensures.stops,
+  blanks_lead _ _ _ c.as_bytes.ensures.value c.run_of-place.ensures.within c.run_of-place.ensures.all,
+  subst (λ (s : List ℕ). c.run_of-place.result < length s → is_blank (get_or s c.run_of-place.result 0) ≡ false) c.as_bytes.ensures.value c.run_of-place.ensures.stops,
 )
 
 pub loop-count-preserved : goal.loop-count-preserved

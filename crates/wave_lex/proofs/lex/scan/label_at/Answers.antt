@@ -8,7 +8,7 @@ use Rattle.wave_lex.proofs.QuickScan.WordRuns.{word_first, words_are}
 use Rattle.wave_lex.proofs.lex.scan.label_at.Goals as goal
 
 pub words_end-place-requires : goal.words_end-place-requires
-words_end-place-requires c = word_first _ _ _ c.as_bytes-bytes.ensures.value (omega arith) c.lowers-run.ensures.within c.lowers-run.ensures.all (sym c.is_digit.ensures ∙ c.if-is_digit.false) c.lowers-run.ensures.stops
+words_end-place-requires c = word_first _ _ _ c.as_bytes-bytes.ensures.value (omega arith) c.run_of-run.ensures.within c.run_of-run.ensures.all (sym c.is_digit.ensures ∙ c.if-is_digit.false) c.run_of-run.ensures.stops
 
 pub range_from-requires : goal.range_from-requires
 range_from-requires c = λ _. lead_boundary _ _ _ _ c.utf8.text c.words_end-place.ensures.leads
@@ -27,5 +27,5 @@ returns-then-bytes-place-ne45 c = words_are _ _ _ c.as_bytes-bytes.ensures.value
 
 pub returns-then-bytes-run-ne45 : goal.returns-then-bytes-run-ne45
 returns-then-bytes-run-ne45 c = words_are _ _ _ c.as_bytes-bytes.ensures.value
-    (word_first _ _ _ c.as_bytes-bytes.ensures.value (omega arith) c.lowers-run.ensures.within c.lowers-run.ensures.all (sym c.is_digit.ensures ∙ c.if-is_digit.false) c.lowers-run.ensures.stops)
+    (word_first _ _ _ c.as_bytes-bytes.ensures.value (omega arith) c.run_of-run.ensures.within c.run_of-run.ensures.all (sym c.is_digit.ensures ∙ c.if-is_digit.false) c.run_of-run.ensures.stops)
     (λ _. c.if-bytes-run-ne45.true)

@@ -13,23 +13,23 @@ behind_sign s b p e = take_rest b p ∙ ap (drop p) e
 
 pub range_from-requires : goal.range_from-requires
 range_from-requires c = λ _. lead_boundary _ _ _ _ c.utf8.text
-    (digits_lead _ _ _ _ (behind_sign _ _ _ c.as_bytes.ensures.value) c.sign_at-sign.ensures.leads (omega arith) c.digits-run.ensures.within c.digits-run.ensures.all c.if-whole-eq48.false)
+    (digits_lead _ _ _ _ (behind_sign _ _ _ c.as_bytes.ensures.value) c.sign_at-sign.ensures.leads (omega arith) c.run_of-run.ensures.within c.run_of-run.ensures.all c.if-whole-eq48.false)
 
 pub returns-in_default : goal.returns-in_default
 returns-in_default c = absurd (prefix_there (number_rest Whole) _ refl c.in_default.ensures)
 
 pub returns : goal.returns
 returns c = prefix_behind number (number_rest Whole) _ _ _ _ c.range_from.ensures.value
-    (digits_lead _ _ _ _ (behind_sign _ _ _ c.as_bytes.ensures.value) c.sign_at-sign.ensures.leads (omega arith) c.digits-run.ensures.within c.digits-run.ensures.all c.if-whole-eq48.false)
+    (digits_lead _ _ _ _ (behind_sign _ _ _ c.as_bytes.ensures.value) c.sign_at-sign.ensures.leads (omega arith) c.run_of-run.ensures.within c.run_of-run.ensures.all c.if-whole-eq48.false)
     c.in-Some.ensures
 
 pub returns-then-run-whole : goal.returns-then-run-whole
-returns-then-run-whole c = digits_end _ _ _ _ (behind_sign _ _ _ c.as_bytes.ensures.value) c.sign_at-sign.ensures.leads (omega arith) c.digits-run.ensures.within c.digits-run.ensures.all c.if-whole-eq48.false
-    c.digits-run.ensures.stops (λ k. let w : ⊥ = omega arith in absurd w)
+returns-then-run-whole c = digits_end _ _ _ _ (behind_sign _ _ _ c.as_bytes.ensures.value) c.sign_at-sign.ensures.leads (omega arith) c.run_of-run.ensures.within c.run_of-run.ensures.all c.if-whole-eq48.false
+    c.run_of-run.ensures.stops (λ k. let w : ⊥ = omega arith in absurd w)
 
 pub returns-then-ends_whole-2 : goal.returns-then-ends_whole-2
-returns-then-ends_whole-2 c = digits_end _ _ _ _ (behind_sign _ _ _ c.as_bytes.ensures.value) c.sign_at-sign.ensures.leads (omega arith) c.digits-run.ensures.within c.digits-run.ensures.all c.if-whole-eq48.false
-    c.digits-run.ensures.stops (λ k. sym c.ends_whole-2.ensures ∙ c.if-ends_whole-2.true)
+returns-then-ends_whole-2 c = digits_end _ _ _ _ (behind_sign _ _ _ c.as_bytes.ensures.value) c.sign_at-sign.ensures.leads (omega arith) c.run_of-run.ensures.within c.run_of-run.ensures.all c.if-whole-eq48.false
+    c.run_of-run.ensures.stops (λ k. sym c.ends_whole-2.ensures ∙ c.if-ends_whole-2.true)
 
 pub returns-then-whole-eq1 : goal.returns-then-whole-eq1
 returns-then-whole-eq1 c = zero_end _ _ _ (behind_sign _ _ _ c.as_bytes.ensures.value) c.sign_at-sign.ensures.leads (omega arith) (omega arith) (λ k. let w : ⊥ = omega arith in absurd w)

@@ -8,5 +8,5 @@ use Rattle.wave_lex.proofs.lex.scan.piece_at.Goals as goal
 pub returns : goal.returns
 returns c = (
   omega arith,
-  plains_here _ _ _ (take_rest _ c.args.place ∙ ap (drop c.args.place) c.as_bytes.ensures.value) (IsUtf8-drop _ _ c.utf8.text (lead_boundary _ _ _ _ c.utf8.text c.requires)) c.plains-run.ensures,
+  plains_here _ _ _ (take_rest _ c.args.place ∙ ap (drop c.args.place) c.as_bytes.ensures.value) (IsUtf8-drop _ _ c.utf8.text (lead_boundary _ _ _ _ c.utf8.text c.requires)) c.run_of-run.ensures,
 )

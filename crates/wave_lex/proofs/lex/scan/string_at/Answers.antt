@@ -11,11 +11,11 @@ pub range_from-requires : goal.range_from-requires
 range_from-requires c = λ _. lead_boundary _ _ _ _ c.utf8.text (quote_leads _ _ c.as_bytes-bytes.ensures.value (omega arith) (omega arith))
 
 pub inside_end-inside-requires : goal.inside_end-inside-requires
-inside_end-inside-requires c = plains_lead _ _ _ _ _ c.as_bytes-bytes.ensures.value (omega arith) (omega arith) c.range_from.ensures.value c.range_from.utf8 c.as_bytes.ensures.value c.plains-plain.ensures
+inside_end-inside-requires c = plains_lead _ _ _ _ _ c.as_bytes-bytes.ensures.value (omega arith) (omega arith) c.range_from.ensures.value c.range_from.utf8 c.as_bytes.ensures.value c.run_of-plain.ensures
 
 pub returns-then-bytes-plain-eq34 : goal.returns-then-bytes-plain-eq34
 returns-then-bytes-plain-eq34 c = string_closes _ _ _ c.as_bytes-bytes.ensures.value
-    (plains_lead _ _ _ _ _ c.as_bytes-bytes.ensures.value (omega arith) (omega arith) c.range_from.ensures.value c.range_from.utf8 c.as_bytes.ensures.value c.plains-plain.ensures)
+    (plains_lead _ _ _ _ _ c.as_bytes-bytes.ensures.value (omega arith) (omega arith) c.range_from.ensures.value c.range_from.utf8 c.as_bytes.ensures.value c.run_of-plain.ensures)
     c.if-plain-bytes.true c.if-bytes-plain-eq34.true
 
 pub returns-then-bytes-inside-eq34 : goal.returns-then-bytes-inside-eq34

@@ -6,5 +6,5 @@ pub returns : goal.returns
 returns c = (
   omega arith,
   word_here _ _ _ _ c.as_bytes-bytes.ensures.value (take_all _ _ (le_of_eq (length-drop 1 c.as_bytes-bytes.result.now))) (omega arith) (omega arith)
-      (sym c.is_digit.ensures ∙ c.if-is_digit.false) (omega arith) c.lowers-run.ensures.within c.lowers-run.ensures.all c.lowers-run.ensures.stops,
+      (sym c.is_digit.ensures ∙ c.if-is_digit.false) (omega arith) c.run_of-run.ensures.within c.run_of-run.ensures.all c.run_of-run.ensures.stops,
 )

@@ -1,6 +1,0 @@
-use Rattle.std.proofs.Common.{◌≡◌, ℕ, ◌<◌, true, get_or}
-use Rattle.wave_lex.specs.Machines.{is_lower}
-use Rattle.wave_lex.proofs.lex.scan.lowers.Given as goal
-
-abbrev pub invariant-loop-i : goal.invariant-loop-i
-invariant-loop-i l = (k : ℕ) → k < l.i → is_lower (get_or l.bytes k 0) ≡ true
