@@ -1,5 +1,5 @@
 //! The parts of a value of any type.
-ghost use Rattle.std.specs.Prelude.{ℕ, ◌≡◌, ◌++◌, List, [], ◌∷◌, None, Err, IfOk, IfErr, IsOk, MatchBool, MatchOption};
+ghost use Rattle.std.specs.Prelude.{ℕ, ◌≡◌, ◌++◌, List, [], ◌∷◌, None, Ok, Err, IfOk, IfErr, IsOk, MatchBool, MatchOption};
 ghost use Rattle.wave_wasm.specs.Types.{TypeTree, kind_of};
 ghost use Rattle.wave_wasm.specs.ConstructorContracts.{IsOfListKind};
 ghost use Rattle.wave_wasm.specs.Borrowed.{shown};
@@ -256,24 +256,48 @@ impl<'ty, V: WasmValue> Partial<'ty, V::Type, V> {
         }
     }
 
-    /// Adds the next value, of one token, where it is an item of a list that is read at once; says whether
-    /// it was.
+    /// Adds the next value, of one token, where it is read at once; says whether it was. An item of a list is
+    /// added where this is called.
     #[inline(always)]
     pub(crate) fn push_fast(&mut self, alloc: Global, leaf: &Leaf<'_>) -> Result<bool, AllocError>
         ensures grown { IfOk result (λ added. MatchBool added
             ((w : Order) (T : TypeTree) (source : List ℕ) (of : NodeType) (children : List NodeTree) → IsLeafIn source leaf.now
-            → AreParts V.Type.tree V.tree V.is_of V.is_full w T source of children self.old
+            → TakesPart of children → AreParts V.Type.tree V.tree V.is_of V.is_full w T source of children self.old
             → AreParts V.Type.tree V.tree V.is_of V.is_full w T source of (children ++ leaf_node leaf.now ∷ []) self.new)
             (self.new ≡ self.old)) }
         ensures bare { IsBare self.old → (self.new ≡ self.old) × IsOk result }
     {
         match self {
             Partial::Items(items) => items.push_fast(alloc, leaf),
-            _ => Ok(false),
+            _ => self.push_other_fast(alloc, leaf),
         }
     }
 
     /// The same for the parts of a value that is no list.
+    #[inline(never)]
+    fn push_other_fast(&mut self, alloc: Global, leaf: &Leaf<'_>) -> Result<bool, AllocError>
+        requires { AreNoItems self.now }
+        ensures grown { IfOk result (λ added. MatchBool added
+            ((w : Order) (T : TypeTree) (source : List ℕ) (of : NodeType) (children : List NodeTree) → IsLeafIn source leaf.now
+            → TakesPart of children → AreParts V.Type.tree V.tree V.is_of V.is_full w T source of children self.old
+            → AreParts V.Type.tree V.tree V.is_of V.is_full w T source of (children ++ leaf_node leaf.now ∷ []) self.new)
+            (self.new ≡ self.old)) }
+        ensures bare { IsBare self.old → (self.new ≡ self.old) × IsOk result }
+    {
+        let ty = match self.next() {
+            Some(ty) => ty,
+            None => return Ok(false),
+        };
+        match leaf.read_fast(alloc, ty) {
+            Some(val) => {
+                self.push_value(alloc, val)?;
+                Ok(true)
+            }
+            None => Ok(false),
+        }
+    }
+
+    /// Adds a part of a value that is no list.
     #[inline(never)]
     fn push_other_part(
         &mut self,
@@ -287,10 +311,22 @@ impl<'ty, V: WasmValue> Partial<'ty, V::Type, V> {
             → AreParts V.Type.tree V.tree V.is_of V.is_full w T source of (children ++ n ∷ []) self.new) }
         ensures bare { IsBare self.old → (self.new ≡ self.old) × IsOk result }
     {
-        let val = match built {
-            Ok(val) => val,
-            Err(error) => return self.push_failed(alloc, error),
-        };
+        match built {
+            Ok(val) => self.push_value(alloc, val),
+            Err(error) => self.push_failed(alloc, error),
+        }
+    }
+
+    /// The same for a part that was made.
+    #[inline(always)]
+    fn push_value(&mut self, alloc: Global, val: V) -> Result<(), AllocError>
+        requires { AreNoItems self.now }
+        ensures grown { IfOk result (λ _. (w : Order) (T : TypeTree) (source : List ℕ) (of : NodeType) (children : List NodeTree) (n : NodeTree)
+            → TakesPart of children → AreParts V.Type.tree V.tree V.is_of V.is_full w T source of children self.old
+            → IsReadWhereExpected V.tree V.is_of V.is_full w w (shown V.Type.tree (next_expected self.old)) source n (Ok val)
+            → AreParts V.Type.tree V.tree V.is_of V.is_full w T source of (children ++ n ∷ []) self.new) }
+        ensures bare { IsBare self.old → (self.new ≡ self.old) × IsOk result }
+    {
         match self {
             Partial::TupleItems(row) => row.push_part(val),
             Partial::OfSome(payload) => payload.push_part(alloc, Ok(val)),

@@ -8,7 +8,7 @@ use Rattle.wave_read.proofs.values.Frame+V+Type+V.push_leaf.Goals as goal
 pub returns-then-branch-clause-kept : goal.returns-then-branch-clause-kept
 returns-then-branch-clause-kept g c = λ w expected source whole children here takes kept.
     one_more g.V.Type.WasmType.tree g.V.WasmValue.tree g.V.WasmValue.is_of g.V.WasmValue.is_full w source whole expected children (node c.args.ty c.args.span no_nodes) c.args.self.now c.push_fast.new.self
-    (λ U parts. (rw c.if-branch.true at c.in_ok-push_fast.ensures.grown) w U source whole children here parts) (λ bare. (c.push_fast.ensures.bare bare).0) kept
+    (λ U parts. (rw c.if-branch.true at c.in_ok-push_fast.ensures.grown) w U source whole children here takes parts) (λ bare. (c.push_fast.ensures.bare bare).0) kept
 
 pub returns-clause-kept : goal.returns-clause-kept
 returns-clause-kept g c =
