@@ -1,5 +1,5 @@
 -- What is told of what may stand at a place.
-use Rattle.std.proofs.Common.{ℕ, ◌≡◌, inl, inr, List, [], ◌++◌, Some, None, subst, sym, ap, ◌∙◌, append_assoc}
+use Rattle.std.proofs.Common.{ℕ, ◌≡◌, inl, inr, List, [], ◌++◌, Some, subst, sym, ap, ◌∙◌, append_assoc}
 use Rattle.wave_tree.specs.declared.expected.Expected.{Expected}
 use Rattle.wasm_wave.specs.declared.explain.syntax.Reading.{Reading}
 use Rattle.wasm_wave.specs.declared.explain.syntax.Reading.TheVariants.{Value, Call}
@@ -11,11 +11,6 @@ use Rattle.wasm_wave.specs.Private.Readings.{MayStandAs, TellsAs}
 pub reported_as : (r : Reading) (source : List ℕ) (at : ℕ) (x : Expected) (lines : List ℕ) → MayStandAs r source at (Some x) → ReportsExpected x lines → TellsAs r source at lines
 reported_as Value source at x lines may reported = (x, may, reported)
 reported_as Call source at x lines may reported = inr (x, may, reported)
-
--- nothing is expected where a call has no name
-pub none_as : (r : Reading) (source : List ℕ) (at : ℕ) (lines : List ℕ) → MayStandAs r source at None → TellsAs r source at lines
-none_as Value source at lines never = absurd never
-none_as Call source at lines unnamed = inl unnamed
 
 -- further lines change nothing
 more_reported : (x : Expected) (lines more : List ℕ) → ReportsExpected x lines → ReportsExpected x (lines ++ more)

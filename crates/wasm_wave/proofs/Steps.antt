@@ -16,7 +16,7 @@ use Rattle.wave_grammar.specs.NodeTree.{NodeTree, type_of, children_of}
 use Rattle.wave_grammar.specs.NodeAccessors.{node_pairs, node_text, first_of, GivesOption, GivesResult, GivesVariant}
 use Rattle.wave_grammar.specs.TypedReading.{IsValueOf}
 use Rattle.wave_grammar.specs.declared.form.NodeType.TheVariants as form
-use Rattle.wave_wasm.specs.Borrowed.{shown, shown_all, shown_fields}
+use Rattle.wave_wasm.specs.Borrowed.{shown_all, shown_fields}
 use Rattle.wave_wasm.proofs.Names.MappedSearch.{find-map}
 use Rattle.wave_grammar.specs.ErrorSpans.{LiesInNode}
 use Rattle.wasm_wave.specs.Paths.{Step, field, case, entry, key, item, some, ok, err, alone, field_type, case_type, StepsTo, IsDeepest, IsPartAt, StandsAlone, HoldsAlone, step_text, path_text}
@@ -185,10 +185,6 @@ pub record IsSearch {A : Type 0} (P : A → Type 0) (whole left : List A) : Type
   pub so_far : AllOf P left → AllOf P whole
   pub among : (a : A) → SomeOf (λ x. x ≡ a) left → SomeOf (λ x. x ≡ a) whole
 
--- before the first
-pub search_start : {A : Type 0} (P : A → Type 0) (whole : List A) → IsSearch P whole whole
-search_start P whole = record { so_far = λ all. all; among = λ a one. one }
-
 -- P holds of the next
 pub search_more : {A : Type 0} (P : A → Type 0) (whole left : List A) (a : A) (more : List A) → IsSearch P whole left → left ≡ a ∷ more → P a → IsSearch P whole more
 search_more P whole left a more s is holds = let now = subst (IsSearch P whole) is s in record {
@@ -219,10 +215,6 @@ pub none_more : (nodes : List NodeTree) (i : ℕ) (span : Range ℕ) (n : NodeTr
 none_more nodes i span n so_far is not = λ k m lt at lies.
     below_more (λ k. (m : NodeTree) → slice_get nodes k ≡ Some m → LiesInNode m span → ⊥) i (λ k lt m at. so_far k m lt at)
     (λ m at lies. not (subst (λ x. LiesInNode x span) (sym (is ∙ get_or_from_slice_get nodes i m n at)) lies)) k lt m at lies
-
--- none of those that there are among the first so many
-pub none_at_all : (nodes : List NodeTree) (count i : ℕ) (span : Range ℕ) → NoneHolds nodes i span → ((k : ℕ) → k < count → k < length nodes → k < i) → NoneHolds nodes count span
-none_at_all nodes count i span so_far past = λ k m lt at lies. so_far k m (past k lt (slice_get_within nodes k m at)) at lies
 
 -- ---- what a call found
 
@@ -277,18 +269,6 @@ module _ {S : Type 0} (tree : S → TypeTree) where
       shown_type : (o : Option (Bor (List ℕ) × Bor S)) → option_map (λ (f : List ℕ × TypeTree). f.1) (option_map (λ d. (d.0.now, tree d.1.now)) o) ≡ option_map (λ d. tree d.1.now) o
       shown_type None = refl
       shown_type (Some d) = refl
-
-  -- the type of a case's payload, by the first of the cases that has the name
-  pub case_none : (T : TypeTree) (name : List ℕ) (c : Bor (List ℕ)) (payload : Option (Bor S)) → Some (c.now, shown tree payload) ≡ find (λ c. bytes_eq name c.0) (variant_parts T) → IfNone payload ((U : TypeTree) → case_type name T ≡ Some (Some U) → ⊥)
-  case_none T name c None is = λ U e. no_payload (ap (option_map (λ (c : List ℕ × Option TypeTree). c.1)) is ∙ e)
-    where
-      no_payload : {U : TypeTree} → Some None ≡ Some (Some U) → ⊥
-      no_payload e = cc
-  case_none T name c (Some t) is = tt
-
-  pub case_some : (T : TypeTree) (name : List ℕ) (c : Bor (List ℕ)) (payload : Option (Bor S)) → Some (c.now, shown tree payload) ≡ find (λ c. bytes_eq name c.0) (variant_parts T) → IfSome payload (λ t. case_type name T ≡ Some (Some (tree t.now)))
-  case_some T name c None is = tt
-  case_some T name c (Some t) is = sym (ap (option_map (λ (c : List ℕ × Option TypeTree). c.1)) is)
 
 -- the first case that has the name is none
 pub no_case : (T : TypeTree) (name : List ℕ) → None ≡ find (λ c. bytes_eq name c.0) (variant_parts T) → (U : TypeTree) → case_type name T ≡ Some (Some U) → ⊥

@@ -25,14 +25,6 @@ ends_alike (a ∷ xs) (b ∷ ys) x y e =
     let h = ends_alike xs ys x y (ap (drop 1) e) in
     (λ i. ap (λ z. get_or z 0 []) e i ∷ h.0 i, h.1)
 
--- no arguments
-pub no_lines_of_none : (words : List (List ℕ)) (request : Request) → words ≡ [] → AskFor (Lines request) words → ⊥
-no_lines_of_none words request none (prefix, is, makes) = absurd (omega (arith, ap length (sym none ∙ is), length-append prefix (codes "--lines" ∷ [])))
-
--- another last one
-pub no_lines_of_other : (words prefix : List (List ℕ)) (last : List ℕ) (request : Request) → words ≡ prefix ++ last ∷ [] → last ≢ codes "--lines" → AskFor (Lines request) words → ⊥
-no_lines_of_other words prefix last request is other (before, lines, makes) = other (ends_alike prefix before last (codes "--lines") (sym is ∙ lines)).1
-
 -- `--lines` behind what makes no request
 pub no_lines_of_unknown : (words prefix : List (List ℕ)) (request : Request) → words ≡ prefix ++ codes "--lines" ∷ [] → MakeNone prefix → AskFor (Lines request) words → ⊥
 no_lines_of_unknown words prefix request is none (before, lines, makes) =

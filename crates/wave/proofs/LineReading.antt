@@ -79,12 +79,6 @@ takes_last (Some xs) None l one some taken end = absurd taken
 takes_last (Some xs) (Some ys) l one some taken end =
     ap lines (taken ∙ (ap (λ z. l ++ z) end ∙ append-nil l)) ∙ (last_line l one some ∙ ap (λ z. l ∷ lines z) (sym end))
 
--- nothing was taken, and nothing is left
-pub takes_none : (a b : Option (List ℕ)) → Consumes a b [] → IsAtEnd b → IsAtEnd a
-takes_none None b taken end = tt
-takes_none (Some xs) None taken end = absurd taken
-takes_none (Some xs) (Some ys) taken end = taken ∙ end
-
 -- nothing is unread, and the reader has nothing
 pub end_left : (r : Option (List ℕ)) (unread : List ℕ) → unread ≡ [] → IsAtEnd r → IsAtEnd (prepend_known unread r)
 end_left None unread none end = tt

@@ -164,13 +164,6 @@ module _ {W : Type 0} (contents : W → Option (List ℕ)) where
   shows_nothing a true = inl (whole_nothing a)
   shows_nothing a false = refl
 
-  -- a text was written unless a write had failed
-  pub shows_by : (a b : Output W) (t : List ℕ) (was is : Bool) → (was ≡ true → is ≡ true → WritesWhole contents a b t) → (was ≡ true → is ≡ false → WritesLess contents a b t) → (was ≡ false → (b ≡ a) × (is ≡ false))
-      → ShowsLast contents a b was t
-  shows_by a b t true true whole less none = inl (whole refl refl)
-  shows_by a b t true false whole less none = inr (less refl refl)
-  shows_by a b t false is whole less none = let h = none refl in h.0
-
 -- whether anything is shown
 refused_more : (s t : List ℕ) (was empty : Bool) → MatchBool was (s ≢ []) (s ≡ []) → MatchBool empty (t ≡ []) (t ≢ []) → MatchBool (was || not empty) (s ++ t ≢ []) (s ++ t ≡ [])
 refused_more s t true empty old new = longer s t old

@@ -1,11 +1,11 @@
 -- What is written of one line.
-use Rattle.std.proofs.Common.{ℕ, ◌≡◌, ◌≢◌, Bool, true, false, List, [], Result, Ok, Err, refl, subst, inl, inr}
+use Rattle.std.proofs.Common.{ℕ, ◌≡◌, ◌≢◌, Bool, true, false, List, [], Result, Ok, Err, refl, subst, inr}
 use Rattle.std.specs.Prelude.{MatchBool, is_ok, IsUtf8}
 use Rattle.wave_lex.specs.Errors.{Diagnostic}
 use Rattle.wave_lex.specs.declared.error.ParserErrorKind.TheVariants as kind
 use Rattle.wave_tree.specs.ParserState.{Finishes, start_of}
 use Rattle.wave.specs.declared.request.Request.{Request}
-use Rattle.wave.specs.Answers.{Answers, IsRefused}
+use Rattle.wave.specs.Answers.{IsRefused}
 use Rattle.wave.specs.ByLines.{IsBlank, HasItem, IsLineExplained, IsLineAnswer}
 use Rattle.wave.specs.Lines.{line}
 
@@ -15,14 +15,6 @@ blank_or_not text (Ok u) ends = ends
 blank_or_not text (Err e) (behind, any, says) = (behind, any)
 
 module _ (request : Request) (number : ℕ) (bytes text : List ℕ) (is : text ≡ bytes) (utf8 : IsUtf8 bytes) (printed shown : List ℕ) where
-  -- a blank line
-  pub blank_line : (b : Bool) → b ≡ true → MatchBool b (IsBlank text) (HasItem text) → printed ≡ line [] → shown ≡ [] → (said : List ℕ) × IsLineAnswer request number bytes said shown × (printed ≡ line said)
-  blank_line true e blank prints shows = ([], (utf8, inl (subst IsBlank is blank, refl, shows)), prints)
-  blank_line false e blank prints shows = absurd (cc e)
-
-  -- a line that has an answer
-  pub answered_line : (answer : List ℕ) → Answers request text answer → printed ≡ line answer → shown ≡ [] → (said : List ℕ) × IsLineAnswer request number bytes said shown × (printed ≡ line said)
-  answered_line answer answers prints shows = (answer, (utf8, inr (inl (subst (λ t. Answers request t answer) is answers, shows))), prints)
 
   -- a line that was refused
   pub refused_line : (e : Diagnostic) (b : Bool) → b ≡ false → MatchBool b (IsBlank text) (HasItem text) → (e.kind ≢ kind.OutOfMemory → IsRefused request text e) → e.kind ≢ kind.OutOfMemory

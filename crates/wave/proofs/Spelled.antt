@@ -1,16 +1,14 @@
 -- In types that a text spells no name stands twice, and a text spells one type, and one list of parameters.
-use Rattle.std.proofs.Common.{ℕ, ◌≡◌, ◌≢◌, ◌≤◌, ◌↔◌, ◌∙◌, Bool, true, false, IsTrue, List, [], ◌∷◌, Some, None, drop, inl, inr, refl, sym, ap, subst, arith, codes}
+use Rattle.std.proofs.Common.{ℕ, ◌≡◌, ◌≢◌, ◌≤◌, ◌↔◌, ◌∙◌, Bool, true, false, IsTrue, List, [], ◌∷◌, Some, None, drop, refl, sym, ap, subst, arith, codes}
 use Rattle.std.specs.Prelude.{max}
 use Rattle.wave_wasm.specs.Lists.{AllOf}
 use Rattle.wave_wasm.specs.Names.{AreDistinct}
 use Rattle.wave_wasm.specs.Types as type
 use Rattle.wave_wasm.specs.Types.{TypeTree, MaybeType, Types, Fields, Cases, no_type, a_type, no_types, type_and, no_fields, field, no_cases, case_of, fields_of, field_list, field_names, HasDistinctNames, EachNamesOfMaybe, EachNamesOfTypes, EachNamesOfFields, EachNamesOfCases}
 use Rattle.wave_lex.specs.Labels.{HasDistinctLabels}
-use Rattle.wave_type.specs.FunctionSpelling.{SpellsParts, IsFunctionOf, IsNoFunction, levels_of_function}
+use Rattle.wave_type.specs.FunctionSpelling.{SpellsParts, IsFunctionOf, levels_of_function}
 use Rattle.wave_type.specs.FunctionType.{FunctionType, types_of}
-use Rattle.wave_type.specs.TypeSpelling.{Tokens, Names, Spells, SpellsTypes, SpellsFields, SpellsCases, SpellsPayload, IsTypeOf, IsNoType, levels_of, levels_of_fields}
-use Rattle.wave_type.specs.declared.error.TypeErrorKind.{TypeErrorKind}
-use Rattle.wave_type.specs.declared.error.TypeErrorKind.TheVariants.{OutOfMemory}
+use Rattle.wave_type.specs.TypeSpelling.{Tokens, Names, Spells, SpellsTypes, SpellsFields, SpellsCases, SpellsPayload, IsTypeOf, levels_of, levels_of_fields}
 use Rattle.wave_type.proofs.TypeReading.SpelledNames.{function_text_labelled}
 use Rattle.wave_type.proofs.TypeReading.Complete.{one_spelling, fields_all, read_complete, name_stands, paren}
 use Rattle.wave_type.proofs.TypeTrees.Lists.{field_list-fields_of}
@@ -68,11 +66,6 @@ module _ (word text : List ℕ) (stands : text ≡ text_of word) where
   pub names : (T : TypeTree) → IsTypeOf text T → levels_of T ≤ 100 → HasValue T → NamesType word T
   names T spells within has = (subst (λ s. IsTypeOf s T) stands spells, within, has)
 
-  -- the text spells no type
-  pub names_none : (kind : TypeErrorKind) → kind ≢ OutOfMemory → IsNoType text kind → (T : TypeTree) → NamesType word T → ⊥
-  names_none kind other (inl memory) T h = other memory
-  names_none kind other (inr none) T h = let deep = none T (subst (λ s. IsTypeOf s T) (sym stands) h.0) in let within = h.1 in absurd (omega (arith, deep, within))
-
   -- the text spells a type that has no value
   names_empty : (T : TypeTree) → IsTypeOf text T → (HasValue T → ⊥) → (U : TypeTree) → NamesType word U → ⊥
   names_empty T spells none U h = none (subst HasValue (sym (one_type text T U spells (subst (λ s. IsTypeOf s U) (sym stands) h.0))) h.2)
@@ -125,10 +118,6 @@ pub params_distinct : (word : List ℕ) (f : FunctionType) → NamesFunction wor
 params_distinct word f (spells, within, have) = all_distinct (types_of f.params) (function_text_labelled word f spells).0.2
 
 module _ (word : List ℕ) where
-  -- the text spells no function
-  pub function_none : (kind : TypeErrorKind) → kind ≢ OutOfMemory → IsNoFunction word kind → (f : FunctionType) → NamesFunction word f → ⊥
-  function_none kind other (inl memory) f h = other memory
-  function_none kind other (inr none) f (spells, within, have) = let deep = none f spells in absurd (omega (arith, deep, within))
 
   -- the text spells a function, of whose parameters one has no value
   pub function_empty : (f : FunctionType) → IsFunctionOf word f → (AllOf HasValue (types_of f.params) → ⊥) → (g : FunctionType) → NamesFunction word g → ⊥

@@ -1,8 +1,8 @@
 -- Runs of bytes of a set, through the masks of the bytes that are not in it.
-use Rattle.std.proofs.Common.{◌≡◌, ℕ, ◌+◌, ◌-◌, ◌*◌, ◌%◌, ◌^◌, ◌<◌, ◌≤◌, Bool, true, false, cond, inl, inr, List, [], ◌∷◌, map, length, slice_index, refl, sym, ap, ap₂, ◌∙◌, arith, w8, Fits}
+use Rattle.std.proofs.Common.{◌≡◌, ℕ, ◌+◌, ◌-◌, ◌*◌, ◌%◌, ◌^◌, ◌<◌, ◌≤◌, Bool, true, false, cond, inl, inr, List, [], ◌∷◌, map, length, slice_index, refl, ap, ap₂, ◌∙◌, arith, w8, Fits}
 use Rattle.std.specs.Prelude.{not}
 use Rattle.std.specs.Bool.{beq}
-use Rattle.std.proofs.lemmas.Bool.{cases_lt}
+use Rattle.std.proofs.lemmas.Bool.{cases_lt, not-false, not-true}
 use Rattle.std.proofs.lemmas.List.{length-map}
 use Rattle.std.proofs.lemmas.Simd.{trailing_mask_l, run_in_chunk_le, run_in_chunk_fails, run_in_chunk_stops, none_from_empty_mask, mask_l-mod, length-chunk}
 use Rattle.std.proofs.lemmas.List.Sums.{prefix_len-le-length}
@@ -12,14 +12,6 @@ use lib.Dec.{eqb, ltb}
 use lib.Lanes.{chunk, mask_l, top, Each1}
 use Rattle.wave_wasm.specs.ByteRuns.{IsRunOf}
 use Rattle.wave_wasm.proofs.EachNumber.{each_below, tests_agree}
-
-not_other : (b : Bool) → not b ≡ false → b ≡ true
-not_other true e = refl
-not_other false e = sym e
-
-not_set : (b : Bool) → not b ≡ true → b ≡ false
-not_set true e = sym e
-not_set false e = refl
 
 -- where no lane passes p, no bit is set
 none_set : (p : ℕ → Bool) (xs : List ℕ) → prefix_len (λ x. not (p x)) xs ≡ length xs → mask_l (map p xs) ≡ 0
@@ -41,7 +33,7 @@ module _ (set : ℕ → Bool) (s : List ℕ) (at : ℕ) (room : at + 16 ≤ leng
   pub run_through : mask ≡ 0 → (i : ℕ) → i < at + 16 → set (slice_index s i) ≡ true
   run_through e i lt = elim (cases_lt i at) as (λ _. set (slice_index s i) ≡ true) [
     | inl l ↦ before i l
-    | inr l ↦ not_other _ (none_from_empty_mask other s at 16 0 room e i l lt)
+    | inr l ↦ not-false _ (none_from_empty_mask other s at 16 0 room e i l lt)
   ]
 
   -- else it ends at the lowest bit
@@ -62,9 +54,9 @@ module _ (set : ℕ → Bool) (s : List ℕ) (at : ℕ) (room : at + 16 ≤ leng
         within = omega (arith, run_in_chunk_le other s at 16 n 0 room counted);
         all = λ i lt. elim (cases_lt i at) as (λ _. set (slice_index s i) ≡ true) [
           | inl l ↦ before i l
-          | inr l ↦ not_other _ (run_in_chunk_fails other s at 16 n 0 room counted i l lt)
+          | inr l ↦ not-false _ (run_in_chunk_fails other s at 16 n 0 room counted i l lt)
         ];
-        stops = λ lt. not_set _ (run_in_chunk_stops other s at 16 n 0 room counted short);
+        stops = λ lt. not-true _ (run_in_chunk_stops other s at 16 n 0 room counted short);
       }
 
 -- a mask that is computed byte by byte is that of the bytes that are not in the set, where it is so of each of the 256 bytes

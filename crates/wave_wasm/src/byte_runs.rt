@@ -29,24 +29,27 @@ pub trait ByteSet {
 pub fn run_of<S: ByteSet>(bytes: &[u8]) -> usize
     ensures { IsRunOf S.holds bytes.now result }
 {
-    let mut at = 0;
-    while bytes.len() - at >= LANES {
-        let others = S::others(u8x16::from_slice(&bytes[at..]));
-        if others != 0 {
-            return at + others.trailing_zeros() as usize;
-        }
-        at += LANES;
+    if bytes.len() < LANES {
+        return short_run::<S>(bytes);
     }
-    run_from::<S>(bytes, at)
+    let mut at = 0;
+    while at < bytes.len() {
+        // the last sixteen may be some that were looked at
+        let start = at.min(bytes.len() - LANES);
+        let others = S::others(u8x16::from_slice(&bytes[start..]));
+        if others != 0 {
+            return start + others.trailing_zeros() as usize;
+        }
+        at = start + LANES;
+    }
+    bytes.len()
 }
 
-/// The same, where all bytes before a place are in the set.
-fn run_from<S: ByteSet>(bytes: &[u8], from: usize) -> usize
-    requires within { from ≤ length bytes.now }
-    requires all { (i : ℕ) → i < from → S.holds (slice_index bytes.now i) ≡ true }
+/// The same of a text that is looked at byte by byte.
+fn short_run<S: ByteSet>(bytes: &[u8]) -> usize
     ensures { IsRunOf S.holds bytes.now result }
 {
-    for at in from..bytes.len() {
+    for at in 0..bytes.len() {
         if !S::has(bytes[at]) {
             return at;
         }

@@ -23,9 +23,21 @@ impl ByteSet for Plain {
 
     #[inline(always)]
     fn has(byte: u8) -> bool {
-        matches!(byte, b' '..=b'~') && !matches!(byte, b'"' | b'\'' | b'\\')
+        PLAINS[byte as usize] == b'.'
     }
 }
+
+/// A point at the place of each byte of ASCII that stands for itself between quotes, and a comma at every
+/// other.
+static PLAINS: [u8; 256] = *b"\
+    ,,,,,,,,,,,,,,,,,,,,,,,,,,,,,,,,\
+    ..,....,........................\
+    ............................,...\
+    ...............................,\
+    ,,,,,,,,,,,,,,,,,,,,,,,,,,,,,,,,\
+    ,,,,,,,,,,,,,,,,,,,,,,,,,,,,,,,,\
+    ,,,,,,,,,,,,,,,,,,,,,,,,,,,,,,,,\
+    ,,,,,,,,,,,,,,,,,,,,,,,,,,,,,,,,";
 
 /// Where the bytes of ASCII from a place on that stand for themselves between quotes end: the place of
 /// the first other byte, or of the end.
@@ -35,5 +47,8 @@ pub fn plain_end(bytes: &[u8], from: usize) -> usize
     ensures plain { (i : ℕ) → from ≤ i → i < result → is_plain_byte (slice_index bytes.now i) ≡ true }
     ensures longest { result < length bytes.now → is_plain_byte (slice_index bytes.now result) ≡ false }
 {
+    if from < bytes.len() && !Plain::has(bytes[from]) {
+        return from;
+    }
     from + run_of::<Plain>(&bytes[from..])
 }

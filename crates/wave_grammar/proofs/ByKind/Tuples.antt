@@ -1,5 +1,5 @@
 -- Tuples: items that are read each at its own type.
-use Rattle.std.proofs.Common.{ℕ, zero, suc, ◌≡◌, ◌≢◌, ◌⊎◌, inl, inr, ◌<◌, ◌≤◌, ◌+◌, List, [], ◌∷◌, ◌++◌, length, get_or, take, map, Option, Some, None, Bor, Result, Ok, Err, IfOk, IfErr, MatchResult, refl, sym, ap, ◌∙◌, subst, add-one, arith}
+use Rattle.std.proofs.Common.{ℕ, zero, suc, ◌≡◌, ◌≢◌, ◌⊎◌, inl, inr, ◌<◌, ◌≤◌, ◌+◌, List, [], ◌∷◌, ◌++◌, length, get_or, take, map, Option, Some, None, Bor, Result, Ok, Err, IfOk, IfErr, MatchResult, refl, sym, ap, ◌∙◌, subst, arith}
 use Rattle.std.specs.declared.ops.Range.{Range}
 use Rattle.wave_wasm.specs.Lists.{AllOf}
 use Rattle.wave_wasm.specs.Names.{AreDistinct}
@@ -214,20 +214,6 @@ module _ {V : Type 0} (tree : V → Value) (of : V → TypeTree → Type 0) (Ful
   ReadAt [] [] [] = Unit {0}
   ReadAt (T ∷ Ts) (t ∷ ts) (v ∷ vs) = IsTypedValue tree of T t v × ReadAt Ts ts vs
   ReadAt _ _ _ = ⊥
-
-  next_at : (Ts : List TypeTree) (ts : List SpannedTree) (vs : List V) (i : ℕ) (E : TypeTree) (t : SpannedTree) (v : V) → HasAt Ts i E → HasAt ts i t → ReadAt (take i Ts) (take i ts) vs → IsTypedValue tree of E t v → ReadAt (take (suc i) Ts) (take (suc i) ts) (vs ++ v ∷ [])
-  next_at [] ts vs i E t v typed here before now = absurd typed
-  next_at (U ∷ Ts) [] vs i E t v typed here before now = absurd here
-  next_at (U ∷ Ts) (u ∷ ts) [] zero E t v typed here before now = (subst (λ (W : TypeTree). IsTypedValue tree of W u v) (sym typed) (subst (λ (w : SpannedTree). IsTypedValue tree of E w v) (sym here) now), tt)
-  next_at (U ∷ Ts) (u ∷ ts) (w ∷ vs) zero E t v typed here before now = absurd before
-  next_at (U ∷ Ts) (u ∷ ts) [] (suc i) E t v typed here before now = absurd before
-  next_at (U ∷ Ts) (u ∷ ts) (w ∷ vs) (suc i) E t v typed here before now = (before.0, next_at Ts ts vs i E t v typed here before.1 now)
-
-  -- the invariant of the loop holds after the next item
-  pub tuple_kept : (source : List ℕ) (parts : List TypeTree) (ns : List NodeTree) (ts : List SpannedTree) (vs ws : List V) (i : ℕ) (n : NodeTree) (E : TypeTree) (v : V) → AreNodesOf source ns ts → i < length ns → n ≡ get_or ns i n → HasAt parts i E → ReadAt (take i parts) (take i ts) vs → ((t : SpannedTree) → IsNodeOf source n t → IsTypedValue tree of E t v) → ws ≡ vs ++ v ∷ [] → ReadAt (take (i + 1) parts) (take (i + 1) ts) ws
-  tuple_kept source parts ns ts vs ws i n E v nodes lt is typed before now kept =
-      let here = node_at source ns ts i n nodes lt is in
-      rw (add-one, kept) (next_at parts ts vs i E here.0 v typed here.1 before (now here.0 here.2))
 
   whole_at : (parts : List TypeTree) (ts : List SpannedTree) (vs : List V) (i : ℕ) → length ts ≡ length parts → length ts ≤ i → ReadAt (take i parts) (take i ts) vs → ReadAt parts ts vs
   whole_at [] [] vs zero e le all = all

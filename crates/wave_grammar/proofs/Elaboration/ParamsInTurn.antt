@@ -54,11 +54,6 @@ has_drop [] i x h = absurd h
 has_drop (y ∷ ys) zero x h = λ j. h j ∷ ys
 has_drop (y ∷ ys) (suc i) x h = has_drop ys i x h
 
-pub all_drop : {A : Type 0} (P : A → Type 0) (xs : List A) (i : ℕ) → AllOf P xs → AllOf P (drop i xs)
-all_drop P xs zero h = h
-all_drop P [] (suc i) h = h
-all_drop P (x ∷ xs) (suc i) h = all_drop P xs i h.1
-
 -- one more of them
 pub all_push : {A : Type 0} (P : A → Type 0) (xs : List A) (i : ℕ) (x : A) → HasAt xs i x → AllOf P (take i xs) → P x → AllOf P (take (suc i) xs)
 all_push P [] i x here h p = absurd here

@@ -5,17 +5,13 @@ use Rattle.std.proofs.lemmas.List.{append_cancel_right}
 use Rattle.wave_lex.specs.Strings.{IsEscape, IsInCharQuotes, CharMeans}
 use Rattle.wave_grammar.specs.NodeTree.{NodeTree, type_of}
 use Rattle.wave_grammar.specs.NodeAccessors.{node_text, quotes_of, IsInside}
-use Rattle.wave_grammar.specs.StringAssembly.{MeansChar, CharIn}
+use Rattle.wave_grammar.specs.StringAssembly.{CharIn}
 use Rattle.wave_grammar.specs.declared.form.NodeType.{NodeType}
 use Rattle.wave_grammar.specs.declared.form.NodeType.TheVariants as kind
 
 -- what stands between the quotes of a char
 char_inside : (source : List ℕ) (n : NodeTree) (x : List ℕ) → type_of n ≡ kind.Char → IsInside source n x → IsInCharQuotes (node_text source n) x
 char_inside source n x e h = subst (λ (ty : NodeType). node_text source n ≡ quotes_of ty ++ (x ++ quotes_of ty)) e h
-
--- a char stands for what its inside stands for
-pub char_means : (source : List ℕ) (n : NodeTree) (x : List ℕ) (c : ℕ) → type_of n ≡ kind.Char → IsInside source n x → MeansChar x c → CharMeans (node_text source n) c
-char_means source n x c e h means = (x, char_inside source n x e h, means.0, means.1)
 
 -- a char stands for no scalar where its inside stands for none
 pub char_none : (source : List ℕ) (n : NodeTree) (x : List ℕ) → type_of n ≡ kind.Char → IsInside source n x → CharIn x None → (c : ℕ) → CharMeans (node_text source n) c → ⊥

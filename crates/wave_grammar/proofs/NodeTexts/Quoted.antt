@@ -168,19 +168,6 @@ node_inside source n h = by_type (type_of n) refl
     by_type kind.MultilineString e = by_quotes kind.MultilineString (token.multiline (node_text source n)) e tt refl
     by_type _ e = (node_text source n, sym (append-nil (node_text source n)))
 
--- quotes are ASCII
-quotes_ascii : (ty : NodeType) → is_ascii (quotes_of ty) ≡ true
-quotes_ascii kind.Char = refl
-quotes_ascii kind.String = refl
-quotes_ascii kind.MultilineString = refl
-quotes_ascii _ = refl
-
-quotes_utf8 : (ty : NodeType) → IsUtf8 (quotes_of ty)
-quotes_utf8 kind.Char = (39 ∷ [], (refl, ascii_spelled (39 ∷ []) refl))
-quotes_utf8 kind.String = (34 ∷ [], (refl, ascii_spelled (34 ∷ []) refl))
-quotes_utf8 kind.MultilineString = (three_quotes, (refl, ascii_spelled three_quotes refl))
-quotes_utf8 _ = ([], (refl, refl))
-
 -- a text is split after the quotes and before them
 pub record Cut (text quotes : List ℕ) (count : ℕ) : Type 0 where
   pub within : count + count ≤ length text
@@ -203,9 +190,3 @@ text_cut text quotes x utf8 ascii last e =
       last = subst (λ (k : ℕ). IsCharBoundary text k) end (IsCharBoundary-at_seam text (quotes ++ x) quotes (e ∙ sym (append_assoc quotes x quotes)) last);
       inside = e ∙ ap (λ (z : List ℕ). quotes ++ (z ++ quotes)) (sym middle);
     }
-
--- so the text of a node is
-pub node_cut : (source : List ℕ) (n : NodeTree) (text : List ℕ) (count : ℕ) → IsParsedFrom source n → IsUtf8 text → text ≡ node_text source n → count ≡ length (quotes_of (type_of n)) → Cut text (quotes_of (type_of n)) count
-node_cut source n text count h utf8 e size =
-    let k = node_inside source n h in
-    subst (Cut text (quotes_of (type_of n))) (sym size) (text_cut text (quotes_of (type_of n)) k.0 utf8 (quotes_ascii (type_of n)) (quotes_utf8 (type_of n)) (e ∙ k.1))

@@ -4,7 +4,7 @@ use Rattle.std.specs.Prelude.{encode_utf8_all, encode_utf8}
 use Rattle.std.specs.Char.{len_utf8}
 use Rattle.std.specs.Str.{chars, IsUtf8, IsCharBoundary}
 use lib.Utf8.{scalars}
-use Rattle.wave_lex.specs.Tokens.{whitespace, invalid}
+use Rattle.wave_lex.specs.Tokens.{invalid}
 use Rattle.std.proofs.lemmas.Bool.{cases_lt, and_parts}
 use Rattle.std.proofs.lemmas.List.{append-nil, take_more, take-take, take-append-drop}
 use Rattle.std.proofs.lemmas.Str.{encodes-append, length-encode, cons_from_encodes, encodes-chars, scalars-chars, IsCharBoundary-at_seam}
@@ -13,7 +13,7 @@ use Rattle.wave_lex.specs.Regex.{Regex, nothing, Matches}
 use Rattle.wave_lex.specs.Derive.{nullable, derivative, derivative_by}
 use Rattle.wave_lex.specs.LongestMatch.{Greatest, IsPrefixOf}
 use Rattle.wave_lex.proofs.LongestPrefix.LongestSoFar.{place_of, place_of_seen, SeenTo, Seen}
-use Rattle.wave_lex.proofs.RegularShapes.Derivatives.{matches_from, matches_into, empty_from}
+use Rattle.wave_lex.proofs.RegularShapes.Derivatives.{matches_from, matches_into}
 
 -- what follows one text and then another
 pub after_all_append : (x y : List ℕ) (r : Regex) → derivative_by (x ++ y) r ≡ derivative_by y (derivative_by x r)
@@ -242,7 +242,3 @@ first_invalid s (c ∷ cs) u e h =
 -- only at the end nothing is invalid
 pub invalid_none : (s : List ℕ) → IsUtf8 s → Greatest (IsPrefixOf invalid s) None → s ≡ []
 invalid_none s u h = sym (encodes-chars s u) ∙ ap encode_utf8_all (first_invalid s (chars s) u refl h)
-
--- whitespace stands everywhere, perhaps of no bytes
-pub whitespace_some : (s : List ℕ) → Greatest (IsPrefixOf whitespace s) None → ⊥
-whitespace_some s h = h 0 (record { scalars = []; fits = omega arith; spelled = refl; has = empty_from whitespace refl })

@@ -1,20 +1,20 @@
 -- What the parts of a multiline string are together, and what a refusal among them says.
-use Rattle.std.proofs.Common.{◌≡◌, ◌≢◌, ℕ, ◌+◌, ◌-◌, ◌≤◌, ◌<◌, suc, take, drop, Bool, true, false, nat_eq, Option, Result, List, [], ◌∷◌, ◌++◌, ◌⊎◌, inl, inr, refl, sym, ap, subst, ◌∙◌, length, arith, Some, None, Ok, Err, append_assoc, length-append}
+use Rattle.std.proofs.Common.{◌≡◌, ◌≢◌, ℕ, ◌+◌, ◌-◌, ◌≤◌, ◌<◌, suc, take, drop, Bool, true, false, nat_eq, Result, List, [], ◌∷◌, ◌++◌, ◌⊎◌, inl, inr, refl, sym, ap, subst, ◌∙◌, length, arith, Some, None, Ok, Err, append_assoc, length-append}
 use Rattle.std.specs.Prelude.{MatchResult, if◌then◌else◌, encode_utf8}
 use Rattle.std.proofs.lemmas.Str.{encode_ascii}
 use Rattle.std.proofs.lemmas.List.{append-nil, length-drop, length-take-le}
 use Rattle.wave_lex.specs.Errors.{Diagnostic}
 use Rattle.wave_lex.specs.declared.strings.StringPart.{StringPart}
-use Rattle.wave_lex.specs.declared.strings.StringPart.TheVariants.{Run, Char}
+use Rattle.wave_lex.specs.declared.strings.StringPart.TheVariants.{Char}
 use Rattle.wave_lex.specs.Tokenization.{span}
 use Rattle.wave_lex.specs.Strings.{Decodes, IsBadEscapeAt}
-use Rattle.wave_lex.specs.Multiline.{put_first, pieces, spaces, DropsReturn, LinesMean, in_lines, DecodesLines, LineFault, closing, opening, indentation, escape, BadLines, MultilineFault, fault_span}
-use Rattle.wave_lex.specs.Remaining.{Undecoded, LinesLeft, one_line, ended_lines, lines_size, size_of}
-use Rattle.wave_lex.specs.Parts.{part_text, part_texts, ReportsBadEscape, ReportsFault, EntersLine, HasBadLine, MeetsBadEscape, MeetsBadLine, StaysInLine, PartIs, LinePartIs, NoPartNext, TakesPart, Begins, OpeningRefused, LinesRunTo, LinesJoin, OneLineJoins}
+use Rattle.wave_lex.specs.Multiline.{put_first, pieces, LinesMean, in_lines, DecodesLines, LineFault, closing, opening, indentation, escape, BadLines, MultilineFault, fault_span}
+use Rattle.wave_lex.specs.Remaining.{Undecoded, LinesLeft, one_line, ended_lines, lines_size}
+use Rattle.wave_lex.specs.Parts.{part_text, part_texts, ReportsBadEscape, ReportsFault, EntersLine, HasBadLine, MeetsBadEscape, MeetsBadLine, StaysInLine, LinePartIs, NoPartNext, Begins, OpeningRefused, LinesRunTo, LinesJoin, OneLineJoins}
 use Rattle.wave_lex.specs.Private.Lines.{PartTaken, EndIs, LinesEndIs, BehindLastFeed}
 use Rattle.wave_lex.specs.Private.Runs.{HasWholeLines}
 use Rattle.wave_lex.specs.Parts.{LinesRun}
-use Rattle.wave_lex.proofs.StringDecoding.OneMeaning.{empty_once, escape_head}
+use Rattle.wave_lex.proofs.StringDecoding.OneMeaning.{empty_once}
 use Rattle.wave_lex.proofs.MultilineStrings.Lines.{pieces_first, pieces_ended, later_feed}
 use Rattle.wave_lex.proofs.StringDecoding.Parts.{takes, bad_behind, bad_here}
 
@@ -225,12 +225,6 @@ one_line_joins s ps = (λ r. one_line_means s (part_texts ps) (run_means (one_li
 
 -- ---- a part, and where none is next
 
--- a part of one line
-pub one_line_taken : (s t : Undecoded) (o : Option StringPart) → PartTaken s o t → TakesPart (one_line s) o (one_line t)
-one_line_taken s t None (inl none, same) = (inr (none, inl refl), ap one_line same)
-one_line_taken s t None (inr bad, same) = (inl bad, ap one_line same)
-one_line_taken s t (Some p) h = inl (record { item = h; later = refl; next = refl; indent = refl })
-
 -- the end of one line
 pub one_line_ends : (s : Undecoded) (r : Result (Unit {0}) Diagnostic) → EndIs s r → LinesEndIs (one_line s) r
 one_line_ends s (Ok u) none = (none, refl)
@@ -260,37 +254,6 @@ ends_there l (Ok u) next (none, later) = (l, (none, later, refl))
 ends_there l (Err e) next h = (_, refused_next l (record { line = record { rest = []; pos = l.line.pos }; later = []; next = l.next; indent = l.indent }) e next h refl refl refl)
 
 -- ---- how much is left
-
--- a part of a line takes some of it
-part_takes : (old new : Undecoded) (p : StringPart) → PartIs old (Some (Ok p)) new → length new.rest < length old.rest
-part_takes old new (Run s) h =
-    let whole : length old.rest ≡ length s.now + length new.rest = ap length h.taken ∙ length-append s.now new.rest in
-    let some : 0 < length s.now = longer s.now h.some in omega arith
-  where
-    longer : (x : List ℕ) → x ≢ [] → 0 < length x
-    longer [] n = absurd (n refl)
-    longer (b ∷ x) n = omega arith
-part_takes old new (Char c) h =
-    let k = escape_head h.escape c h.is in
-    let whole : length old.rest ≡ length h.escape + length new.rest = ap length h.taken ∙ length-append h.escape new.rest in
-    let some : length h.escape ≡ suc (length k.0) = ap length k.1 in omega arith
-
--- a dropped carriage return makes no line longer
-dropped_fits : (x y : List ℕ) → DropsReturn x y → length y ≤ length x
-dropped_fits x y (inl e) = omega (arith, ap length e, length-append y (13 ∷ []))
-dropped_fits x y (inr (e, others)) = omega (arith, ap length e)
-
--- each part takes some of what is left
-pub line_part_takes : (old new : LinesLeft) (p : StringPart) → LinePartIs old (Some (Ok p)) new → size_of new < size_of old
-line_part_takes old new p (inl h) =
-    let some : length new.line.rest < length old.line.rest = part_takes old.line new.line p h.item in
-    let same : lines_size new.later ≡ lines_size old.later = ap lines_size h.later in omega arith
-line_part_takes old new p (inr (e, f, h)) =
-    let (x, whole, drops) = h.indented in
-    let all : lines_size old.later ≡ suc (length h.line + lines_size h.more) = ap lines_size h.there in
-    let rest : lines_size new.later ≡ lines_size h.more = ap lines_size h.later in
-    let long : length h.line ≡ length (spaces old.indent) + length x = ap length whole ∙ length-append (spaces old.indent) x in
-    let fits : length new.line.rest ≤ length x = dropped_fits x new.line.rest drops in omega arith
 
 put_first_size : (b : ℕ) (q : List ℕ) (qs : List (List ℕ)) → lines_size (put_first b (q ∷ qs)) ≡ suc (lines_size (q ∷ qs))
 put_first_size b q qs = omega arith

@@ -75,11 +75,6 @@ escape_taken s e x rest pos k c h w l r =
     let same : rest ≡ x = r ∙ (ap (λ (z : ℕ). drop z s) l ∙ (ap (λ (z : List ℕ). drop (length e) z) w ∙ drop-append_seam e x)) in
     record { escape = e; is = h; taken = w ∙ ap (λ (z : List ℕ). e ++ z) (sym same); moved = ap (λ (z : ℕ). pos + z) l }
 
--- a text whose first byte is known
-pub begins_with : (s : List ℕ) (b : ℕ) → 0 < length s → get_or s 0 0 ≡ b → (t : List ℕ) × (s ≡ b ∷ t)
-begins_with [] b l e = let w : ⊥ = omega arith in absurd w
-begins_with (a ∷ s) b l e = (s, ap (λ (z : ℕ). z ∷ s) e)
-
 -- nothing is left, or it begins with the `\` before which no run stands
 pub none_or_begins : (s : List ℕ) (k : ℕ) → k ≤ 0 → IsRun s k → UnescapesTo s None → (s ≡ []) ⊎ BeginsNoEscape s
 none_or_begins [] k l run none = inl refl

@@ -16,7 +16,7 @@ use Rattle.wave_grammar.proofs.ByKind.Tuples.{as_shown, counted}
 use Rattle.wave_read.specs.Leaves.{IsSimpleOrUnreadable}
 use Rattle.wave_read.specs.PlainReading.{IsReadSparing}
 use Rattle.wave_read.specs.Faults.{IsOfKind, Reports}
-use Rattle.wave_read.specs.Flat.{IsWrapper, IsCounted, IsFlatAt, IsReadAt, ReadsFlags, ReadsNoRecord}
+use Rattle.wave_read.specs.Flat.{IsWrapper, IsCounted, IsFlatAt, IsReadAt, ReadsNoRecord}
 use Rattle.wave_read.specs.KeptParts.{AreKeptWhereExpected, AreOfType}
 use Rattle.wave_read.specs.Payloads.{result_node}
 use Rattle.wave_read.specs.TupleParts.{IsRow}
@@ -64,10 +64,6 @@ module _ {S : Type 0} (type_tree : S → TypeTree) (T : TypeTree) (ty : NodeType
   no_record None x h other U (inr flat) at_set e = h.1 U flat
   no_record (Some whole) x h other U (inl is) at_set e = flat_record T (type_tree x.now) ty h.1 (ap kind_of (sym is) ∙ e)
   no_record (Some whole) x h other U (inr flat) at_set e = other (ap kind_of (one_flat T (type_tree x.now) U ty h.1 flat) ∙ e)
-
--- where they are flags, flags are read
-pub reads_flags : {S : Type 0} (type_tree : S → TypeTree) (T : TypeTree) (wrapper : Option (Bor S)) (x : Bor S) → IsWrapper type_tree T node_type.Flags wrapper x → kind_of (type_tree x.now) ≡ kinds.Flags → ReadsFlags T
-reads_flags type_tree T wrapper x h is = (type_tree x.now, read_within type_tree T node_type.Flags wrapper x h, is)
 
 -- ---- tuples
 

@@ -95,21 +95,6 @@ case_node source p c more (at r s) name h named =
     let spelled : SpellsEach source (at r (label f.place f.text (a_placed f.payload))) = subst (λ (x : SpannedShape). SpellsEach source (at r x)) f.shape h.1 in
     (two.0, two.1, record { place = f.place; text = f.text; payload = a_placed f.payload; shape = f.shape; named = named ∙ ap name_of (sym (flag_text source c f.name f.place f.text (inside source c f.name two.2) f.labelled)); node = (two.3, spelled.1.2.1) })
 
--- so there is no such node of a label alone
-pub no_label_alone : (source : List ℕ) (p : Range ℕ) (c : NodeTree) (t : SpannedTree) → IsNodeOf source (node kind.VariantWithPayload p (node_trees (c ∷ []))) t → ⊥
-no_label_alone source p c t h = let k = case_node source p c [] t (name_of (node_text source c)) h refl in no_more k.0 k.1
-  where
-    no_more : (u : NodeTree) → [] ≡ u ∷ [] → ⊥
-    no_more u e = cc
-
--- nor of no children
-pub no_case_of_none : (source : List ℕ) (p : Range ℕ) (t : SpannedTree) → IsNodeOf source (node kind.VariantWithPayload p (node_trees [])) t → ⊥
-no_case_of_none source p (at r s) h =
-    let n = node kind.VariantWithPayload p (node_trees []) in
-    let i = inside source n (at r s) h.0 in
-    let f = case_shape p (slice source p) i.children s (shape_at kind.VariantWithPayload source n (at r s) i refl) in
-    (subst (λ (ts : List SpannedTree). AreParsed source [] ts) f.children (parsed source (nodes_in n) i.children i.each))
-
 -- a label alone is a case without a payload
 pub label_case : (source : List ℕ) (n : NodeTree) (t : SpannedTree) (name : List ℕ) → IsNodeOf source n t → type_of n ≡ kind.Label → name ≡ name_of (node_text source n) → CaseNode source t name None
 label_case source n t name h ty named =

@@ -191,6 +191,3 @@ after_move n tokens d fs gs ns ms c text start m (inl led) begins h noted change
     which x k move = absurd move
 
 -- ---- before the first token
-
-pub after_nothing : (n : ℕ) (fs : List Form) (ns : Names) → fs ≡ [] → IsAfter n [] known.Value fs ns
-after_nothing n fs ns none = inl (record { expected_there = expectation.value; open_there = []; leads = (refl, refl); state = refl; forms = ap stack_of none; flags = tt })

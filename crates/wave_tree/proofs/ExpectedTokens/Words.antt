@@ -83,12 +83,6 @@ among_both classes reported more =
     ap (map class_word) (filter-append (λ c. list_any (same_class c) classes) reported more)
     ∙ map-append class_word (filter (λ c. list_any (same_class c) classes) reported) (filter (λ c. list_any (same_class c) classes) more)
 
--- the word of a class that is among them
-pub word_added : (classes : List lex.Token) (c : lex.Token) (b : Bool) (old new : List (Bor (List ℕ))) (w : Bor (List ℕ)) → IsTrue b ↔ Contains classes c → b ≡ true → new ≡ old ++ w ∷ [] → w.now ≡ class_word c → texts new ≡ texts old ++ words_among classes (c ∷ [])
-word_added classes c b old new w h there is word =
-    ap texts is
-    ∙ (map-append (λ (n : Bor (List ℕ)). n.now) old (w ∷ []) ∙ (ap (λ z. texts old ++ z ∷ []) word ∙ ap (λ t. texts old ++ map class_word (cond t (c ∷ []) [])) (sym (is_among classes c b h ∙ there))))
-
 -- there is none for another
 pub word_left : (classes : List lex.Token) (c : lex.Token) (b : Bool) (old : List (Bor (List ℕ))) → IsTrue b ↔ Contains classes c → b ≡ false → texts old ≡ texts old ++ words_among classes (c ∷ [])
 word_left classes c b old h absent =

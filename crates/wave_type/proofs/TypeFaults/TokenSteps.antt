@@ -6,13 +6,13 @@ use Rattle.wave_wasm.specs.declared.wasm.WasmTypeKind.{WasmTypeKind}
 use Rattle.wave_wasm.specs.Names.{is_one_of}
 use Rattle.wave_wasm.specs.Types.{TypeTree}
 use Rattle.wave_type.specs.declared.error.TypeErrorKind.{TypeErrorKind}
-use Rattle.wave_type.specs.declared.error.TypeErrorKind.TheVariants.{UnexpectedToken, UnexpectedEnd, DuplicateName, InvalidKeyType, InvalidCount, NestingTooDeep}
+use Rattle.wave_type.specs.declared.error.TypeErrorKind.TheVariants.{UnexpectedToken, UnexpectedEnd, DuplicateName, InvalidKeyType, InvalidCount}
 use Rattle.wave_type.specs.TypeSpelling.{Tokens}
-use Rattle.wave_type.specs.TypeWords.{onward, kind_of_word, key_of_word, name_of_token, count_of_token, is_mark}
+use Rattle.wave_type.specs.TypeWords.{onward, kind_of_word, key_of_word, name_of_token, count_of_token}
 use Rattle.wave_type.specs.TypeFaults.{Part, no_more, a_length, err_type, more_types, more_fields, more_cases, more_names}
 use Rattle.wave_type.specs.TypeFaults.{Expectation, mark_expected, type_expected, key_expected, ok_expected, part_expected, close_expected, last_expected, payloads_expected, payload_expected, results_expected, result_expected}
 use Rattle.wave_type.specs.TypeFaults.{Step, takes, passes, refuses, expected_behind, before, word_step, type_step, only_step, name_step, part_step, step, Fault, refused}
-use Rattle.wave_type.specs.Private.TypeReading.{after, closed, or_else, first_of, kind_at, key_at, count_at, new_name}
+use Rattle.wave_type.specs.Private.TypeReading.{after, closed, or_else, kind_at, key_at, count_at, new_name}
 use Rattle.wave_type.specs.Private.TypeTokens.{misplaced, name_fault, name_refused, Fails, IsRefused, GoesOn, RefusesName}
 use Rattle.wave_type.proofs.TypeReading.Sound.{onward_back, built_back, if_back, unless_back}
 
@@ -73,9 +73,6 @@ module _ (n : ℕ) where
   pub payloads_pass : (ts : Tokens) (expectations : List Expectation) → after (codes "<") ts ≡ None → refused ts (payloads_expected n ∷ expectations) ≡ refused ts expectations
   payloads_pass = maybe_passes (payloads_expected n) (codes "<") (ok_expected n ∷ []) (λ t. refl) (λ expectations. refl)
 
-  pub payloads_run : (ts r : Tokens) (expectations : List Expectation) → after (codes "<") ts ≡ Some r → refused ts (payloads_expected n ∷ expectations) ≡ refused r (ok_expected n ∷ expectations)
-  payloads_run = maybe_runs (payloads_expected n) (codes "<") (ok_expected n ∷ []) (λ t. refl) (λ expectations. refl)
-
   pub payload_passes : (ts : Tokens) (expectations : List Expectation) → after (codes "(") ts ≡ None → refused ts (payload_expected n ∷ expectations) ≡ refused ts expectations
   payload_passes = maybe_passes (payload_expected n) (codes "(") (type_expected n ∷ mark_expected (codes ")") ∷ []) (λ t. refl) (λ expectations. refl)
 
@@ -118,12 +115,6 @@ module _ (n : ℕ) where
   ok_is_type (t ∷ ts) expectations e =
       type_before n (close_expected (codes ">") (err_type n) ∷ []) expectations (ok_expected n) t ts (ap (λ b. if b then takes (mark_expected (codes ",") ∷ type_expected n ∷ close_expected (codes ">") no_more ∷ []) else before (type_step n t) (close_expected (codes ">") (err_type n) ∷ [])) (after_false (codes "_") t ts e))
 
-  pub ok_is_blank : (ts r : Tokens) (expectations : List Expectation) → after (codes "_") ts ≡ Some r → refused ts (ok_expected n ∷ expectations) ≡ refused r (mark_expected (codes ",") ∷ type_expected n ∷ close_expected (codes ">") no_more ∷ expectations)
-  ok_is_blank [] r expectations e = absurd (cc)
-  ok_is_blank (t ∷ ts) r expectations e =
-      let p = after_true (codes "_") t ts r e in
-      by_step t ts (ok_expected n) expectations (takes (mark_expected (codes ",") ∷ type_expected n ∷ close_expected (codes ">") no_more ∷ [])) (ap (λ b. if b then takes (mark_expected (codes ",") ∷ type_expected n ∷ close_expected (codes ">") no_more ∷ []) else before (type_step n t) (close_expected (codes ">") (err_type n) ∷ [])) p.0) ∙ ap (λ us. refused us (mark_expected (codes ",") ∷ type_expected n ∷ close_expected (codes ">") no_more ∷ expectations)) p.1
-
   result_same : (t : List ℕ) (ts : Tokens) (expectations : List Expectation) → stepped (type_step n t) t ts expectations ≡ refused (t ∷ ts) (type_expected n ∷ expectations)
   result_same t ts expectations = sym (by_step t ts (type_expected n) expectations (type_step n t) refl)
 
@@ -149,40 +140,7 @@ kind_runs (suc n) (t ∷ ts) r kind expectations h e =
 
 -- ---- what stands next
 
-pub nothing_next : (ts : Tokens) → first_of ts ≡ None → ts ≡ []
-nothing_next [] e = refl
-nothing_next (t ∷ ts) e = absurd (cc)
-
--- the token that stands next
-pub some_next : (ts : Tokens) (t : List ℕ) → first_of ts ≡ Some t → ts ≡ t ∷ drop 1 ts
-some_next [] t e = absurd (cc)
-some_next (u ∷ ts) t e = let same : u ≡ t = cc in ap (λ z. z ∷ ts) same
-
--- at the end, where something has to stand
-pub ended_fails : (expected : Expectation) (ts : Tokens) → ts ≡ [] → ((expectations : List Expectation) → refused [] (expected ∷ expectations) ≡ Some (UnexpectedEnd, [])) → IsRefused expected ts UnexpectedEnd ts
-ended_fails expected ts e h = subst (λ us. IsRefused expected us UnexpectedEnd us) (sym e) h
-
--- a token that is refused
-pub token_fails : (expected : Expectation) (ts : Tokens) (t : List ℕ) (kind : TypeErrorKind) → first_of ts ≡ Some t → step expected t ≡ refuses kind → IsRefused expected ts kind ts
-token_fails expected ts t kind e h = subst (λ us. IsRefused expected us kind us) (sym (some_next ts t e)) (λ expectations. by_step t (drop 1 ts) expected expectations (refuses kind) h)
-
-pub word_fails : (n : ℕ) (ts : Tokens) (t : List ℕ) → first_of ts ≡ Some t → kind_of_word t ≡ None → IsRefused (type_expected n) ts UnexpectedToken ts
-word_fails n ts t e h = token_fails (type_expected n) ts t UnexpectedToken e (ap (word_step n) h)
-
-pub level_fails : (n : ℕ) (ts : Tokens) (t : List ℕ) (kind : WasmTypeKind) → n ≡ 0 → first_of ts ≡ Some t → kind_of_word t ≡ Some kind → IsRefused (type_expected n) ts NestingTooDeep ts
-level_fails n ts t kind none e h = token_fails (type_expected n) ts t NestingTooDeep e (λ i. word_step (none i) (h i))
-
 -- a token that isn't what is expected is refused for that, marks as any token
-module _ {A : Type 0} where
-  pub only_fails : (o : Option A) (kind : TypeErrorKind) (t : List ℕ) (more : List Expectation) (mark : Bool) → o ≡ None → is_mark t ≡ mark → only_step o kind t more ≡ refuses (if mark then UnexpectedToken else kind)
-  only_fails o kind t more mark e h = ap (λ p. only_step p kind t more) e ∙ ap (λ b. refuses (if b then UnexpectedToken else kind)) h
-
-pub key_fails : (ts : Tokens) (t : List ℕ) (mark : Bool) → first_of ts ≡ Some t → key_of_word t ≡ None → is_mark t ≡ mark → IsRefused key_expected ts (if mark then UnexpectedToken else InvalidKeyType) ts
-key_fails ts t mark e h m = token_fails key_expected ts t (if mark then UnexpectedToken else InvalidKeyType) e (only_fails (key_of_word t) InvalidKeyType t [] mark h m)
-
-pub count_fails : (close : List ℕ) (ts : Tokens) (t : List ℕ) (mark : Bool) → first_of ts ≡ Some t → count_of_token t ≡ None → is_mark t ≡ mark → IsRefused (part_expected close a_length) ts (if mark then UnexpectedToken else InvalidCount) ts
-count_fails close ts t mark e h m = token_fails (part_expected close a_length) ts t (if mark then UnexpectedToken else InvalidCount) e (only_fails (count_of_token t) InvalidCount t (close_expected close no_more ∷ []) mark h m)
-
 pub key_runs : (ts r : Tokens) (K : TypeTree) (expectations : List Expectation) → key_at ts ≡ Some (K, r) → refused ts (key_expected ∷ expectations) ≡ refused r expectations
 key_runs [] r K expectations e = absurd (cc)
 key_runs (t ∷ ts) r K expectations e =
@@ -259,11 +217,6 @@ comma_runs mark part [] r expectations g = let wrong : None ≡ Some r = g.comma
 comma_runs mark part (t ∷ ts) r expectations g =
     let p = after_true (codes ",") t ts r g.comma in
     by_step t ts (close_expected mark part) expectations (takes (last_expected mark part ∷ [])) (close_step mark t part false true (unclosed_here mark t ts (bytes_eq t mark) refl g.unclosed) p.0) ∙ (ap (λ us. refused us (last_expected mark part ∷ expectations)) p.1 ∙ last_goes_on mark part r expectations g.more)
-
--- nothing may stand where nothing more does
-pub no_more_fails : (mark : List ℕ) (ts : Tokens) → IsRefused (part_expected mark no_more) ts (misplaced ts) ts
-no_more_fails mark [] = λ expectations. refl
-no_more_fails mark (t ∷ ts) = λ expectations. by_step t ts (part_expected mark no_more) expectations (refuses UnexpectedToken) refl
 
 -- ---- names
 

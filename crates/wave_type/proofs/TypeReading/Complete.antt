@@ -136,10 +136,6 @@ module _ {A : Type 0} (part : List A → Tokens → Option (A × Tokens)) (mark 
 
 -- ---- names that are all different
 
-none_here : (n : List ℕ) (ms : List (List ℕ)) → IsNoneOf ms n → is_one_of ms n ≡ false
-none_here n [] h = refl
-none_here n (m ∷ ms) h = ap (λ b. b || is_one_of ms n) (not_equal n m (bytes_eq n m) refl h.0) ∙ none_here n ms h.1
-
 not_in : (ms : List (List ℕ)) (n : List ℕ) (more : List (List ℕ)) (m : List ℕ) → IsNoneOf (ms ++ (n ∷ more)) m → m ≡ n → ⊥
 not_in [] n more m h e = h.0 e
 not_in (k ∷ ms) n more m h e = not_in ms n more m h.1 e
@@ -243,9 +239,6 @@ count_is_no_angle k l h =
 
 taken : (t : List ℕ) (ts m : Tokens) → ts ≡ t ∷ m → length ts ≡ length m + 1
 taken t ts m e = omega (arith, ap length e)
-
-two_taken : (t u : List ℕ) (ts m : Tokens) → ts ≡ t ∷ u ∷ m → length ts ≡ length m + 2
-two_taken t u ts m e = omega (arith, ap length e)
 
 closes_shorter : (mark : List ℕ) (ts r : Tokens) → Closes mark ts r → length r < length ts
 closes_shorter mark ts r (inl e) = omega (arith, ap length e)
@@ -512,14 +505,3 @@ one_spelling T U ts r s h k =
 pub low : (n m : ℕ) (b : Bool) → nat_lt n m ≡ b → (m ≤ n → ⊥) → n < m
 low n m true e never = grind (arith, nat_tests)
 low n m false e never = let le : m ≤ n = grind (arith, nat_tests) in absurd (never le)
-
--- what isn't read has more levels
-pub more_levels : (n : ℕ) (ts : Tokens) → type_read n ts ≡ None → (T : TypeTree) (r : Tokens) → Spells T ts r → n < levels_of T
-more_levels n ts e T r h = low n (levels_of T) (nat_lt n (levels_of T)) refl (λ le. let wrong : None ≡ Some (T, r) = sym e ∙ read_complete n T ts r le h in cc)
-
--- where tokens are left after a type, no type is all of them
-pub tokens_left : (n : ℕ) (ts r : Tokens) (U : TypeTree) → type_read n ts ≡ Some (U, r) → (r ≡ [] → ⊥) → (T : TypeTree) → Spells T ts [] → n < levels_of T
-tokens_left n ts r U e some T h =
-    low n (levels_of T) (nat_lt n (levels_of T)) refl (λ le.
-    let pair = unwrapped (U, r) (T, []) (sym e ∙ read_complete n T ts [] le h) in
-    some (λ i. (pair i).1))

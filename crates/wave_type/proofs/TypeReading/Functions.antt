@@ -1,5 +1,5 @@
 -- The type of a function is read exactly where tokens spell it.
-use Rattle.std.proofs.Common.{◌≡◌, ℕ, ◌≤◌, true, false, List, [], ◌∷◌, Option, Some, None, Result, Ok, Err, IfOk, refl, sym, ap, subst, ◌∙◌, arith, length, codes}
+use Rattle.std.proofs.Common.{◌≡◌, ℕ, ◌≤◌, true, false, List, [], ◌∷◌, Option, Some, None, Result, Ok, Err, IfOk, refl, sym, ap, subst, ◌∙◌, length, codes}
 use Rattle.wave_wasm.specs.Names.{AreDistinct}
 use Rattle.wave_wasm.specs.Types.{TypeTree, Fields, no_fields, field, fields_of, field_names}
 use Rattle.wave_wasm.specs.TypeText.{kind_word}
@@ -7,12 +7,11 @@ use Rattle.wave_lex.specs.Labels.{IsLabel}
 use Rattle.wave_lex.specs.Tokens.{label}
 use Rattle.wave_lex.proofs.RegularShapes.Derivatives.{matches_into}
 use Rattle.wave_type.specs.FunctionType.{FunctionType}
-use Rattle.wave_type.specs.FunctionSpelling.{SpellsParts, SpellsResults, SpellsFunction, levels_of_function}
-use Rattle.wave_type.specs.TypeSpelling.{Tokens, Spells, SpellsFields, levels_of_fields}
-use Rattle.wave_type.specs.Private.TypeReading.{after, Reads, fields_read, type_read}
+use Rattle.wave_type.specs.FunctionSpelling.{SpellsParts, SpellsResults, SpellsFunction}
+use Rattle.wave_type.specs.TypeSpelling.{Tokens, Spells, SpellsFields}
+use Rattle.wave_type.specs.Private.TypeReading.{after, Reads, type_read}
 use Rattle.wave_type.specs.Private.FunctionReading.{params_read, result_parts_read, results_read, signature_read, function_read}
-use Rattle.wave_type.proofs.TypeReading.Complete.{IsComplete, paren, name_stands, fields_all, after_other, onward_there, head_word, no_mark_word}
-use Rattle.wave_type.proofs.TypeTrees.Lists.{field_list-fields_of}
+use Rattle.wave_type.proofs.TypeReading.Complete.{IsComplete, paren, name_stands, after_other, head_word, no_mark_word}
 use Rattle.wave_type.proofs.TypeReading.Sound.{IsSound, onward_back, after_back, fields_back, read_sound}
 use Rattle.wave_type.proofs.TypeReading.WholeTexts.{none_left}
 
@@ -80,28 +79,6 @@ paren_not (field name T (field x U more)) ts r (t, m, l, e, n, s, h) = name_stan
 
 pub type_is_no_paren : (T : TypeTree) (ts r : Tokens) → Spells T ts r → after (codes "(") ts ≡ None
 type_is_no_paren T ts r h = let w = head_word T ts r h in ap (after (codes "(")) w.2 ∙ after_other (codes "(") (kind_word w.0) w.1 (no_mark_word w.0).2
-
-module _ (n : ℕ) (read : Reads) (complete : IsComplete n read) where
-  fields_there : (ps : Parts) (ts r : Tokens) → levels_of_fields (fields_of ps) ≤ n → SpellsFields (codes ")") (fields_of ps) ts r → AreDistinct (field_names (fields_of ps)) → fields_read read (codes ")") ts ≡ Some (ps, r)
-  fields_there ps ts r le h d = fields_all n read complete (codes ")") paren (fields_of ps) ts r le h d ∙ ap (λ (qs : Parts). Some (qs, r)) (field_list-fields_of ps)
-
-  params_there : (ps : Parts) (ts r : Tokens) → levels_of_fields (fields_of ps) ≤ n → SpellsParts ps ts r → params_read read ts (after (codes ")") ts) ≡ Some (ps, r)
-  params_there [] ts r le e = ap (λ us. params_read read us (after (codes ")") us)) e
-  params_there (p ∷ ps) ts r le (h, d) = ap (params_read read ts) (paren_not (fields_of (p ∷ ps)) ts r h) ∙ fields_there (p ∷ ps) ts r le h d
-
-  named_all : (rs : Parts) (ts m : Tokens) → levels_of_fields (fields_of rs) ≤ n → ts ≡ codes "-" ∷ codes ">" ∷ codes "(" ∷ m → SpellsFields (codes ")") (fields_of rs) m [] → AreDistinct (field_names (fields_of rs)) → results_read read ts (after (codes "-") ts) ≡ Some (rs, [])
-  named_all rs ts m le e h d = ap (λ us. results_read read us (after (codes "-") us)) e ∙ fields_there rs m [] le h d
-
-  results_there : (rs : Parts) (ts : Tokens) → levels_of_fields (fields_of rs) ≤ n → SpellsResults rs ts → results_read read ts (after (codes "-") ts) ≡ Some (rs, [])
-  results_there [] ts le e = ap (λ us. results_read read us (after (codes "-") us)) e
-  results_there (([], T) ∷ []) ts le (m, e, s) =
-      ap (λ us. results_read read us (after (codes "-") us)) e ∙ (ap (result_parts_read read m) (type_is_no_paren T m [] s) ∙ onward_there (read m) _ (T, []) _ (complete T m [] (omega arith) s) refl)
-  results_there (([], T) ∷ p ∷ ps) ts le (m, e, (h, d)) = named_all (([], T) ∷ p ∷ ps) ts m le e h d
-  results_there ((c ∷ cs, T) ∷ ps) ts le (m, e, (h, d)) = named_all ((c ∷ cs, T) ∷ ps) ts m le e h d
-
-  function_there : (f : FunctionType) (ts : Tokens) → levels_of_function f ≤ n → SpellsFunction f ts → function_read read ts ≡ Some (f, [])
-  function_there f ts le (m, l, e, ps, rs) =
-      ap (function_read read) e ∙ onward_there (params_read read m (after (codes ")") m)) _ (f.params, l) _ (params_there f.params m l (omega arith) ps) (onward_there (results_read read l (after (codes "-") l)) _ (f.results, []) _ (results_there f.results l (omega arith) rs) refl)
 
 -- ---- as a whole
 

@@ -1,5 +1,5 @@
 -- Bytes of ASCII that stand for themselves between quotes.
-use Rattle.std.proofs.Common.{ℕ, ◌≡◌, ◌<◌, [], ◌∷◌, Bool, true, false, refl, arith, bytes_eq}
+use Rattle.std.proofs.Common.{ℕ, ◌≡◌, ◌<◌, [], ◌∷◌, Bool, true, false, refl, arith, get_or, nat_eq, bytes_eq}
 use Rattle.std.specs.Prelude.{not, ◌||◌}
 use Rattle.std.specs.Bool.{beq}
 use Rattle.std.specs.Char.{is_ascii, is_ascii_control}
@@ -7,6 +7,7 @@ use Rattle.std.proofs.lemmas.Bool.Decides.{nat_tests}
 use Rattle.std.proofs.lemmas.Slice.Eq.{bytes_eq-Decides}
 use Rattle.ucd_category.proofs.Computing.{ucd_category}
 use Rattle.wave_wasm.proofs.EachNumber.{each_below, each_below_at, tests_agree}
+use Rattle.wave_wasm.specs.declared.plain.TheConstants.{PLAINS}
 use Rattle.wave_wasm.specs.Text.{escaped, is_escaped}
 use Rattle.wave_wasm.specs.Private.Text.{is_plain_byte}
 
@@ -26,6 +27,10 @@ plain_below b e = grind (arith, nat_tests)
 -- and it is written as it is
 pub plain_escaped : (b : ℕ) → is_plain_byte b ≡ true → escaped b ≡ b ∷ []
 plain_escaped b e = (bytes_eq-Decides (escaped b) (b ∷ [])).0 (where_true _ _ (each_below_at 127 b (λ x. not (is_plain_byte x) || bytes_eq (escaped x) (x ∷ [])) plain_computed (plain_below b e)) e)
+
+-- the table of bytes
+pub plain_table : (b : ℕ) → b < 256 → nat_eq (get_or PLAINS b 0) 46 ≡ is_plain_byte b
+plain_table b l = tests_agree 256 (λ k. nat_eq (get_or PLAINS k 0) 46) is_plain_byte b l refl
 
 controls_computed : each_below 128 (λ c. beq (is_ascii_control c) (is_escaped c)) ≡ true
 unfolding ucd_category
