@@ -15,7 +15,6 @@ blank_or_not text (Ok u) ends = ends
 blank_or_not text (Err e) (behind, any, says) = (behind, any)
 
 module _ (request : Request) (number : ℕ) (bytes text : List ℕ) (is : text ≡ bytes) (utf8 : IsUtf8 bytes) (printed shown : List ℕ) where
-
   -- a line that was refused
   pub refused_line : (e : Diagnostic) (b : Bool) → b ≡ false → MatchBool b (IsBlank text) (HasItem text) → (e.kind ≢ kind.OutOfMemory → IsRefused request text e) → e.kind ≢ kind.OutOfMemory
       → IsLineExplained request number text e shown → printed ≡ line [] → (said : List ℕ) × IsLineAnswer request number bytes said shown × (printed ≡ line said)

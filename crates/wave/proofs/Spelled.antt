@@ -118,7 +118,6 @@ pub params_distinct : (word : List ℕ) (f : FunctionType) → NamesFunction wor
 params_distinct word f (spells, within, have) = all_distinct (types_of f.params) (function_text_labelled word f spells).0.2
 
 module _ (word : List ℕ) where
-
   -- the text spells a function, of whose parameters one has no value
   pub function_empty : (f : FunctionType) → IsFunctionOf word f → (AllOf HasValue (types_of f.params) → ⊥) → (g : FunctionType) → NamesFunction word g → ⊥
   function_empty f spells none g (others, within, have) = none (subst (AllOf HasValue) (sym (ap types_of (one_params word f g spells others))) have)
