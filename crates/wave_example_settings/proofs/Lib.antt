@@ -1,1 +1,7 @@
+pub mod EachOnce
+pub mod HandedOn
+pub mod JoinCalls
 pub mod Lawful
+pub mod Refused
+pub mod WidthFields
+pub mod Widths

@@ -1,2 +1,4 @@
 pub mod BareTree
+pub mod Joins
 pub mod Refusals
+pub mod Settings
