@@ -37,7 +37,8 @@ none_more n (y ∷ ys) x none other (inr one) = none_more n ys x (λ more. none 
 pub other_name : (n : ℕ) (x : Bor (List ℕ) × Bor TypedValue) (same : Bool) → same ≡ bytes_eq x.0.now (codes "width") → same ≡ false → IsWidth n (field_of x) → ⊥
 other_name n x same tested other is = false≢true (sym other ∙ (tested ∙ (bytes_eq-Decides x.0.now (codes "width")).1 (ap (λ f. f.0) is)))
 
-given : (ys xs : Fields) → map (λ y. y) ys ≡ xs → ys ≡ xs
+-- what a loop was given, at its end
+pub given : (ys xs : Fields) → map (λ y. y) ys ≡ xs → ys ≡ xs
 given [] xs is = is
 given (y ∷ ys) [] is = absurd (cc is)
 given (y ∷ ys) (x ∷ xs) is =

@@ -21,6 +21,7 @@ use Rattle.wave_value.specs.TypedValue.{TypedValue, IsTyped, typed_leaf}
 use Rattle.wave_value.specs.ValueModel.{first_names, trees, beside}
 use Rattle.wave_value.specs.RecordConstructor.{last_under, HasOwn, HasOther, IsRepeated, TakesRecord, BuiltRecord, RefusesRecord}
 use Rattle.wave_value.proofs.ConstructorAnswers.Records.{last_more}
+use Rattle.wave_example_settings.proofs.WidthFields.{given}
 use Rattle.wave_example_settings.specs.Settings.{number, with_number, with_width, TakesWidth, RefusesWidth}
 
 -- ---- the last value under a name
@@ -170,19 +171,20 @@ taken_there : (fs : Fields) (gs : List (List ℕ × TypedValue)) (w : TypedValue
 taken_there fs gs w own taken there =
     (taken.0, all_of (first_names (field_list fs)) gs w taken.1 (name_in (field_list fs) there), owns w gs (field_list fs) (is_width w (field_list fs) own taken.0 there) taken.2)
 
-own_some : (under : List ℕ → Option TypedValue) (fs : List (List ℕ × TypeTree)) (n : List ℕ) → AllOf (λ f. HasOwn f.1 (under f.0)) fs → IsOneOf (first_names fs) n → under n ≢ None
-own_some under [] n h one none = one
-own_some under (f ∷ fs) n h (inl e) none = subst (HasOwn f.1) (ap under (sym e) ∙ none) h.0
-own_some under (f ∷ fs) n h (inr one) none = own_some under fs n h.1 one none
+-- what holds of each meets what holds of one
+meets : {A : Type 0} (P Q : A → Type 0) (xs : List A) → ((x : A) → P x → Q x → ⊥) → AllOf P xs → SomeOf Q xs → ⊥
+meets P Q [] apart all one = one
+meets P Q (x ∷ xs) apart all (inl q) = apart x all.0 q
+meets P Q (x ∷ xs) apart all (inr one) = meets P Q xs apart all.1 one
 
-own_and_other : (words : TypedValue → List ℕ) (t s : List ℕ) (T : TypeTree) (o : Option TypedValue) → HasOwn T o → HasOther words t s T o → ⊥
-own_and_other words t s T None own other = own
-own_and_other words t s T (Some v) own other = other.0 own
+named_so : (fs : List (List ℕ × TypeTree)) (n : List ℕ) → IsOneOf (first_names fs) n → SomeOf (λ f. n ≡ f.0) fs
+named_so [] n one = one
+named_so (f ∷ fs) n (inl e) = inl e
+named_so (f ∷ fs) n (inr one) = inr (named_so fs n one)
 
-never_other : (words : TypedValue → List ℕ) (t s : List ℕ) (under : List ℕ → Option TypedValue) (fs : List (List ℕ × TypeTree)) → AllOf (λ f. HasOwn f.1 (under f.0)) fs → SomeOf (λ f. HasOther words t s f.1 (under f.0)) fs → ⊥
-never_other words t s under [] h one = one
-never_other words t s under (f ∷ fs) h (inl other) = own_and_other words t s f.1 (under f.0) h.0 other
-never_other words t s under (f ∷ fs) h (inr one) = never_other words t s under fs h.1 one
+not_both : (words : TypedValue → List ℕ) (t s : List ℕ) (T : TypeTree) (o : Option TypedValue) → HasOwn T o → HasOther words t s T o → ⊥
+not_both words t s T None own other = own
+not_both words t s T (Some v) own other = other.0 own
 
 some_name : (all : List (List ℕ)) (gs : List (List ℕ × TypedValue)) (n : List ℕ) → AreAllOf all (first_names gs) → last_under gs n ≢ None → IsOneOf all n
 some_name all [] n h some = absurd (some refl)
@@ -195,10 +197,10 @@ some_name all (g ∷ gs) n h some = by (bytes_eq g.0 n) refl (some_name all gs n
 -- fields that it takes are refused for lack of memory alone
 memory_alone : (words : TypedValue → List ℕ) (fs : Fields) (gs : List (List ℕ × TypedValue)) (e : WasmValueError) → TakesRecord (type.record_type fs) gs → RefusesRecord words (type.record_type fs) gs e → IsMemory e
 memory_alone words fs gs (error.WrongTypeKind k s) taken r = absurd (r.0 refl)
-memory_alone words fs gs (error.MissingField n) taken (is, (one, inl none)) = absurd (own_some (last_under gs) (field_list fs) _ taken.2 one none)
+memory_alone words fs gs (error.MissingField n) taken (is, (one, inl none)) = absurd (meets _ _ (field_list fs) (λ f own is. subst (HasOwn f.1) (ap (last_under gs) (sym is) ∙ none) own) taken.2 (named_so (field_list fs) _ one))
 memory_alone words fs gs (error.MissingField n) taken (is, (one, inr twice)) = absurd (never_twice (first_names (field_list fs)) _ taken.0 twice)
 memory_alone words fs gs (error.UnknownField n) taken (is, (some, none)) = absurd (none (some_name (first_names (field_list fs)) gs _ taken.1 some))
-memory_alone words fs gs (error.WrongValueType s t) taken (is, other) = absurd (never_other words _ _ (last_under gs) (field_list fs) taken.2 other)
+memory_alone words fs gs (error.WrongValueType s t) taken (is, other) = absurd (meets _ _ (field_list fs) (λ f. not_both words _ _ f.1 (last_under gs f.0)) taken.2 other)
 memory_alone words fs gs (error.Memory m) taken r = tt
 memory_alone words fs gs _ taken r = absurd r.1
 
@@ -216,14 +218,6 @@ refuses_width words _ gs w e own taken r = absurd taken
 untyped : (xs : List (Bor (List ℕ) × Bor TypedValue)) → map (λ g. (g.0, g.1.tree)) (shown_fields (λ (w : TypedValue). w) xs) ≡ shown_fields (λ w. w.tree) xs
 untyped [] = refl
 untyped (x ∷ xs) = ap (λ fs. (x.0.now, x.1.now.tree) ∷ fs) (untyped xs)
-
-given : (ys xs : List (Bor (List ℕ) × Bor TypedValue)) → map (λ y. y) ys ≡ xs → ys ≡ xs
-given [] xs is = is
-given (y ∷ ys) [] is = absurd (cc is)
-given (y ∷ ys) (x ∷ xs) is =
-    let head : y ≡ x = cc is in
-    let more : ys ≡ xs = given ys xs (cc is) in
-    λ i. head i ∷ more i
 
 pub handed_in : (ys xs : List (Bor (List ℕ) × Bor TypedValue)) (fields all : List (Bor (List ℕ) × TypedValue)) (name : Bor (List ℕ)) (w : TypedValue) → named fields ≡ shown_fields (λ v. v) ys → map (λ y. y) ys ≡ xs → all ≡ fields ++ (name, w) ∷ [] → name.now ≡ width_name
     → named all ≡ with_last (shown_fields (λ v. v) xs) w
