@@ -1,6 +1,7 @@
-//! Makes the call of the library that its first argument names, on what the others say, and prints
-//! whether it answered what they say is expected, or was out of memory, or answered otherwise. Where it
-//! was out of memory it makes the call once more. A test calls it while memory is refused to it.
+//! Makes the call of the library that its first argument names, on what the others say. Of a call in
+//! `memory` it prints whether it answered what they say is expected, or was out of memory, or answered
+//! otherwise; where it was out of memory it makes the call once more. A test calls it while memory is
+//! refused to it. Of a call in `printed` it prints the answer.
 //!
 //! `?` keeps two refusals of memory apart: an `AllocError` is one to the call that is judged, while a
 //! `TypeErrorKind` and a `ParserError` come of making ready what it is called on. A refusal that a
@@ -8,11 +9,8 @@
 #![tactic(auto)]
 
 mod memory;
+mod printed;
 mod rows;
-#[cfg(test)]
-mod texts;
-#[cfg(test)]
-mod trees;
 
 use memory::found::Found;
 use memory::words::{value_at, word};
@@ -32,6 +30,7 @@ fn main(rt: HostRuntime) -> ExitCode {
             let second = attempt(rt);
             println!(rt; "{first}, then {second}")
         }
+        Found::Unknown => print_answer(rt),
         _ => println!(rt; "{first}"),
     };
     match said {
@@ -45,6 +44,18 @@ fn attempt(rt: HostRuntime) -> Found {
     match arguments(rt) {
         Ok(words) => called(rt.alloc(), words.as_slice()),
         Err(found) => found,
+    }
+}
+
+/// Prints what the call of `printed` that the arguments name answers, and a line feed.
+fn print_answer(rt: HostRuntime) -> io::Result<()> {
+    let answer = match arguments(rt) {
+        Ok(words) => printed::answer(rt.alloc(), words.as_slice()),
+        Err(_) => None,
+    };
+    match answer {
+        Some(answer) => println!(rt; "{answer}"),
+        None => println!(rt; "{}", Found::Unknown),
     }
 }
 

@@ -1,4 +1,4 @@
-//! What texts answer at types, types by their texts, and truncated texts; for the tests and the program.
+//! Texts that are read in each way, types by their texts, and truncated texts.
 pub mod cuts;
 pub mod reading;
 pub mod types;

@@ -117,7 +117,11 @@ pub fn call(alloc: Global, text: &str, expected: &str) -> Found {
 }
 
 /// The types that are the arguments from this place on.
-fn types_from(alloc: Global, words: &[String], first: usize) -> Result<Vec<Type>, TypeErrorKind> {
+pub fn types_from(
+    alloc: Global,
+    words: &[String],
+    first: usize,
+) -> Result<Vec<Type>, TypeErrorKind> {
     let mut types = Vec::new(alloc);
     for at in first..words.len() {
         types.push(type_of(alloc, word(words, at))?)?;

@@ -14,7 +14,7 @@ pub fn type_of(alloc: Global, text: &str) -> Result<Type, TypeErrorKind> {
 }
 
 /// The type that is displayed so, where it is one of those of the rows that no text spells: a name
-/// stands twice in it, or is no label.
+/// stands twice in it, or is no label. One of more levels than a text of a type may have is named in words.
 fn unspelled(alloc: Global, text: &str) -> Result<Option<Type>, AllocError> {
     match text {
         "enum { A b }" => Type::enum_ty(alloc, &["A b"]),
@@ -27,8 +27,18 @@ fn unspelled(alloc: Global, text: &str) -> Result<Option<Type>, AllocError> {
         "variant { off, on(enum { A b }) }" => {
             cases(alloc, "off", "on", Type::enum_ty(alloc, &["A b"])?)
         }
+        "59 lists of options" => Ok(Some(lists_of_options(alloc)?)),
         _ => Ok(None),
     }
+}
+
+/// Lists of options of such lists, 59 of them around a list of bytes.
+fn lists_of_options(alloc: Global) -> Result<Type, AllocError> {
+    let mut ty = Type::list(alloc, Type::U8)?;
+    for _ in 0..59 {
+        ty = Type::list(alloc, Type::option(alloc, ty)?)?;
+    }
+    Ok(ty)
 }
 
 /// The record of bytes with these names.
