@@ -3,7 +3,6 @@
 mod bare;
 mod calls;
 mod conversions;
-mod explained;
 mod flags;
 mod levels;
 mod readme;
