@@ -11,3 +11,4 @@ pub mod LinesAnswered
 pub mod AskedFor
 pub mod OneLine
 pub mod Misused
+pub mod Nearest

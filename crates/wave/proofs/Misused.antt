@@ -4,7 +4,7 @@ use Rattle.wave_wasm.specs.Types.{TypeTree}
 use Rattle.wave.specs.declared.request.Request.TheVariants.{Value, Call, CallAt, Read}
 use Rattle.wave.specs.declared.request.Asked.TheVariants.{Whole, Lines}
 use Rattle.wave.specs.Lines.{line}
-use Rattle.wave.specs.Misuse.{IsCommand, IsQuoted, IsMisuse, IsExplainedMisuse, IsTypeExplained, IsBadType, IsBadFunc}
+use Rattle.wave.specs.Misuse.{IsCommand, IsQuoted, AskToRead, IsMisuse, AreBeforeLines, IsExplainedMisuse, IsTypeExplained, IsBadType, IsBadFunc}
 use Rattle.wave_type.specs.FunctionSpelling.{IsFunctionOf, levels_of_function}
 use Rattle.wave_type.specs.FunctionType.{FunctionType}
 use Rattle.wave_type.specs.TypeErrors.{TypeRefusal, type_error_text}
@@ -73,9 +73,9 @@ read_limit_said (Ok why) rest type word is none (quoted, quotes, said) =
     inr (inr (inr (inr (inl (codes "read" ∷ type ∷ [], word, quoted, ap (λ r. codes "read" ∷ r) is, inr (type, refl), none, quotes, said)))))
 
 -- no type behind `read`
-pub type_said : {E : Type 0} (r : Result (String Global) E) (rest more : List (List ℕ)) (word : List ℕ) → rest ≡ word ∷ more → IfOk r (λ why. IsBadType word (string_bytes why)) → IfOk r (λ why. IsMisuse (codes "read" ∷ rest) (string_bytes why))
-type_said (Err e) rest more word is reported = tt
-type_said (Ok why) rest more word is reported = inr (inr (inr (inr (inr (inl (word, more, ap (λ r. codes "read" ∷ r) is, reported))))))
+pub type_said : {E : Type 0} (r : Result (String Global) E) (words : List (List ℕ)) (word : List ℕ) → AskToRead words word → IfOk r (λ why. IsBadType word (string_bytes why)) → IfOk r (λ why. IsMisuse words (string_bytes why))
+type_said (Err e) words word asked reported = tt
+type_said (Ok why) words word asked reported = inr (inr (inr (inr (inr (inl (word, asked, reported))))))
 
 -- no type of a function behind `call`
 pub func_said : {E : Type 0} (r : Result (String Global) E) (rest : List (List ℕ)) (word : List ℕ) → rest ≡ word ∷ [] → IfOk r (λ why. IsBadFunc word (string_bytes why)) → IfOk r (λ why. IsMisuse (codes "call" ∷ rest) (string_bytes why))
@@ -105,7 +105,7 @@ pub none_first : (words others : List (List ℕ)) → others ≡ words → MakeN
 none_first words others is = subst MakeNone (sym is)
 
 -- what is said where help is
-pub helped : {E : Type 0} (r : Result (String Global) E) (words prefix : List (List ℕ)) (why : List ℕ) → (words ≡ prefix) ⊎ (words ≡ prefix ++ codes "--lines" ∷ []) → IsMisuse prefix why
+pub helped : {E : Type 0} (r : Result (String Global) E) (words prefix : List (List ℕ)) (why : List ℕ) → AreBeforeLines words prefix → IsMisuse prefix why
     → IfOk r (λ whole. string_bytes whole ≡ why ++ line (codes "wave --help has the arguments")) → IfOk r (λ text. IsExplainedMisuse words (string_bytes text))
 helped (Err e) words prefix why of wrong is = tt
 helped (Ok whole) words prefix why of wrong is = (prefix, why, of, wrong, is)
@@ -114,8 +114,9 @@ helped (Ok whole) words prefix why of wrong is = (prefix, why, of, wrong, is)
 pub none_whole : (words : List (List ℕ)) → AreUnknown words → MakeNone words
 none_whole words unknown request asked = unknown (Whole request) asked
 
-pub none_before : (words prefix : List (List ℕ)) → words ≡ prefix ++ codes "--lines" ∷ [] → AreUnknown words → MakeNone prefix
-none_before words prefix is unknown request asked = unknown (Lines request) (prefix, is, asked)
+pub none_before : (words prefix : List (List ℕ)) → AreBeforeLines words prefix → AreUnknown words → MakeNone prefix
+none_before words prefix (inl is) unknown = λ request asked. unknown (Lines request) (prefix, is, asked)
+none_before words prefix (inr (is, other)) unknown = subst MakeNone is (none_whole words unknown)
 
 -- a type without a value
 pub valueless_said : {E : Type 0} (r : Result (String Global) E) (word text : List ℕ) (T : TypeTree) → text ≡ text_of word → IsTypeOf text T → levels_of T ≤ 100 → ((U : TypeTree) → NamesType word U → ⊥)

@@ -49,11 +49,18 @@ edits word other = levenshtein_row nat_eq (chars word) (chars other) (length (ch
 abbrev pub suggestions : List (List ℕ)
 suggestions = codes "value" ∷ codes "call" ∷ codes "read" ∷ codes "help" ∷ codes "version" ∷ []
 
+-- this one of the words is the first to which the fewest edits lead
+abbrev pub IsNearest : List ℕ → List (List ℕ) → List ℕ → Type 0
+IsNearest word words near =
+    (before : List (List ℕ)) × (behind : List (List ℕ)) × (words ≡ before ++ near ∷ behind)
+    × AllOf (λ other. edits word near < edits word other) before
+    × AllOf (λ other. edits word near ≤ edits word other) behind
+
 -- what is said of the nearest command, at most two edits away; nothing where none is that near
 abbrev pub IsHint : List ℕ → List ℕ → Type 0
 IsHint word hint =
     AllOf (λ other. 2 < edits word other) suggestions × (hint ≡ [])
-    ⊎ ((near : List ℕ) × (edits word near ≤ 2) × AllOf (λ other. edits word near ≤ edits word other) suggestions
+    ⊎ ((near : List ℕ) × IsNearest word suggestions near × (edits word near ≤ 2)
     × (hint ≡ codes "; did you mean \"" ++ (near ++ codes "\"?")))
 
 -- the text is that of a type or of a function's type that is refused, and the refusal is shown in it
@@ -99,7 +106,13 @@ IsBadFunc word why =
     ⊎ ((f : FunctionType) × IsFunctionOf word f × (AllOf HasValue (types_of f.params) → ⊥)
     × (why ≡ line (codes "argument 2 has a parameter of a type without a value: f32 and f64 have none here, nor has what needs one of them")))
 
--- what is wrong with the arguments, and what is said of it
+-- `read` and the word for a type are all of the arguments, or a limit comes after them
+abbrev pub AskToRead : List (List ℕ) → List ℕ → Type 0
+AskToRead words word =
+    (words ≡ codes "read" ∷ word ∷ [])
+    ⊎ ((limit : List ℕ) × (n : ℕ) × (words ≡ codes "read" ∷ word ∷ limit ∷ []) × IsLimitWord limit n)
+
+-- what is wrong with the arguments, and what is said of it; no two of these can be so at once
 abbrev pub IsMisuse : List (List ℕ) → List ℕ → Type 0
 IsMisuse words why =
     (words ≡ []) × (why ≡ line (codes "no command"))
@@ -107,14 +120,20 @@ IsMisuse words why =
     ⊎ HasTooMany words why
     ⊎ (words ≡ codes "read" ∷ []) × (why ≡ line (codes "no type: read takes the text of one, or the name of a sample"))
     ⊎ HasNoLimit words why
-    ⊎ ((word : List ℕ) × (more : List (List ℕ)) × (words ≡ codes "read" ∷ word ∷ more) × IsBadType word why)
+    ⊎ ((word : List ℕ) × AskToRead words word × IsBadType word why)
     ⊎ ((word : List ℕ) × (words ≡ codes "call" ∷ word ∷ []) × IsBadFunc word why)
     ⊎ ((word : List ℕ) × (words ≡ word ∷ []) × IsCommand word 1 × (why ≡ line (codes "--lines stands behind value, call or read")))
+
+-- these are the arguments before a last `--lines`, or all where the last is another
+abbrev pub AreBeforeLines : List (List ℕ) → List (List ℕ) → Type 0
+AreBeforeLines words prefix =
+    (words ≡ prefix ++ codes "--lines" ∷ [])
+    ⊎ (words ≡ prefix) × ((before : List (List ℕ)) → words ≡ before ++ codes "--lines" ∷ [] → ⊥)
 
 -- what is said of arguments that ask for nothing, of those before a last `--lines`, and where help is
 abbrev pub IsExplainedMisuse : List (List ℕ) → List ℕ → Type 0
 IsExplainedMisuse words text =
-    (prefix : List (List ℕ)) × (why : List ℕ) × ((words ≡ prefix) ⊎ (words ≡ prefix ++ codes "--lines" ∷ []))
+    (prefix : List (List ℕ)) × (why : List ℕ) × AreBeforeLines words prefix
     × IsMisuse prefix why × (text ≡ why ++ line (codes "wave --help has the arguments"))
 
 module _ {E : Type 0} (contents : E → Option (List ℕ)) where

@@ -7,7 +7,7 @@ ghost use Rattle.wave_type.specs.TypeErrors.{type_error_text};
 ghost use Rattle.wave_type.specs.declared.error.TypeErrorKind.TheVariants as kind;
 ghost use Rattle.wasm_wave.specs.Places.{IsExplained};
 ghost use Rattle.wave.specs.Lines.{line};
-ghost use Rattle.wave.specs.Misuse.{edits, suggestions, IsHint, IsQuoted, IsBadType, IsBadFunc, IsMisuse, IsExplainedMisuse};
+ghost use Rattle.wave.specs.Misuse.{edits, suggestions, IsNearest, IsHint, IsQuoted, IsBadType, IsBadFunc, IsMisuse, AreBeforeLines, IsExplainedMisuse};
 ghost use Rattle.wave.specs.Requests.{AreUnknown};
 ghost use Rattle.wave.specs.Private.Requests.{IsNoRequestWord, MakeNone};
 ghost use Rattle.wave.specs.Types.{NamesType, NamesFunction};
@@ -24,12 +24,23 @@ pub fn explain_misuse(alloc: Global, words: &[String]) -> Result<String, AllocEr
     requires { AreUnknown (map string_bytes words.now) }
     ensures { IfOk result (λ text. IsExplainedMisuse (map string_bytes words.now) (string_bytes text)) }
 {
-    if let Some((last, prefix)) = words.split_last() {
-        if last.as_str() == "--lines" {
-            return with_help(misuse(alloc, prefix)?);
+    with_help(misuse(alloc, before_lines(words))?)
+}
+
+/// The arguments before a last `--lines`, or all where the last is another.
+fn before_lines(words: &[String]) -> &[String]
+    ensures { AreBeforeLines (map string_bytes words.now) (map string_bytes result.now) }
+{
+    match words.split_last() {
+        Some((last, prefix)) => {
+            if last.as_str() == "--lines" {
+                prefix
+            } else {
+                words
+            }
         }
+        None => words,
     }
-    with_help(misuse(alloc, words)?)
 }
 
 /// What is wrong, and where help is.
@@ -141,7 +152,7 @@ fn hint(alloc: Global, word: &str) -> Result<String, AllocError>
 fn nearest(alloc: Global, word: &str) -> Result<Option<&'static str>, AllocError>
     ensures { IfOk result (λ found. MatchOption found
         (AllOf (λ other. 2 < edits word.now other) suggestions)
-        (λ near. (edits word.now near.now ≤ 2) × AllOf (λ other. edits word.now near.now ≤ edits word.now other) suggestions)) }
+        (λ near. IsNearest word.now suggestions near.now × (edits word.now near.now ≤ 2))) }
 {
     let least = edits(alloc, word, "value")?;
     let (near, least) = nearer(alloc, word, "value", least, "call")?;
@@ -162,6 +173,8 @@ fn nearer(
     requires { least ≡ edits word.now near.now }
     ensures counted { IfOk result (λ found. found.1 ≡ edits word.now found.0.now) }
     ensures nearer { IfOk result (λ found. (found.1 ≤ least) × (found.1 ≤ edits word.now other.now)) }
+    ensures first { IfOk result (λ found. (words : List (List ℕ)) →
+        IsNearest word.now words near.now → IsNearest word.now (words ++ other.now ∷ []) found.0.now) }
 {
     let count = edits(alloc, word, other)?;
     if count < least {

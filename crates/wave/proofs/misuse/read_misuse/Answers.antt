@@ -1,4 +1,4 @@
-use Rattle.std.proofs.Common.{ℕ, rules, arith, codes, refl, sym, subst, ◌∙◌}
+use Rattle.std.proofs.Common.{ℕ, ◌∷◌, rules, arith, codes, inl, inr, refl, sym, ap, subst, ◌∙◌}
 use Rattle.wave.specs.Requests.{IsLimitWord}
 use Rattle.wave.proofs.Misused.{length_texts, text_at, none_read, none_read_within, type_said, read_limit_said, too_many_said}
 use Rattle.wave.proofs.Requested.{one_word, two_words}
@@ -8,12 +8,19 @@ pub bad_type-requires : goal.bad_type-requires
 bad_type-requires c = none_read _ _ (one_word c.args.rest.now c.ty-item.result _ c.in-len1.len_at_least c.in-len1.len_below c.ty-item.is c.as_str.ensures.value) c.requires
 
 pub returns-in-len1 : goal.returns-in-len1
-returns-in-len1 c = type_said c.bad_type.result _ _ c.as_str.result.now (one_word c.args.rest.now c.ty-item.result _ c.in-len1.len_at_least c.in-len1.len_below c.ty-item.is c.as_str.ensures.value) c.bad_type.ensures
+returns-in-len1 c =
+    type_said c.bad_type.result _ c.as_str.result.now (inl (ap (λ r. codes "read" ∷ r) (one_word c.args.rest.now c.ty-item.result _ c.in-len1.len_at_least c.in-len1.len_below c.ty-item.is c.as_str.ensures.value)))
+    c.bad_type.ensures
 
 pub bad_type-requires-in-Some : goal.bad_type-requires-in-Some
 bad_type-requires-in-Some c =
     none_read_within _ _ c.as_str-in-len2.result.now c.in-Some.field-0
     (two_words c.args.rest.now _ _ _ _ c.in-len2.len_at_least c.in-len2.len_below c.ty-item-then-rest-lt3.is c.limit-item.is c.as_str-in-Some.ensures.value c.as_str-in-len2.ensures.value) c.in-Some.ensures c.requires
+
+pub returns-in-Some : goal.returns-in-Some
+returns-in-Some c =
+    let are = two_words c.args.rest.now _ _ _ _ c.in-len2.len_at_least c.in-len2.len_below c.ty-item-then-rest-lt3.is c.limit-item.is c.as_str-in-Some.ensures.value c.as_str-in-len2.ensures.value in
+    type_said c.bad_type-in-Some.result _ c.as_str-in-Some.result.now (inr (c.as_str-in-len2.result.now, c.in-Some.field-0, ap (λ r. codes "read" ∷ r) are, c.in-Some.ensures)) c.bad_type-in-Some.ensures
 
 pub returns-in-len3-up : goal.returns-in-len3-up
 returns-in-len3-up c =
