@@ -12,3 +12,4 @@ pub mod AskedFor
 pub mod OneLine
 pub mod Misused
 pub mod Nearest
+pub mod HelpText

@@ -66,6 +66,7 @@ pub fn notice_of(words: &[String]) -> Option<&'static str>
 }
 
 /// The help or the version, where the word asks for it.
+#[tactic(auto, using(crate::proofs::HelpText::help_is))]
 fn notice(word: &str) -> Option<&'static str>
     ensures { MatchOption result
         (IsNoNotice (word.now ∷ []))
@@ -79,6 +80,7 @@ fn notice(word: &str) -> Option<&'static str>
 }
 
 /// The help, where it is asked for behind a word that begins a request.
+#[tactic(auto, using(crate::proofs::HelpText::help_is))]
 fn help_of(command: &str, option: &str) -> Option<&'static str>
     ensures { MatchOption result
         (IsNoNotice (command.now ∷ option.now ∷ []))
