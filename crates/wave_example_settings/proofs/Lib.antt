@@ -2,6 +2,5 @@ pub mod EachOnce
 pub mod HandedOn
 pub mod JoinCalls
 pub mod Lawful
-pub mod Refused
 pub mod WidthFields
 pub mod Widths

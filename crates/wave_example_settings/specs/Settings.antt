@@ -10,9 +10,10 @@ use Rattle.wave_wasm.specs.ConstructorContracts.{IsMemory}
 use Rattle.wave_wasm.specs.WriterState.{IsOutOfMemory}
 use Rattle.wave_wasm.specs.declared.wasm.WasmTypeKind.TheVariants as kinds
 use Rattle.wave_wasm.specs.declared.wasm.WasmValueError.{WasmValueError}
-use Rattle.wave_lex.specs.Errors.{Diagnostic, LiesInText}
-use Rattle.wave_lex.specs.declared.error.ParserErrorKind.TheVariants.{OutOfMemory}
-use Rattle.wave_grammar.specs.Denotes.{Means, MeansNone}
+use Rattle.wave_lex.specs.Errors.{Diagnostic}
+use Rattle.wave_value.specs.FullTypes.{IsFull}
+use Rattle.wave_grammar.specs.Denotes.{Means}
+use Rattle.wave_tree.specs.FromStr.{RefusesText}
 use Rattle.wave_example_settings.specs.declared.settings.Refusal.{Refusal}
 use Rattle.wave_example_settings.specs.declared.settings.Refusal.TheVariants as refusal
 
@@ -57,9 +58,9 @@ MeansSettings T s v = HasDistinctNames T → Means T 100 s v
 abbrev pub AreResized : TypeTree → List ℕ → ℕ → Value → Type 0
 AreResized T s n w = (v : Value) × MeansSettings T s v × (w ≡ with_width n v)
 
--- the text means no settings, where the names of their type are distinct; or out of memory
+-- what `from_str` says of the text: where the names of their type are distinct, a fault of it, which means no settings; or out of memory
 abbrev pub RefusesSettings : TypeTree → List ℕ → Diagnostic → Type 0
-RefusesSettings T s e = LiesInText s e.span × (HasDistinctNames T → e.kind ≢ OutOfMemory → MeansNone T 100 s)
+RefusesSettings T s e = RefusesText IsFull T 100 s e
 
 -- why the settings of the text are not written with another width
 abbrev pub RefusesResizing : TypeTree → List ℕ → Refusal → Type 0

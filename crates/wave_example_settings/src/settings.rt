@@ -50,7 +50,7 @@ pub fn settings_type(alloc: Global) -> Result<Type, AllocError>
 }
 
 /// The settings that the text means. Where the names of their type are distinct, they are of the type, and
-/// but for lack of memory only a text is refused that means none. A refusal's span lies in the text.
+/// but for lack of memory only a text is refused that means none: the refusal is that of `from_str`.
 pub fn read(alloc: Global, ty: &Type, source: &str) -> Result<Value, ParserError>
     ensures read { IfOk result (λ v. MeansSettings ty.now source.now v.tree) }
     ensures of_type { IfOk result (λ v. HasDistinctNames ty.now → IsAt ty.now v) }
