@@ -1,5 +1,5 @@
 // The lines of an input, which is read chunk by chunk.
-ghost use Rattle.std.specs.Prelude.{◌≡◌, ◌≤◌};
+ghost use Rattle.std.specs.Prelude.{◌≡◌, ◌≤◌, length};
 ghost use Rattle.std.specs.Str.Lines.{strip_carriage_return};
 
 use crate::input::{Input, RunError};
@@ -7,7 +7,8 @@ use memchr::memchr;
 use std::alloc::{AllocError, Global};
 use std::io::Read;
 
-const CHUNK: usize = 65_536;
+/// How many bytes are read at most by one call.
+pub const CHUNK: usize = 65_536;
 
 /// What was read of an input and not taken yet.
 #[derive(Drop)]
@@ -17,10 +18,11 @@ pub struct Unread {
     end: usize,
     ghost in_order: { start ≤ end },
     ghost in_chunk: { end ≤ 65536 },
+    ghost has_room: { length chunk ≡ 65536 },
 }
 
 impl Unread {
-    ghost use Rattle.std.specs.Prelude.{ℕ, List, [], ◌∷◌, ◌≢◌, ◌++◌, ◌+◌, true, false, length, take, drop, IfOk, IfErr, OnOk, MatchOption, MatchBool};
+    ghost use Rattle.std.specs.Prelude.{ℕ, List, [], ◌∷◌, ◌≢◌, ◌++◌, ◌+◌, true, false, take, drop, IfOk, IfErr, OnOk, MatchOption, MatchBool};
     ghost use Rattle.std.specs.Io.KnownBytes.{Consumes, IsAtEnd};
     ghost use Rattle.wave.specs.Private.InputLines.{IsInOneLine, EndsFirstLine, left, IsCutOff, IsEndKnown, TakesLine, unread_bytes, most_lines};
 

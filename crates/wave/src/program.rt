@@ -20,14 +20,13 @@ use crate::by_lines::answer_lines;
 use crate::explained::explain_refusal;
 use crate::help::notice_of;
 use crate::input::{Input, RunError};
+use crate::lines::CHUNK;
 use crate::misuse::explain_misuse;
 use crate::output::Output;
 use crate::request::{Asked, Request, asked_by};
 use std::alloc::{AllocError, Global};
 use std::io::{Read, Write};
 use wasm_wave::parser::{ParserError, ParserErrorKind};
-
-const CHUNK: usize = 65_536;
 
 const USAGE: &str = "usage: wave value [N] | wave call | wave read NAME [N]\n";
 
