@@ -1,9 +1,2 @@
 pub mod MainTheorem
-mod Lines
-mod Shown
-mod OneExplanation
-mod Examples
-mod Steps
-mod Reported
-mod Expecting
-mod Escapes
+pub mod OneExplanation

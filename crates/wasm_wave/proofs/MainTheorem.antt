@@ -5,8 +5,8 @@ use Rattle.std.proofs.lemmas.List.{append-nil}
 use Rattle.wave_wasm.specs.Types.{TypeTree, HasDistinctNames}
 use Rattle.wave_wasm.specs.Values.{Value}
 use Rattle.wave_wasm.specs.Text.{text, has_text}
-use Rattle.wave_wasm.specs.WriterState.{IsGrounded, IsForMemory}
-use Rattle.wave_wasm.specs.declared.writer.WriterError.{WriterError}
+use Rattle.wave_writer.specs.WriterState.{IsGrounded, IsForMemory}
+use Rattle.wave_writer.specs.declared.writer.WriterError.{WriterError}
 use Rattle.wave_grammar.proofs.Unambiguity.OneReading.{one_reading}
 use Rattle.wave_grammar.proofs.RoundTrip.Leaves.{one_cut_into}
 use Rattle.wasm_wave.specs.MainTheorem.{OneValue, IsTextOf, RefusesWriting}

@@ -3,8 +3,8 @@ use Rattle.std.proofs.Common.{ℕ, suc, ◌≡◌, ◌<◌, ◌-◌, List, [], �
 use Rattle.std.proofs.lemmas.List.{append_assoc}
 use Rattle.std.specs.Str.{IsCharBoundary}
 use Rattle.std.specs.declared.ops.Range.{Range}
-use Rattle.wasm_wave.specs.Places.{line_feeds, IsInOneLine, AreWholeLines, IsBehindLine, IsPlaceIn, IsGreatest, IsPlaceOf, IsMarked, heading, IsExplained}
-use Rattle.wasm_wave.specs.Shown.{shown_lines}
+use Rattle.wave_place.specs.Places.{line_feeds, IsInOneLine, AreWholeLines, IsBehindLine, IsPlaceIn, IsGreatest, IsPlaceOf, IsMarked, heading, IsExplained}
+use Rattle.wave_place.specs.Shown.{shown_lines}
 
 -- one number is the greatest
 one_greatest : (P : ℕ → Type 0) (most n k : ℕ) → IsGreatest P most n → IsGreatest P most k → n ≡ k

@@ -1,9 +1,1 @@
 pub mod MainTheorem
-pub mod Places
-pub mod Shown
-pub mod Paths
-pub mod WordMarks
-pub mod EscapeMarks
-pub mod ValueExplained
-pub mod CallExplained
-pub mod Private

@@ -5,8 +5,8 @@ use Rattle.wave_wasm.specs.Values.{Value}
 use Rattle.wave_wasm.specs.HasType.{HasType}
 use Rattle.wave_wasm.specs.Merge.{merged}
 use Rattle.wave_wasm.specs.Text.{text, has_text}
-use Rattle.wave_wasm.specs.WriterState.{IsGrounded, IsForMemory}
-use Rattle.wave_wasm.specs.declared.writer.WriterError.{WriterError}
+use Rattle.wave_writer.specs.WriterState.{IsGrounded, IsForMemory}
+use Rattle.wave_writer.specs.declared.writer.WriterError.{WriterError}
 use Rattle.wave_grammar.specs.Tree.{levels}
 use Rattle.wave_grammar.specs.Denotes.{Means}
 use Rattle.wave_grammar.specs.RoundTripLaws.{ReadBack}

@@ -7,8 +7,9 @@ ghost use Rattle.wave_lex.specs.Labels.{HasDistinctLabels};
 ghost use Rattle.wave_grammar.specs.UnambiguityLaws.{OneReading};
 ghost use Rattle.wave_grammar.specs.RoundTripLaws.{ReadsBack, EqualTexts, ReadsMerged, ReadsBackWithinTwice};
 ghost use Rattle.wasm_wave.specs.MainTheorem.{OneValue};
-ghost use Rattle.wasm_wave.specs.Places.{IsExplained};
+ghost use Rattle.wave_place.specs.Places.{IsExplained};
 
+pub use wave_expected::laws::{open_brackets_are_forms, unexpected_may_not_follow};
 pub use wave_lex::laws::{
     decoding_functional, faults_refuse, labels_are_words, lines_join, no_longer_label, one_cut,
     one_line_joins, parts_join, through_first_quotes, tokens_cut,
@@ -16,13 +17,12 @@ pub use wave_lex::laws::{
 pub use wave_tree::laws::{
     a_fault_alone_is_answered, accepted_tokens_have_a_tree, answered_faults_are_faults,
     keys_are_values, last_commas_mean_nothing, levels_are_exact, lexer_calls_bounded,
-    nodes_read_as_their_tokens, one_fault, one_reading, one_tree, open_brackets_are_forms,
-    order_means_nothing, orders_agree, params_are_by_tree, prefixes_are_viable,
-    read_values_have_a_tree, reading_is_by_tree, refusal_kinds_sound, refusals_lie_in_the_text,
-    refused_tokens_begin_none, refused_values_have_none, same_tokens_mean_the_same,
-    shown_call_keeps_meaning, shown_keeps_meaning, trees_are_accepted, unexpected_may_not_follow,
-    unexpected_tokens_begin_none, untyped_reading_agrees, viable_tokens_begin_a_tree,
-    whole_texts_are_read,
+    nodes_read_as_their_tokens, one_fault, one_reading, one_tree, order_means_nothing,
+    orders_agree, params_are_by_tree, prefixes_are_viable, read_values_have_a_tree,
+    reading_is_by_tree, refusal_kinds_sound, refusals_lie_in_the_text, refused_tokens_begin_none,
+    refused_values_have_none, same_tokens_mean_the_same, shown_call_keeps_meaning,
+    shown_keeps_meaning, trees_are_accepted, unexpected_tokens_begin_none, untyped_reading_agrees,
+    viable_tokens_begin_a_tree, whole_texts_are_read,
 };
 pub use wave_type::laws::{
     end_alone_is_unexpected_end, equal_functions, equal_types, function_text_spells,

@@ -19,14 +19,16 @@ use wave_lex::error::ParserError;
 
 pub mod explain;
 pub mod laws;
-mod place;
 pub mod value;
+pub mod wasm;
 
+pub use wave_expected::expected;
 pub use wave_grammar::number::WholeNumber;
 pub use wave_lex::asked::Asked;
 pub use wave_lex::{lex, strings};
-pub use wave_tree::{ast, expected, parser, untyped};
-pub use wave_wasm::{wasm, writer};
+pub use wave_node::ast;
+pub use wave_tree::{parser, untyped};
+pub use wave_writer::writer;
 
 /// The value that the whole text means at the type, which is of that type; a text that means none
 /// is refused, and so is any text for lack of memory, at 0..0. A refusal's span lies in the text; a

@@ -11,7 +11,7 @@ use Rattle.wave_type.specs.TypeErrors.{TypeRefusal, type_error_text}
 use Rattle.wave_type.specs.TypeItems.{IsTypeFault}
 use Rattle.wave_type.specs.declared.error.TypeErrorKind.TheVariants as kind
 use Rattle.wave_type.specs.TypeSpelling.{IsTypeOf, IsNoType, levels_of}
-use Rattle.wasm_wave.specs.Places.{IsExplained}
+use Rattle.wave_place.specs.Places.{IsExplained}
 use Rattle.wave.specs.Requests.{IsLimitWord, AreUnknown}
 use Rattle.wave.specs.Private.Requests.{MakeNone}
 use Rattle.wave.specs.Types.{text_of, NamesType, NamesFunction}

@@ -11,8 +11,8 @@ use Rattle.wave_wasm.specs.Types.{TypeTree, HasDistinctNames}
 use Rattle.wave_value.specs.FullTypes.{IsFull}
 use Rattle.wave_value.specs.TypedValue.{TypedValue, IsAt}
 use Rattle.wave_wasm.specs.Text.{text}
-use Rattle.wave_wasm.specs.WriterState.{IsForMemory, IsOutOfMemory}
-use Rattle.wave_wasm.specs.declared.writer.WriterError.{WriterError}
+use Rattle.wave_writer.specs.WriterState.{IsForMemory, IsOutOfMemory}
+use Rattle.wave_writer.specs.declared.writer.WriterError.{WriterError}
 use Rattle.wave.specs.declared.request.Request.{Request}
 use Rattle.wave.specs.declared.request.Request.TheVariants.{Read}
 use Rattle.wave.specs.declared.answer.Unanswered.{Unanswered}

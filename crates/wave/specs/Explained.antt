@@ -6,8 +6,8 @@ use Rattle.std.specs.declared.option.Option.{Option}
 use Rattle.std.specs.declared.result.Result.{Result}
 use Rattle.wave_type.specs.FunctionType.{func_of}
 use Rattle.wave_lex.specs.Errors.{Diagnostic, error_text}
-use Rattle.wasm_wave.specs.ValueExplained.{IsUntypedExplained, IsValueExplained}
-use Rattle.wasm_wave.specs.CallExplained.{IsUntypedCallExplained, IsCallExplained}
+use Rattle.wave_explain.specs.ValueExplained.{IsUntypedExplained, IsValueExplained}
+use Rattle.wave_explain.specs.CallExplained.{IsUntypedCallExplained, IsCallExplained}
 use Rattle.wave.specs.declared.request.Request.{Request}
 use Rattle.wave.specs.declared.request.Request.TheVariants as request
 use Rattle.wave.specs.declared.input.Input.{Input}

@@ -14,7 +14,7 @@ use Rattle.wave_type.specs.TypeErrors.{TypeRefusal, type_error_text}
 use Rattle.wave_type.specs.TypeItems.{IsTypeFault, IsFunctionFault}
 use Rattle.wave_type.specs.declared.error.TypeErrorKind.TheVariants as kind
 use Rattle.wave_type.specs.TypeSpelling.{IsTypeOf, IsNoType}
-use Rattle.wasm_wave.specs.Places.{IsExplained}
+use Rattle.wave_place.specs.Places.{IsExplained}
 use Rattle.wave.specs.declared.output.Output.{Output}
 use Rattle.wave.specs.Lines.{line}
 use Rattle.wave.specs.Requests.{IsLimitWord}

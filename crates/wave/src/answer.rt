@@ -1,7 +1,7 @@
 // What a request answers on a text.
 ghost use Rattle.std.specs.Prelude.{◌≡◌, ◌++◌, IfOk, MatchResult, map, string_bytes};
 ghost use Rattle.wave_wasm.specs.Text.{arguments_text};
-ghost use Rattle.wave_wasm.specs.WriterState.{IsOutOfMemory};
+ghost use Rattle.wave_writer.specs.WriterState.{IsOutOfMemory};
 ghost use Rattle.wave_type.specs.FunctionType.{types_of};
 ghost use Rattle.wave.specs.declared.answer.Unanswered.TheVariants as why;
 ghost use Rattle.wave.specs.declared.request.Request.TheVariants as request;

@@ -5,7 +5,7 @@ ghost use Rattle.wave_wasm.specs.Types.{TypeTree};
 ghost use Rattle.wave_type.specs.FunctionType.{FunctionType};
 ghost use Rattle.wave_type.specs.TypeErrors.{type_error_text};
 ghost use Rattle.wave_type.specs.declared.error.TypeErrorKind.TheVariants as kind;
-ghost use Rattle.wasm_wave.specs.Places.{IsExplained};
+ghost use Rattle.wave_place.specs.Places.{IsExplained};
 ghost use Rattle.wave.specs.Lines.{line};
 ghost use Rattle.wave.specs.Misuse.{edits, suggestions, IsNearest, IsHint, IsQuoted, IsBadType, IsBadFunc, IsMisuse, AreBeforeLines, IsExplainedMisuse};
 ghost use Rattle.wave.specs.Requests.{AreUnknown};

@@ -7,7 +7,7 @@ use Rattle.wave_wasm.specs.Types.{TypeTree, HasDistinctNames, fields_of, record_
 use Rattle.wave_wasm.specs.Values as value
 use Rattle.wave_wasm.specs.Values.{Value, kind_of, field_values, record_fields}
 use Rattle.wave_wasm.specs.ConstructorContracts.{IsMemory}
-use Rattle.wave_wasm.specs.WriterState.{IsOutOfMemory}
+use Rattle.wave_writer.specs.WriterState.{IsOutOfMemory}
 use Rattle.wave_wasm.specs.declared.wasm.WasmTypeKind.TheVariants as kinds
 use Rattle.wave_wasm.specs.declared.wasm.WasmValueError.{WasmValueError}
 use Rattle.wave_lex.specs.Errors.{Diagnostic}

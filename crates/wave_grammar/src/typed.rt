@@ -12,7 +12,7 @@ ghost use Rattle.wave_grammar.specs.Private.FlatPayloads.{GivesFlat};
 use std::alloc::{AllocError, Global};
 use wave_wasm::fingerprints::{all_differ, fingerprint};
 use wave_wasm::wasm::{WasmType, WasmTypeKind, WasmValue};
-use wave_wasm::writer::{Writer, WriterError, merge_map_entries, to_string};
+use wave_writer::writer::{Writer, WriterError, merge_map_entries, to_string};
 
 /// The entries with each key once, merged by the texts of their keys. The only error is out of
 /// memory, which also stands for a key that has no text.

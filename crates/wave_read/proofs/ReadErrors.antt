@@ -1,3 +1,1 @@
-pub mod HandedOn
-pub mod ByParts
 pub mod RejectedValues

@@ -9,7 +9,7 @@ use Rattle.wave_grammar.specs.TypedGrammar.{look_up}
 use Rattle.wave_grammar.specs.FaultOrder.{Order}
 use Rattle.wave_grammar.specs.NodeTree.{NodeTree}
 use Rattle.wave_grammar.specs.NodeAccessors.{node_text}
-use Rattle.wave_read.specs.Reading.{IsReadAs}
+use Rattle.wave_leaf.specs.Reading.{IsReadAs}
 use Rattle.wave_read.specs.declared.variants.CasePayload.{CasePayload}
 
 -- the type of the payload that is expected

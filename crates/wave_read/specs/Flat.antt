@@ -8,7 +8,7 @@ use Rattle.wave_lex.specs.Errors.{Diagnostic}
 use Rattle.wave_grammar.specs.TypedGrammar.{IsFlat}
 use Rattle.wave_grammar.specs.declared.form.NodeType.{NodeType}
 use Rattle.wave_grammar.specs.declared.form.NodeType.TheVariants as node_type
-use Rattle.wave_read.specs.Reading.{IsOfType}
+use Rattle.wave_leaf.specs.Reading.{IsOfType}
 
 -- at a node of this type, a value of the option or the result is written as its flat payload alone
 abbrev pub IsFlatAt : TypeTree → NodeType → TypeTree → Type 0

@@ -7,7 +7,7 @@ use Rattle.wave_wasm.specs.Borrowed.{shown}
 use Rattle.wave_grammar.specs.FaultOrder.{Order}
 use Rattle.wave_grammar.specs.NodeTree.{NodeTree}
 use Rattle.wave_grammar.specs.declared.form.NodeType.{NodeType}
-use Rattle.wave_read.specs.PlainReading.{IsPlain, TakesMemory}
+use Rattle.wave_leaf.specs.PlainReading.{IsPlain, TakesMemory}
 use Rattle.wave_read.specs.Flat.{IsFlatAt}
 use Rattle.wave_read.specs.PartsOfKinds.{AreParts, IsBare, IsSimpleAt, next_expected}
 use Rattle.wave_read.specs.declared.parts.Partial.{Partial}

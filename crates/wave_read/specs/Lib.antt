@@ -1,5 +1,4 @@
 pub mod CaseParts
-pub mod Faults
 pub mod Private
 pub mod Flat
 pub mod KeptParts
@@ -9,8 +8,3 @@ pub mod PartsOfKinds
 pub mod Payloads
 pub mod RecordParts
 pub mod TupleParts
-pub mod Errors
-pub mod Keys
-pub mod Leaves
-pub mod PlainReading
-pub mod Reading

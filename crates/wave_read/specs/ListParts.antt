@@ -6,7 +6,7 @@ use Rattle.wave_wasm.specs.Values.{Value}
 use Rattle.wave_lex.specs.Errors.{Diagnostic}
 use Rattle.wave_grammar.specs.FaultOrder.{Order}
 use Rattle.wave_grammar.specs.NodeTree.{NodeTree}
-use Rattle.wave_read.specs.Reading.{IsReadAs}
+use Rattle.wave_leaf.specs.Reading.{IsReadAs}
 use Rattle.wave_read.specs.declared.lists.Items.{Items}
 
 -- this type, where no refusal is held

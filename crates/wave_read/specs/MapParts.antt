@@ -7,7 +7,7 @@ use Rattle.wave_wasm.specs.Values.{Value}
 use Rattle.wave_grammar.specs.FaultOrder.{Order}
 use Rattle.wave_grammar.specs.NodeTree.{NodeTree}
 use Rattle.wave_grammar.specs.PartReading.{AnswersMapKey}
-use Rattle.wave_read.specs.Reading.{IsReadAs}
+use Rattle.wave_leaf.specs.Reading.{IsReadAs}
 use Rattle.wave_read.specs.declared.maps.Entries.{Entries}
 
 -- the type of the value that comes next, after a key

@@ -8,11 +8,11 @@ use Rattle.wave_grammar.specs.FaultOrder.{Order, in_text}
 use Rattle.wave_grammar.specs.NodeTree.{NodeTree}
 use Rattle.wave_grammar.specs.declared.form.NodeType.{NodeType}
 use Rattle.wave_grammar.specs.declared.form.NodeType.TheVariants as kind
-use Rattle.wave_read.specs.Leaves.{IsSimpleOrUnreadable}
+use Rattle.wave_leaf.specs.Leaves.{IsSimpleOrUnreadable}
 use Rattle.wave_grammar.specs.NodeParts.{IsOfParts}
 use Rattle.wave_read.specs.CaseParts.{AreCaseParts, payload_expected}
-use Rattle.wave_read.specs.Faults.{IsRefusedWhateverFollows, IsOfKind}
-use Rattle.wave_read.specs.declared.fault.Fault.{Fault}
+use Rattle.wave_leaf.specs.Faults.{IsRefusedWhateverFollows, IsOfKind}
+use Rattle.wave_leaf.specs.declared.fault.Fault.{Fault}
 use Rattle.wave_read.specs.MapParts.{AreEntries, value_type_expected}
 use Rattle.wave_read.specs.Payloads.{AreOfSome, AreOfResult, result_node, some_expected, result_expected}
 use Rattle.wave_read.specs.ListParts.{AreItems, element_expected}

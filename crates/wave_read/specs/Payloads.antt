@@ -10,7 +10,7 @@ use Rattle.wave_grammar.specs.NodeTree.{NodeTree}
 use Rattle.wave_grammar.specs.declared.form.NodeType.{NodeType}
 use Rattle.wave_grammar.specs.declared.form.NodeType.TheVariants as node_type
 use Rattle.wave_grammar.specs.FaultOrder.{Order}
-use Rattle.wave_read.specs.Reading.{IsReadWhereExpected}
+use Rattle.wave_leaf.specs.Reading.{IsReadWhereExpected}
 use Rattle.wave_read.specs.declared.options.SomePayload.{SomePayload}
 use Rattle.wave_read.specs.declared.results.ResultPayload.{ResultPayload}
 

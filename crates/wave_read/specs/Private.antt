@@ -1,7 +1,4 @@
-pub mod Errors
-pub mod Faults
 pub mod Flat
-pub mod Keys
 pub mod Leaves
 pub mod NamedFlags
 pub mod PartSteps

@@ -13,7 +13,7 @@ use Rattle.wave_grammar.specs.NodeTree.{NodeTree, type_of}
 use Rattle.wave_grammar.specs.NodeAccessors.{node_text, node_pairs}
 use Rattle.wave_grammar.specs.NodeFields.{IsLabelled, fields_at}
 use Rattle.wave_grammar.specs.declared.form.NodeType.TheVariants as kind
-use Rattle.wave_read.specs.Reading.{IsReadAs}
+use Rattle.wave_leaf.specs.Reading.{IsReadAs}
 use Rattle.wave_read.specs.declared.records.Field.{Field}
 use Rattle.wave_read.specs.declared.records.Fields.{Fields}
 

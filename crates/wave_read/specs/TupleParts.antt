@@ -8,7 +8,7 @@ use Rattle.wave_wasm.specs.Values.{Value}
 use Rattle.wave_wasm.specs.Borrowed.{shown_all}
 use Rattle.wave_grammar.specs.FaultOrder.{Order}
 use Rattle.wave_grammar.specs.NodeTree.{NodeTree}
-use Rattle.wave_read.specs.Reading.{IsReadAs}
+use Rattle.wave_leaf.specs.Reading.{IsReadAs}
 use Rattle.wave_read.specs.declared.tuples.TupleItems.{TupleItems}
 
 -- the type of the item that comes next

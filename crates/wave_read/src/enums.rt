@@ -4,14 +4,14 @@ ghost use Rattle.wave_wasm.specs.Types.{kind_of};
 ghost use Rattle.wave_wasm.specs.ValueErrors.{unknown_case};
 ghost use Rattle.wave_grammar.specs.NodeTree.{place_of};
 ghost use Rattle.wave_grammar.specs.PartReading.{IsCaused};
-ghost use Rattle.wave_read.specs.Leaves.{leaf_node};
-ghost use Rattle.wave_read.specs.Reading.{IsReadOfLeaf};
+ghost use Rattle.wave_leaf.specs.Leaves.{leaf_node};
+ghost use Rattle.wave_leaf.specs.Reading.{IsReadOfLeaf};
 
-use crate::error::ReadError;
-use crate::leaf::Leaf;
 use std::alloc::Global;
 use wave_grammar::form::NodeType;
 use wave_grammar::label::label_name;
+use wave_leaf::error::ReadError;
+use wave_leaf::leaf::Leaf;
 use wave_lex::error::ParserErrorKind;
 use wave_wasm::wasm::{WasmType, WasmTypeKind, WasmValue, WasmValueError};
 

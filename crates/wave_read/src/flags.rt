@@ -8,13 +8,13 @@ ghost use Rattle.wave_grammar.specs.FaultOrder.{Order};
 ghost use Rattle.wave_grammar.specs.NodeTree.{NodeTree, node, no_nodes, children_of};
 ghost use Rattle.wave_grammar.specs.declared.form.NodeType.TheVariants as node_type;
 ghost use Rattle.wave_grammar.specs.NodeFlags.{AreFlags, names_at};
-ghost use Rattle.wave_read.specs.Reading.{IsReadAs, IsOfType};
+ghost use Rattle.wave_leaf.specs.Reading.{IsReadAs, IsOfType};
 ghost use Rattle.wave_read.specs.Private.NamedFlags.{flag_names, IsReadOrReported, IsReported, ReportsCause, ReportsUnknown, IsReadOfFlags};
 
-use crate::error::{ReadError, Reason};
-use crate::fault::{Fault, caused};
 use std::alloc::Global;
 use std::collections::BTreeMap;
+use wave_leaf::error::{ReadError, Reason};
+use wave_leaf::fault::{Fault, caused};
 use wave_lex::error::ParserErrorKind;
 use wave_lex::lex::Span;
 use wave_wasm::wasm::{WasmType, WasmTypeKind, WasmValue, WasmValueError};

@@ -4,15 +4,15 @@ ghost use Rattle.wave_wasm.specs.Types.{TypeTree};
 ghost use Rattle.wave_wasm.specs.Borrowed.{shown};
 ghost use Rattle.wave_grammar.specs.FaultOrder.{Order};
 ghost use Rattle.wave_grammar.specs.NodeTree.{NodeTree, type_of, place_of};
-ghost use Rattle.wave_read.specs.Reading.{IsReadAs};
+ghost use Rattle.wave_leaf.specs.Reading.{IsReadAs};
 ghost use Rattle.wave_read.specs.Flat.{IsFlatAt, IsWrapper, IsOfFlatPart};
 ghost use Rattle.wave_read.specs.Private.Flat.{GivesFlatAt};
 
-use crate::error::ReadError;
-use crate::fault::or_error_at;
 use std::alloc::Global;
 use wave_grammar::form::NodeType;
 use wave_grammar::typed::flat_type;
+use wave_leaf::error::ReadError;
+use wave_leaf::fault::or_error_at;
 use wave_lex::error::ParserErrorKind;
 use wave_lex::lex::Span;
 use wave_wasm::wasm::{WasmType, WasmTypeKind, WasmValue};

@@ -7,20 +7,20 @@ ghost use Rattle.wave_grammar.specs.declared.form.NodeType.TheVariants as node_t
 ghost use Rattle.wave_read.specs.Flat.{IsFlatAt};
 ghost use Rattle.wave_read.specs.Private.NamedFlags.{IsReadOfFlags};
 ghost use Rattle.wave_read.specs.Private.Leaves.{IsTokenOfSome};
-ghost use Rattle.wave_read.specs.Reading.{IsOfType, IsReadAs, IsReadOfLeaf};
+ghost use Rattle.wave_leaf.specs.Reading.{IsOfType, IsReadAs, IsReadOfLeaf};
 
 use crate::enums::read_enum;
-use crate::error::ReadError;
 use crate::flags::read_flags;
 use crate::flat::{flat_payload, wrap};
-use crate::leaf::Leaf;
 use crate::options::read_none;
 use crate::results::read_alone;
-use crate::simple::refuse_form;
 use crate::variants::read_case;
 use std::alloc::Global;
 use std::collections::BTreeMap;
 use wave_grammar::form::NodeType;
+use wave_leaf::error::ReadError;
+use wave_leaf::leaf::Leaf;
+use wave_leaf::simple::refuse_form;
 use wave_lex::error::ParserErrorKind;
 use wave_lex::lex::Span;
 use wave_wasm::wasm::{WasmType, WasmTypeKind, WasmValue};

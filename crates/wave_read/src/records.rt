@@ -13,12 +13,12 @@ ghost use Rattle.wave_read.specs.Private.RecordParts.{IsFieldKey, IsKeyFault, Is
 ghost use Rattle.wave_read.specs.declared.records.Field.{Field};
 ghost use Rattle.wave_read.specs.Private.PartSteps.{AddsKey, AddsPart, FinishesAs, WereRead};
 
-use crate::error::{ReadError, Reason, StaticDetail, repeated_words};
-use crate::fault::{Fault, or_error_at};
 use std::alloc::{AllocError, Global};
 use std::boxed::Box;
 use wave_grammar::form::NodeType;
 use wave_grammar::label::label_name;
+use wave_leaf::error::{ReadError, Reason, StaticDetail, repeated_words};
+use wave_leaf::fault::{Fault, or_error_at};
 use wave_lex::error::ParserErrorKind;
 use wave_lex::lex::Span;
 use wave_wasm::wasm::{WasmType, WasmTypeKind, WasmValue, WasmValueError};

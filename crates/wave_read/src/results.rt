@@ -7,16 +7,16 @@ ghost use Rattle.wave_grammar.specs.NodeTree.{NodeTree, node, node_trees, place_
 ghost use Rattle.wave_grammar.specs.NodeAccessors.{first_of};
 ghost use Rattle.wave_grammar.specs.PartReading.{IsCaused, IsPayloadOf, AnswersPayload};
 ghost use Rattle.wave_grammar.specs.ErrorSpans.{RefusesInPart};
-ghost use Rattle.wave_read.specs.Leaves.{leaf_node};
-ghost use Rattle.wave_read.specs.Reading.{IsReadAs};
+ghost use Rattle.wave_leaf.specs.Leaves.{leaf_node};
+ghost use Rattle.wave_leaf.specs.Reading.{IsReadAs};
 ghost use Rattle.wave_read.specs.Payloads.{AreOfResult, IsReadPayload, result_node, result_expected};
 ghost use Rattle.wave_read.specs.Private.Payloads.{IsOfPayloadType, payload_cause, result_name, result_with};
 ghost use Rattle.wave_read.specs.Private.PartSteps.{AddsPart, WereRead};
 
-use crate::error::ReadError;
-use crate::fault::or_error_at;
-use crate::leaf::Leaf;
 use std::alloc::{AllocError, Global};
+use wave_leaf::error::ReadError;
+use wave_leaf::fault::or_error_at;
+use wave_leaf::leaf::Leaf;
 use wave_lex::lex::Span;
 use wave_wasm::wasm::{WasmType, WasmTypeKind, WasmValue, WasmValueError};
 

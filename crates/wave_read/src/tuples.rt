@@ -7,10 +7,10 @@ ghost use Rattle.wave_grammar.specs.FaultOrder.{Order};
 ghost use Rattle.wave_read.specs.TupleParts.{IsRow, item_expected};
 ghost use Rattle.wave_read.specs.Private.PartSteps.{AddsPart, FinishesAs, WereRead};
 
-use crate::error::{ReadError, Reason};
-use crate::fault::{Fault, or_error_at};
 use std::alloc::{AllocError, Global};
 use wave_grammar::form::NodeType;
+use wave_leaf::error::{ReadError, Reason};
+use wave_leaf::fault::{Fault, or_error_at};
 use wave_lex::error::ParserErrorKind;
 use wave_lex::lex::Span;
 use wave_wasm::wasm::{WasmType, WasmTypeKind, WasmValue};

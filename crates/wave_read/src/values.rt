@@ -9,24 +9,24 @@ ghost use Rattle.wave_grammar.specs.NodeParts.{IsOfParts, IsOneToken, TakesKey, 
 ghost use Rattle.wave_grammar.specs.NodeTree.{NodeTree, node, no_nodes, node_trees, type_of, place_of};
 ghost use Rattle.wave_grammar.specs.declared.form.NodeType.{NodeType};
 ghost use Rattle.wave_grammar.specs.declared.form.NodeType.TheVariants as node_type;
-ghost use Rattle.wave_read.specs.Leaves.{leaf_node, IsLeafIn};
-ghost use Rattle.wave_read.specs.PlainReading.{IsReadSparing, TakesMemory};
+ghost use Rattle.wave_leaf.specs.Leaves.{leaf_node, IsLeafIn};
+ghost use Rattle.wave_leaf.specs.PlainReading.{IsReadSparing, TakesMemory};
 ghost use Rattle.wave_read.specs.Private.Leaves.{IsTokenOfSome};
-ghost use Rattle.wave_read.specs.Reading.{IsReadAs};
+ghost use Rattle.wave_leaf.specs.Reading.{IsReadAs};
 ghost use Rattle.wave_read.specs.Flat.{IsWrapper, IsWrapperWhereExpected, IsCounted, IsOfPartWithin, ReadsFlags, ReadsNoRecord};
 ghost use Rattle.wave_read.specs.KeptParts.{AreKeptOfSome, AreKeptWhereExpected};
 ghost use Rattle.wave_read.specs.PartsOfKinds.{AreRefusedAtOnce, next_expected};
 
-use crate::error::{ReadError, Reason};
-use crate::fault::Fault;
 use crate::flat::{wrap, wrapper_and_type};
-use crate::leaf::Leaf;
 use crate::leaves::{flags_at, read_leaf, refuse_flags};
 use crate::parts::Partial;
 use std::alloc::{AllocError, Global};
 use std::collections::BTreeMap;
 use wave_grammar::builder::Builder;
 use wave_grammar::form::NodeType;
+use wave_leaf::error::{ReadError, Reason};
+use wave_leaf::fault::Fault;
+use wave_leaf::leaf::Leaf;
 use wave_lex::error::ParserErrorKind;
 use wave_lex::lex::Span;
 use wave_wasm::wasm::{WasmType, WasmTypeKind, WasmValue};
@@ -304,7 +304,7 @@ impl<'ty, V: WasmValue> Builder for ValueBuilder<'ty, V> {
 
     ghost use Rattle.wave_wasm.specs.Borrowed.{shown};
     ghost use Rattle.wave_grammar.specs.FaultOrder.{in_text};
-    ghost use Rattle.wave_read.specs.PlainReading.{IsReadSparing, TakesMemory};
+    ghost use Rattle.wave_leaf.specs.PlainReading.{IsReadSparing, TakesMemory};
     ghost use Rattle.wave_read.specs.KeptParts.{AreKeptWhereExpected, next_takes};
     ghost use Rattle.wave_read.specs.PartsOfKinds.{next_expected};
 

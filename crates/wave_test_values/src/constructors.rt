@@ -2,11 +2,11 @@
 //! program of `wave_test_reading` tries.
 use crate::conversions::converted;
 use std::test::Fail;
+use wave_convert::convert::IntoValue;
 use wave_type::ty::Type;
-use wave_value::convert::IntoValue;
 use wave_value::value::Value;
 use wave_wasm::wasm::WasmValueError;
-use wave_wasm::writer::to_string;
+use wave_writer::writer::to_string;
 
 /// A list of one empty list of another type.
 fn empty_lists(rt: HostRuntime) -> Result<Vec<Value>, WasmValueError> {

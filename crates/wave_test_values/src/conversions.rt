@@ -1,8 +1,8 @@
 //! What Rust values stand for, each with its type.
 use crate::constructors::{Row, wrong};
 use std::test::Fail;
+use wave_convert::convert::IntoValue;
 use wave_type::ty::Type;
-use wave_value::convert::IntoValue;
 use wave_value::value::Value;
 use wave_wasm::wasm::WasmValueError;
 

@@ -5,7 +5,7 @@ use std::fmt;
 use std::test::Fail;
 use wave_wasm::keyword::Keyword;
 use wave_wasm::wasm::{WasmTypeKind, WasmValueError};
-use wave_wasm::writer::WriterError;
+use wave_writer::writer::WriterError;
 
 /// What has words.
 #[derive(Clone, Copy)]

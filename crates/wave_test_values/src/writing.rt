@@ -1,9 +1,9 @@
 //! A writer that fails. After how many texts it may, the program of `wave_test_reading` tries.
 use std::fmt;
 use std::test::Fail;
-use wave_value::convert::IntoValue;
+use wave_convert::convert::IntoValue;
 use wave_value::value::Value;
-use wave_wasm::writer::{TextWrite, Writer, WriterError};
+use wave_writer::writer::{TextWrite, Writer, WriterError};
 
 /// A writer that passes a number of texts and then fails.
 #[derive(Drop)]

@@ -3,5 +3,3 @@ pub mod ErrorSpans
 pub mod NodeCorrectness
 pub mod TextReading
 pub mod Displays
-pub mod NodeReading
-pub mod ExpectedTokens

@@ -8,5 +8,4 @@ pub mod OutOfMemory
 pub mod LexerCalls
 pub mod ClassTests
 pub mod FlagLoop
-pub mod FlagsSorted
 pub mod NumbersInTurn

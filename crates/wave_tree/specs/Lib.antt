@@ -1,5 +1,6 @@
 pub mod ParsedNodes
 pub mod Private
+pub mod ValueStarts
 pub mod ParserState
 pub mod NodeDisplay
 pub mod UntypedCall
@@ -9,6 +10,3 @@ pub mod ParserLaws
 pub mod DisplayKeeps
 pub mod UntypedLaws
 pub mod WholeTextLaws
-pub mod KeywordNodes
-pub mod Expected
-pub mod ExpectedLaws

@@ -4,12 +4,5 @@ pub mod NodeDisplay
 pub mod UntypedCall
 pub mod CallEncoding
 pub mod UntypedEncoding
-pub mod NodeForms
-pub mod NodeDepth
-pub mod NodeEncoding
 pub mod SyntaxErrors
 pub mod TokenRoles
-pub mod Moves
-pub mod Prefixes
-pub mod CallPrefixes
-pub mod Separators

@@ -14,18 +14,19 @@ ghost use Rattle.wave_grammar.specs.NodeTree.{node, no_nodes};
 ghost use Rattle.wave_grammar.specs.declared.form.NodeType.TheVariants as node_type;
 ghost use Rattle.wave_tree.specs.ParsedNodes.{IsParsed, TakesClass};
 ghost use Rattle.wave_tree.specs.Private.ParsedNodes.{IsNodeBuilt, IsParsedBehind, IsOfPayload, IsMaybe, IsInParens, IsOfItems, IsOfEntries, IsOfFlags, HasPartBehind, WithParts, label_children};
-ghost use Rattle.wave_tree.specs.Private.ParserState.{AsksFor, IsValueStart, OnlyOutOfMemory};
+ghost use Rattle.wave_tree.specs.Private.ParserState.{AsksFor, OnlyOutOfMemory};
+ghost use Rattle.wave_tree.specs.ValueStarts.{IsValueStart};
 
-use crate::ast::NodeType;
 use crate::role::{ValueStart, key_type, value_start};
 use crate::tokens::Tokens;
 use std::alloc::Global;
 use std::collections::BTreeMap;
 use wave_grammar::builder::Builder;
 use wave_grammar::label::label_name;
+use wave_leaf::error::ReadError;
 use wave_lex::found::Found;
 use wave_lex::lex::{Span, Token};
-use wave_read::error::ReadError;
+use wave_node::ast::NodeType;
 
 /// No parts yet of a node of this type. They are begun in a frame of their own, since each level of a
 /// value has one of those below.

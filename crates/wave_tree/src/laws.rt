@@ -4,7 +4,6 @@ ghost use Rattle.wave_wasm.specs.Types.{TypeTree};
 ghost use Rattle.wave_grammar.specs.EquivalenceLaws.{MeansByTree};
 ghost use Rattle.wave_tree.specs.UntypedLaws.{ReadAlike, RefusedAlike};
 ghost use Rattle.wave_tree.specs.ParserLaws.{ReadHaveATree, RefusedHaveNone, LexerCallsBounded, RefusalsLieInText};
-ghost use Rattle.wave_tree.specs.ExpectedLaws.{ReadTokensStandBefore, UnexpectedMayNotFollow, BracketsAreForms};
 ghost use Rattle.wave_tree.specs.WholeTextLaws.{ReadsWholeText, ReadsWholeTree};
 ghost use Rattle.wave_grammar.specs.NodeLaws.{FaultsLieInText};
 
@@ -56,18 +55,4 @@ pub fn lexer_calls_bounded()
 pub fn refusals_lie_in_the_text()
     ensures syntax { RefusalsLieInText }
     ensures faults { FaultsLieInText }
-{}
-
-/// Where a token, the end or what is no token is refused, the tokens before its span, after which
-/// `expected_at` tells there what may stand, are those that were read; and where a token is unexpected,
-/// no token of its class may stand there.
-pub fn unexpected_may_not_follow()
-    ensures before { ReadTokensStandBefore }
-    ensures unexpected { UnexpectedMayNotFollow }
-{}
-
-/// The brackets that are open after tokens that begin a value are as many as the open forms, with the
-/// braces in which no value is expected.
-pub fn open_brackets_are_forms()
-    ensures { BracketsAreForms }
 {}

@@ -1,4 +1,4 @@
-//! The parser: trees and values, read from texts; nodes of the untyped tree, and what they are at a type.
+//! The parser: trees and values, read from texts; untyped values and calls.
 #![tactic(auto)]
 
 ghost use Rattle.std.specs.Prelude.{IfOk, IfErr};
@@ -9,19 +9,12 @@ use std::alloc::Global;
 use wave_lex::error::ParserError;
 use wave_wasm::wasm::WasmValue;
 
-pub mod ast;
 mod descent;
-pub mod expected;
-mod flags;
 pub mod laws;
 mod nodes;
-mod params;
 pub mod parser;
-mod reading;
-mod record;
-mod role;
+pub mod role;
 mod tokens;
-mod typed;
 pub mod untyped;
 
 /// The value of the type that the whole text means. A syntax fault of the value is answered before

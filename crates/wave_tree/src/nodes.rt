@@ -2,11 +2,11 @@
 ghost use Rattle.std.specs.Prelude.{◌≡◌, ◌++◌, [], ◌∷◌, OnOk};
 ghost use Rattle.wave_grammar.specs.NodeTree.{node, no_nodes};
 
-use crate::ast::{Node, NodeType, make};
 use std::alloc::{AllocError, Global};
 use std::collections::BTreeMap;
 use wave_grammar::builder::Builder;
 use wave_lex::lex::Span;
+use wave_node::ast::{Node, NodeType, make};
 
 /// Adds the node of one token.
 #[inline(always)]

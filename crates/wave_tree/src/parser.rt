@@ -6,7 +6,7 @@ ghost use Rattle.wave_lex.specs.Errors.{LiesInText};
 ghost use Rattle.wave_lex.specs.Labels.{HasDistinctLabels};
 ghost use Rattle.wave_grammar.specs.PrefixAutomaton as expectation;
 ghost use Rattle.wave_grammar.specs.SyntaxErrors.{Gives};
-ghost use Rattle.wave_read.specs.PlainReading.{IsPlain};
+ghost use Rattle.wave_leaf.specs.PlainReading.{IsPlain};
 ghost use Rattle.wave_tree.specs.ParserState.{BeginsRow, HoldsNoBrace, Parsing, IsLimit, asked, Asks, first_at, limited, Finishes, StaysWithout, start_of};
 ghost use Rattle.wave_tree.specs.Untyped.{IsUntypedTaken};
 ghost use Rattle.wave_tree.specs.FromStr.{IsValueTaken, RefusesValue, IsCausedBetween, PrintsWithinTwice};

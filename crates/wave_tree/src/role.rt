@@ -3,14 +3,14 @@ ghost use Rattle.std.specs.Prelude.{◌≡◌, MatchOption};
 ghost use Rattle.wave_lex.specs.declared.lex.Token.TheVariants.{LabelOrKeyword};
 ghost use Rattle.wave_tree.specs.Private.TokenRoles.{IsKeyClass};
 ghost use Rattle.wave_tree.specs.Private.ParsedNodes.{key_node_type};
-ghost use Rattle.wave_tree.specs.Private.ParserState.{IsValueStart};
+ghost use Rattle.wave_tree.specs.ValueStarts.{IsValueStart};
 
-use crate::ast::NodeType;
 use wave_lex::lex::Token;
+use wave_node::ast::NodeType;
 
 /// What a value begins with.
 #[derive(Clone, Copy)]
-pub(crate) enum ValueStart {
+pub enum ValueStart {
     /// A value on its own, whatever stands after it. Its node has this type.
     Alone(NodeType),
     /// `some`
@@ -30,7 +30,7 @@ pub(crate) enum ValueStart {
 
 /// What a value begins with whose first token has this class and text.
 #[inline(always)]
-pub(crate) fn value_start(token: Token, text: &str) -> ValueStart
+pub fn value_start(token: Token, text: &str) -> ValueStart
     ensures { IsValueStart token text.now result }
 {
     match token {

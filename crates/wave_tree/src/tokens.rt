@@ -10,7 +10,7 @@ ghost use Rattle.wave_grammar.specs.SyntaxErrors.{Gives};
 ghost use Rattle.wave_lex.specs.Errors.{Says};
 ghost use Rattle.wave_lex.specs.Tokenization.{item_of, span};
 ghost use Rattle.wave_tree.specs.UntypedCall.{AreParamsTaken, RefusesTuple};
-ghost use Rattle.wave_read.specs.PlainReading.{IsPlain};
+ghost use Rattle.wave_leaf.specs.PlainReading.{IsPlain};
 ghost use Rattle.wave_grammar.specs.NodeParts.{ArePartsOfSome, IsOfParts, IsOneToken, TakesKey, TakesPart};
 ghost use Rattle.wave_grammar.specs.NodeTree.{NodeTree, node, no_nodes, node_trees};
 ghost use Rattle.wave_tree.specs.ParsedNodes.{IsNodeTaken, IsSound};
@@ -21,17 +21,17 @@ ghost use Rattle.wave_tree.specs.Private.ParserState.{Stream, stream_of, asked_o
 ghost use Rattle.wave_lex.specs.Errors.{LiesInText};
 ghost use Rattle.wave_tree.specs.ParserLaws.{LiesInSource};
 
-use crate::ast::{Node, NodeType};
 use crate::nodes::NodeBuilder;
 use crate::parser::DEFAULT_LEVELS;
 use std::alloc::Global;
 use std::marker::Model;
 use wave_grammar::builder::Builder;
+use wave_leaf::error::{ReadError, repeated_words};
 use wave_lex::asked::Asked;
 use wave_lex::error::{ParserError, ParserErrorKind};
 use wave_lex::found::Found;
 use wave_lex::lex::{Lexer, Span, Token};
-use wave_read::error::{ReadError, repeated_words};
+use wave_node::ast::{Node, NodeType};
 use wave_read::values::ValueBuilder;
 use wave_wasm::wasm::WasmValue;
 

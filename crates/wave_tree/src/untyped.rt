@@ -7,14 +7,14 @@ ghost use Rattle.wave_grammar.specs.ErrorSpans.{HasTypeKind, StandsIn};
 ghost use Rattle.wave_lex.specs.Errors.{LiesInText};
 
 pub use self::call::{UntypedFuncCall, parse_raw_func_call};
-use crate::ast::Node;
 use crate::parser::{Parser, ParserError};
 use std::alloc::Global;
 use std::borrow::CowStr;
 use std::marker::Model;
+use wave_node::ast::Node;
 use wave_wasm::wasm::WasmValue;
 
-pub(crate) mod call;
+pub mod call;
 mod display;
 
 /// A value that was parsed without a type: its source, and the node of its tree, whose spans are byte

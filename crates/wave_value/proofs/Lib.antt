@@ -3,4 +3,3 @@ pub mod ValueModel
 pub mod ConstructorAnswers
 pub mod TypedParts
 pub mod ViewAnswers
-pub mod IntoValue

@@ -7,4 +7,3 @@ pub mod ConstructorRules
 pub mod RecordConstructor
 pub mod CaseRules
 pub mod FullTypes
-pub mod RustValues

@@ -5,5 +5,3 @@ pub mod ConstructorRules
 pub mod RecordConstructor
 pub mod CaseRules
 pub mod ContentEquality
-pub mod OwnTypes
-pub mod TupleParts

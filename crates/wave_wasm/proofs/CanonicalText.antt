@@ -1,10 +1,2 @@
-pub mod WrittenParts
 pub mod Sequences
 pub mod ValueParts
-pub mod Maps
-pub mod Gathering
-pub mod Rows
-pub mod Records
-pub mod Flags
-pub mod Labels
-pub mod Writable

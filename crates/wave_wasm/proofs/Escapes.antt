@@ -1,4 +1,1 @@
 pub mod QuotedApart
-pub mod NumberEscapes
-pub mod PlainBytes
-pub mod StringRuns

@@ -1,3 +1,2 @@
 pub mod TypeOfKind
-pub mod MatchedKinds
 pub mod WellFormed

@@ -15,7 +15,8 @@ pub mod Commas
 pub mod Text
 pub mod TypeText
 pub mod ValueErrors
-pub mod WriterState
 pub mod Laws
 pub mod Fingerprints
 pub mod ByteRuns
+pub mod CommaParts
+pub mod TextParts

@@ -1,5 +1,1 @@
-pub mod Text
 pub mod TypeText
-pub mod WriterState
-pub mod Commas
-pub mod Values

@@ -1,12 +1,11 @@
--- Why a value can't be made or written, and the words of it.
-use Rattle.std.specs.Prelude.{ℕ, ◌++◌, List, Option, Some, None, codes}
+-- Why a value can't be made, and the words of it.
+use Rattle.std.specs.Prelude.{ℕ, ◌++◌, List, codes}
 use Rattle.std.specs.Fmt.{decimal}
 use Rattle.std.specs.String.{string_bytes}
 use Rattle.wave_wasm.specs.TypeText.{kind_word}
 use Rattle.wave_wasm.specs.declared.wasm.WasmTypeKind.{WasmTypeKind}
 use Rattle.wave_wasm.specs.declared.wasm.WasmValueError.{WasmValueError}
 use Rattle.wave_wasm.specs.declared.wasm.WasmValueError.TheVariants as error
-use Rattle.wave_wasm.specs.declared.writer.WriterError.{WriterError}
 
 -- a cause: what a `WasmValueError` says, its texts as texts
 pub data Cause : Type 0 where
@@ -50,9 +49,3 @@ cause_text (wrong_kind kind ty) = codes "expected a " ++ (kind_word kind ++ (cod
 cause_text (wrong_value ty val) = codes "expected a " ++ (ty ++ (codes "; got " ++ val))
 cause_text (other message) = message
 cause_text memory = codes "out of memory"
-
--- the words of a refusal of the writer; those of a failed write end with the formatting error's own
-abbrev pub refusal_text : WriterError → Option (List ℕ)
-refusal_text (WriterError.Io e) = None
-refusal_text WriterError.UnsupportedType = Some (codes "unsupported value type")
-refusal_text (WriterError.Memory e) = Some (codes "out of memory")

@@ -2,7 +2,7 @@
 mod display;
 mod func;
 
-pub use display::{DisplayFunc, DisplayFuncArgs, DisplayFuncResults, DisplayType, DisplayValue};
+pub use display::{DisplayFunc, DisplayType};
 pub use func::WasmFunc;
 use std::alloc::{AllocError, AllocFailed, Global};
 use std::fmt;

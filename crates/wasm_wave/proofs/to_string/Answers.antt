@@ -1,6 +1,6 @@
 use Rattle.wave_grammar.proofs.RoundTrip.ReadsBack.{equal_texts, reads_back, reads_back_within_twice, text_means}
 use Rattle.std.proofs.Common.{string_bytes}
-use Rattle.wave_wasm.proofs.CanonicalText.Writable.{refused_so}
+use Rattle.wave_writer.proofs.CanonicalText.Writable.{refused_so}
 use Rattle.wasm_wave.proofs.MainTheorem.{text_written, writing_refused}
 use Rattle.wasm_wave.proofs.to_string.Goals as goal
 

@@ -13,7 +13,7 @@ use Rattle.wave_wasm.specs.Text.{text}
 use Rattle.wave_wasm.specs.ConstructorContracts.{IsMemory, MakesMap, FullMap, HasFullParts, entry_trees, leaf_entries}
 use Rattle.wave_wasm.specs.declared.wasm.WasmValueError.{WasmValueError}
 use Rattle.wave_wasm.proofs.Merging.KeyTexts.{leaf_tests}
-use Rattle.wave_wasm.proofs.Merging.Congruence.{merge_paired, keys_keep, values_keep}
+use Rattle.wave_writer.proofs.Merging.Congruence.{merge_paired, keys_keep, values_keep}
 use Rattle.wave_lex.specs.Errors.{Diagnostic, Refusal, refusal_of}
 use Rattle.wave_lex.specs.declared.error.ParserErrorKind.TheVariants.{InvalidType}
 use Rattle.wave_grammar.specs.Token.{Token}

@@ -25,13 +25,13 @@ use Rattle.wave_grammar.specs.TypedReading.{IsBuilt}
 use Rattle.wave_grammar.proofs.ByKind.Flags.{flags_is, flags_blame, flags_built, flags_of}
 use Rattle.wave_grammar.proofs.ErrorSpans.Nodes.{at_in, form_at, built_in}
 use Rattle.wave_grammar.specs.FlagParts.{AreFlagsOf, label_at, flag_nodes}
-use Rattle.wave_read.specs.Reading.{IsReadAs, IsOfType}
-use Rattle.wave_read.specs.declared.fault.Fault.{Fault}
-use Rattle.wave_read.specs.Faults.{Reports}
-use Rattle.wave_read.specs.Private.Faults.{IsFaultOf}
+use Rattle.wave_leaf.specs.Reading.{IsReadAs, IsOfType}
+use Rattle.wave_leaf.specs.declared.fault.Fault.{Fault}
+use Rattle.wave_leaf.specs.Faults.{Reports}
+use Rattle.wave_leaf.specs.FaultCauses.{IsFaultOf}
 use Rattle.wave_read.specs.Private.NamedFlags.{flag_names, IsReported, ReportsUnknown}
-use Rattle.wave_read.proofs.ReadErrors.HandedOn.{no_memory, built_of}
-use Rattle.wave_read.specs.Errors.{IsRefusedBy}
+use Rattle.wave_leaf.proofs.ReadErrors.HandedOn.{no_memory, built_of}
+use Rattle.wave_leaf.specs.Errors.{IsRefusedBy}
 
 names_from : (source : List ℕ) (es : List (Bor (List ℕ) × Range ℕ)) → AllOf (λ e. e.0.now ≡ name_of (slice source e.1)) es → names_at source (node_list (node_trees (map label_at (values_of es)))) ≡ texts (keys_of es)
 names_from source [] h = refl

@@ -27,7 +27,7 @@ use Rattle.wave_grammar.specs.NodeTree.{NodeTree, place_of}
 use Rattle.wave_grammar.specs.NodeFlags.{IsFirstUnknown, RefusesUnknown}
 use Rattle.wave_grammar.specs.PartReading.{IsCaused}
 use Rattle.wave_grammar.proofs.ErrorSpans.Nodes.{caused_at}
-use Rattle.wave_read.specs.declared.fault.Fault.{Fault}
+use Rattle.wave_leaf.specs.declared.fault.Fault.{Fault}
 use Rattle.wave_read.specs.Private.NamedFlags.{ReportsCause, ReportsUnknown}
 
 -- the names of the flags that were shown

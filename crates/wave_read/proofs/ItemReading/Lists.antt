@@ -21,11 +21,11 @@ use Rattle.wave_grammar.proofs.ByKind.Leaves.{said}
 use Rattle.wave_grammar.proofs.ByKind.Lists.{ItemsBlamed, AreNodesOf, AllRead, has_element, list_fault, list_is, list_nodes, given_nodes, list_item, list_blame, length_blame, list_built, element_distinct, as_many}
 use Rattle.wave_grammar.proofs.ChildNodes.Trees.{list_of_trees}
 use Rattle.wave_grammar.proofs.ErrorSpans.Nodes.{at_in, form_at, caused_at, deeper_at, built_in}
-use Rattle.wave_read.specs.Reading.{IsReadAs, IsReadWhereExpected}
+use Rattle.wave_leaf.specs.Reading.{IsReadAs, IsReadWhereExpected}
 use Rattle.wave_read.specs.ListParts.{unless_held, AllReadAs, IsFirstRefused, ReadOrHeld}
 use Rattle.wave_grammar.proofs.OneFault.FaultyTrees.{value_fine}
-use Rattle.wave_read.specs.Errors.{IsBuiltOrMemory}
-use Rattle.wave_read.proofs.ReadErrors.HandedOn.{built_anew, built_of}
+use Rattle.wave_leaf.specs.Errors.{IsBuiltOrMemory}
+use Rattle.wave_leaf.proofs.ReadErrors.HandedOn.{built_anew, built_of}
 
 -- there is one node more
 pub one_more : (ns : List NodeTree) (n : NodeTree) (count next : ℕ) → count ≡ length ns → next ≡ count + 1 → next ≡ length (ns ++ n ∷ [])

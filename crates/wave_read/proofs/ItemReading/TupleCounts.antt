@@ -12,8 +12,8 @@ use Rattle.wave_lex.specs.Errors.{Diagnostic, refusal_of, caused}
 use Rattle.wave_grammar.specs.NodeTree.{NodeTree, node, node_trees}
 use Rattle.wave_grammar.specs.declared.form.NodeType.{NodeType}
 use Rattle.wave_grammar.specs.declared.form.NodeType.TheVariants as kind
-use Rattle.wave_read.specs.PlainReading.{IsReadSparing}
-use Rattle.wave_read.specs.Reading.{IsReadAs}
+use Rattle.wave_leaf.specs.PlainReading.{IsReadSparing}
+use Rattle.wave_leaf.specs.Reading.{IsReadAs}
 use Rattle.wave_read.specs.KeptParts.{AreKeptWhereExpected, AreOfType}
 use Rattle.wave_grammar.specs.NodeParts.{IsOfParts}
 use Rattle.wave_grammar.proofs.ByKind.Tuples.{as_shown}

@@ -26,14 +26,14 @@ use Rattle.wave_grammar.proofs.ByKind.Lists.{AreNodesOf, HasAt}
 use Rattle.wave_grammar.proofs.ByKind.Tuples.{ItemsBlamed, ItemsFine, items_blame, TupleType, tuple_is, parts_distinct, tuple_nodes, given_items, tuple_item, tuple_fault, count_blame, ReadAt, tuple_built}
 use Rattle.wave_grammar.proofs.ChildNodes.Trees.{list_of_trees}
 use Rattle.wave_grammar.proofs.ErrorSpans.Nodes.{at_in, form_at, caused_at, deeper_at, built_in}
-use Rattle.wave_read.specs.Reading.{IsReadAs, IsReadWhereExpected}
-use Rattle.wave_read.specs.Faults.{IsRefusedWhateverFollows}
+use Rattle.wave_leaf.specs.Reading.{IsReadAs, IsReadWhereExpected}
+use Rattle.wave_leaf.specs.Faults.{IsRefusedWhateverFollows}
 use Rattle.wave_read.specs.TupleParts.{AreReadEach}
-use Rattle.wave_read.specs.declared.fault.Fault.TheVariants as fault
+use Rattle.wave_leaf.specs.declared.fault.Fault.TheVariants as fault
 use Rattle.wave_read.proofs.ReadErrors.RejectedValues.{reported_rejects}
-use Rattle.wave_read.specs.declared.error.Reason.TheVariants as reason
-use Rattle.wave_read.specs.Errors.{IsBuiltOrMemory}
-use Rattle.wave_read.proofs.ReadErrors.HandedOn.{built_anew, built_of, plain_says, no_memory}
+use Rattle.wave_leaf.specs.declared.error.Reason.TheVariants as reason
+use Rattle.wave_leaf.specs.Errors.{IsBuiltOrMemory}
+use Rattle.wave_leaf.proofs.ReadErrors.HandedOn.{built_anew, built_of, plain_says, no_memory}
 
 -- the one after the first ones
 at_last : {A : Type 0} (xs more : List A) (x : A) → x ≡ get_or ((xs ++ x ∷ []) ++ more) (length xs) x

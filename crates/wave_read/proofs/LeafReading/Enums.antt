@@ -23,9 +23,9 @@ use Rattle.wave_grammar.specs.declared.form.NodeType.TheVariants as kind
 use Rattle.wave_grammar.proofs.ByKind.Leaves.{said}
 use Rattle.wave_grammar.proofs.ByKind.Enums.{enum_is, enum_fault, unknown_blame, enum_built}
 use Rattle.wave_grammar.proofs.ErrorSpans.Nodes.{at_in, form_at, caused_at, built_in}
-use Rattle.wave_read.specs.Reading.{IsReadAs}
-use Rattle.wave_read.specs.Errors.{IsRefusedBy}
-use Rattle.wave_read.proofs.ReadErrors.HandedOn.{built_anew}
+use Rattle.wave_leaf.specs.Reading.{IsReadAs}
+use Rattle.wave_leaf.specs.Errors.{IsRefusedBy}
+use Rattle.wave_leaf.proofs.ReadErrors.HandedOn.{built_anew}
 
 module _ {V : Type 0} (tree : V → Value) (of : V → TypeTree → Type 0) (Full : TypeTree → Type 0) (o w : Order) where
   -- a node of another form than an enum's

@@ -13,9 +13,9 @@ use Rattle.wave_grammar.specs.NodeTree.{NodeTree, type_of}
 use Rattle.wave_grammar.specs.NodeAccessors.{RefusedAs}
 use Rattle.wave_grammar.specs.declared.form.NodeType.{NodeType}
 use Rattle.wave_grammar.specs.declared.form.NodeType.TheVariants as kind
-use Rattle.wave_read.specs.Leaves.{IsSimpleOrUnreadable}
+use Rattle.wave_leaf.specs.Leaves.{IsSimpleOrUnreadable}
 use Rattle.wave_grammar.specs.NodeParts.{IsOneToken}
-use Rattle.wave_read.specs.Reading.{IsReadAs}
+use Rattle.wave_leaf.specs.Reading.{IsReadAs}
 use Rattle.wave_read.specs.Flat.{IsFlatAt}
 use Rattle.wave_read.proofs.PayloadReading.CaseNodes.{variant_other_form}
 use Rattle.wave_read.proofs.LeafReading.Enums.{enum_other_form}

@@ -31,11 +31,11 @@ use Rattle.wave_grammar.proofs.ByKind.Maps.{EntriesFine, key_none, IsMapOf, map_
 use Rattle.wave_grammar.proofs.OneFault.FaultyTrees.{leaf_none, value_fine}
 use Rattle.wave_grammar.proofs.OneFault.FirstOfSeveral.{neither}
 use Rattle.wave_grammar.proofs.ErrorSpans.Nodes.{BelongsTo, children_belong, deeper, at_in, form_at, built_in}
-use Rattle.wave_read.specs.Reading.{IsReadAs}
+use Rattle.wave_leaf.specs.Reading.{IsReadAs}
 use Rattle.wave_read.proofs.MapReading.KeyedChildren.{ArePaired, paired_from}
 use Rattle.wave_read.specs.MapParts.{AreReadInTurn}
-use Rattle.wave_read.specs.Errors.{IsBuiltOrMemory}
-use Rattle.wave_read.proofs.ReadErrors.HandedOn.{built_anew, built_of, anew_of}
+use Rattle.wave_leaf.specs.Errors.{IsBuiltOrMemory}
+use Rattle.wave_leaf.proofs.ReadErrors.HandedOn.{built_anew, built_of, anew_of}
 
 -- ---- the type
 

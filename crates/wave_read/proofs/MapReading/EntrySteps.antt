@@ -19,14 +19,14 @@ use Rattle.wave_grammar.specs.ErrorSpans.{RefusesIn}
 use Rattle.wave_grammar.specs.declared.form.NodeType.TheVariants as kind
 use Rattle.wave_grammar.proofs.ByKind.Maps.{IsMapOf, map_is, map_distinct, merged_of, same_texts}
 use Rattle.wave_grammar.specs.NodeParts.{TakesKey, TakesPart}
-use Rattle.wave_read.specs.Reading.{IsReadAs, IsReadWhereExpected, IsOfType}
-use Rattle.wave_read.specs.Faults.{IsRefusedWhateverFollows}
+use Rattle.wave_leaf.specs.Reading.{IsReadAs, IsReadWhereExpected, IsOfType}
+use Rattle.wave_leaf.specs.Faults.{IsRefusedWhateverFollows}
 use Rattle.wave_read.specs.MapParts.{AreReadInTurn, AreEntries, AreKeysOf, value_type_expected}
-use Rattle.wave_read.specs.declared.fault.Fault.TheVariants as fault
+use Rattle.wave_leaf.specs.declared.fault.Fault.TheVariants as fault
 use Rattle.wave_read.specs.declared.maps.Entries.{Entries}
 use Rattle.wave_read.proofs.ReadErrors.RejectedValues.{reported_rejects}
 use Rattle.wave_read.proofs.MapReading.Entries.{none_waits, one_waits, key_more, value_more, key_rejects, value_rejects, entries_built}
-use Rattle.wave_read.specs.Errors.{IsBuiltOrMemory}
+use Rattle.wave_leaf.specs.Errors.{IsBuiltOrMemory}
 
 module _ {V : Type 0} (tree : V → Value) (of : V → TypeTree → Type 0) (Full : TypeTree → Type 0) (o w : Order) {X : Type 0} (type_tree : X → TypeTree) (T : TypeTree) (source : List ℕ) where
   -- after one entry more

@@ -10,9 +10,9 @@ use Rattle.wave_lex.specs.Errors.{Diagnostic, Says}
 use Rattle.wave_lex.specs.declared.error.ParserErrorKind.TheVariants.{InvalidType}
 use Rattle.wave_grammar.specs.NodeTree.{NodeTree, node, node_trees}
 use Rattle.wave_grammar.specs.declared.form.NodeType.{NodeType}
-use Rattle.wave_read.specs.PlainReading.{IsPlain, TakesMemory, SparesWhereExpected}
-use Rattle.wave_read.specs.Reading.{IsReadAs, IsReadWhereExpected}
-use Rattle.wave_read.proofs.ReadErrors.HandedOn.{form_spares}
+use Rattle.wave_leaf.specs.PlainReading.{IsPlain, TakesMemory, SparesWhereExpected}
+use Rattle.wave_leaf.specs.Reading.{IsReadAs, IsReadWhereExpected}
+use Rattle.wave_leaf.proofs.ReadErrors.HandedOn.{form_spares}
 use Rattle.wave_read.specs.Flat.{IsFlatAt, IsOfFlatPart}
 use Rattle.wave_read.specs.KeptParts.{AreOfType, AreKeptWhereExpected}
 use Rattle.wave_read.specs.PartsOfKinds.{AreParts, AreBareOrRead, IsBare, IsSimpleAt}

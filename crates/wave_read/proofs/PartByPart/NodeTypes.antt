@@ -13,15 +13,15 @@ use Rattle.wave_grammar.specs.NodeTree.{NodeTree, node, node_trees}
 use Rattle.wave_grammar.specs.declared.form.NodeType.{NodeType}
 use Rattle.wave_grammar.specs.declared.form.NodeType.TheVariants as node_type
 use Rattle.wave_grammar.proofs.ByKind.Tuples.{as_shown, counted}
-use Rattle.wave_read.specs.Leaves.{IsSimpleOrUnreadable}
-use Rattle.wave_read.specs.PlainReading.{IsReadSparing}
-use Rattle.wave_read.specs.Faults.{IsOfKind, Reports}
+use Rattle.wave_leaf.specs.Leaves.{IsSimpleOrUnreadable}
+use Rattle.wave_leaf.specs.PlainReading.{IsReadSparing}
+use Rattle.wave_leaf.specs.Faults.{IsOfKind, Reports}
 use Rattle.wave_read.specs.Flat.{IsWrapper, IsCounted, IsFlatAt, IsReadAt, ReadsNoRecord}
 use Rattle.wave_read.specs.KeptParts.{AreKeptWhereExpected, AreOfType}
 use Rattle.wave_read.specs.Payloads.{result_node}
 use Rattle.wave_read.specs.TupleParts.{IsRow}
 use Rattle.wave_read.specs.PartsOfKinds.{AreRefusedAtOnce, AreParts, IsSimpleAt}
-use Rattle.wave_read.specs.declared.fault.Fault.{Fault}
+use Rattle.wave_leaf.specs.declared.fault.Fault.{Fault}
 use Rattle.wave_read.specs.declared.parts.Partial.{Partial}
 use Rattle.wave_read.specs.declared.parts.Partial.TheVariants as parts
 use Rattle.wave_read.specs.declared.tuples.TupleItems.{TupleItems}

@@ -11,16 +11,16 @@ use Rattle.wave_grammar.specs.NodeAccessors.{RefusedAs}
 use Rattle.wave_grammar.specs.declared.form.NodeType.{NodeType}
 use Rattle.wave_grammar.specs.declared.form.NodeType.TheVariants as kind
 use Rattle.wave_grammar.specs.NodeParts.{IsOfParts}
-use Rattle.wave_read.specs.Reading.{IsReadAs}
-use Rattle.wave_read.specs.Faults.{IsRefusedWhateverFollows, IsOfKind}
+use Rattle.wave_leaf.specs.Reading.{IsReadAs}
+use Rattle.wave_leaf.specs.Faults.{IsRefusedWhateverFollows, IsOfKind}
 use Rattle.wave_read.specs.PartsOfKinds.{AreParts, AreNoPartsYet}
-use Rattle.wave_read.specs.declared.fault.Fault.{Fault}
-use Rattle.wave_read.specs.declared.fault.Fault.TheVariants as fault
+use Rattle.wave_leaf.specs.declared.fault.Fault.{Fault}
+use Rattle.wave_leaf.specs.declared.fault.Fault.TheVariants as fault
 use Rattle.wave_read.specs.declared.parts.Partial.{Partial}
 use Rattle.wave_read.specs.declared.parts.Partial.TheVariants as parts
 use Rattle.wave_read.proofs.ItemReading.Tuples.{memory_rejects}
-use Rattle.wave_read.specs.declared.error.Reason.TheVariants as reason
-use Rattle.wave_read.proofs.ReadErrors.HandedOn.{plain_says}
+use Rattle.wave_leaf.specs.declared.error.Reason.TheVariants as reason
+use Rattle.wave_leaf.proofs.ReadErrors.HandedOn.{plain_says}
 
 -- a node that has parts is no label, and no `none`
 pub no_label : (ty : NodeType) → IsOfParts ty → ty ≢ kind.Label

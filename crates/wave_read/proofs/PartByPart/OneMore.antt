@@ -7,10 +7,10 @@ use Rattle.wave_grammar.specs.NodeTree.{NodeTree}
 use Rattle.wave_grammar.specs.declared.form.NodeType.{NodeType}
 use Rattle.wave_grammar.specs.NodeParts.{TakesKey, TakesPart}
 use Rattle.wave_read.specs.Payloads.{result_node}
-use Rattle.wave_read.specs.Faults.{IsRefusedWhateverFollows}
+use Rattle.wave_leaf.specs.Faults.{IsRefusedWhateverFollows}
 use Rattle.wave_read.specs.Private.PartsOfKinds.{AreNoItems}
 use Rattle.wave_read.specs.PartsOfKinds.{AreParts}
-use Rattle.wave_read.specs.declared.fault.Fault.{Fault}
+use Rattle.wave_leaf.specs.declared.fault.Fault.{Fault}
 use Rattle.wave_read.specs.declared.lists.Items.{Items}
 use Rattle.wave_read.specs.declared.maps.Entries.{Entries}
 use Rattle.wave_read.specs.declared.options.SomePayload.{SomePayload}

@@ -24,18 +24,18 @@ use Rattle.wave_grammar.specs.PartReading.{IsCaused, IsPayloadNodeOf}
 use Rattle.wave_grammar.specs.declared.form.NodeType.TheVariants as kind
 use Rattle.wave_grammar.proofs.ByKind.Variants.{HasCase, case_found, case_missing, case_distinct, case_blame, no_case_blame, variant_built}
 use Rattle.wave_grammar.proofs.ErrorSpans.Nodes.{at_in, caused_at, built_in, deeper}
-use Rattle.wave_read.specs.Reading.{IsReadAs, IsReadWhereExpected}
+use Rattle.wave_leaf.specs.Reading.{IsReadAs, IsReadWhereExpected}
 use Rattle.wave_read.specs.CaseParts.{payload_expected, IsLabelOf, IsCaseRead, AreCaseParts}
-use Rattle.wave_read.specs.Faults.{IsRefusedWhateverFollows}
-use Rattle.wave_read.specs.Private.Faults.{IsFaultOf}
-use Rattle.wave_read.specs.declared.fault.Fault.TheVariants as fault
+use Rattle.wave_leaf.specs.Faults.{IsRefusedWhateverFollows}
+use Rattle.wave_leaf.specs.FaultCauses.{IsFaultOf}
+use Rattle.wave_leaf.specs.declared.fault.Fault.TheVariants as fault
 use Rattle.wave_read.specs.declared.variants.CasePayload.{CasePayload}
 use Rattle.wave_read.proofs.PayloadReading.CaseNodes.{variant_type, case_named, case_node, payload_belongs, unexpected_blame, payload_blame, payload_read}
 use Rattle.wave_read.proofs.ReadErrors.RejectedValues.{reported_rejects, caused_rejects}
-use Rattle.wave_read.specs.Errors.{IsBuiltOrMemory}
-use Rattle.wave_read.specs.declared.fault.Fault.{Fault}
+use Rattle.wave_leaf.specs.Errors.{IsBuiltOrMemory}
+use Rattle.wave_leaf.specs.declared.fault.Fault.{Fault}
 use Rattle.wave_wasm.specs.ValueErrors.{cause_of}
-use Rattle.wave_read.proofs.ReadErrors.HandedOn.{built_anew, built_of}
+use Rattle.wave_leaf.proofs.ReadErrors.HandedOn.{built_anew, built_of}
 
 first_same : (n u : NodeTree) (more : List NodeTree) → n ∷ more ≡ u ∷ [] → u ≡ n
 first_same n u more e = cc

@@ -36,9 +36,9 @@ use Rattle.wave_grammar.proofs.ByKind.Leaves.{tree_is}
 use Rattle.wave_grammar.proofs.ByKind.Enums.{label_node}
 use Rattle.wave_grammar.proofs.ByKind.Variants.{VariantType, HasCase, CaseNode, variant_is, variant_fault, flag_text, case_found, case_missing, case_blame, no_case_blame, variant_built}
 use Rattle.wave_grammar.proofs.ErrorSpans.Nodes.{BelongsTo, children_belong, at_in, form_at, caused_at, built_in}
-use Rattle.wave_read.specs.Reading.{IsReadAs}
-use Rattle.wave_read.specs.Errors.{IsRefusedBy}
-use Rattle.wave_read.proofs.ReadErrors.HandedOn.{built_anew}
+use Rattle.wave_leaf.specs.Reading.{IsReadAs}
+use Rattle.wave_leaf.specs.Errors.{IsRefusedBy}
+use Rattle.wave_leaf.proofs.ReadErrors.HandedOn.{built_anew}
 
 -- the type of a variant, by its kind
 pub variant_type : (T : TypeTree) → kind_of T ≡ kinds.Variant → VariantType T (variant_parts T)

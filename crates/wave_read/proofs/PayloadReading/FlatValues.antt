@@ -16,15 +16,15 @@ use Rattle.wave_grammar.specs.NodeAccessors.{RefusedAs}
 use Rattle.wave_grammar.proofs.ByKind.Options.{flat_built, flat_blame}
 use Rattle.wave_grammar.proofs.ByKind.Results.{result_flat_built, result_flat_blame}
 use Rattle.wave_grammar.proofs.ErrorSpans.Nodes.{built_in}
-use Rattle.wave_read.specs.PlainReading.{IsPlain}
-use Rattle.wave_read.specs.Reading.{IsReadAs}
+use Rattle.wave_leaf.specs.PlainReading.{IsPlain}
+use Rattle.wave_leaf.specs.Reading.{IsReadAs}
 use Rattle.wave_read.specs.Flat.{IsFlatAt, IsWrapper}
 use Rattle.wave_read.specs.KeptParts.{AreOfType}
 use Rattle.wave_read.specs.PartsOfKinds.{AreRefusedAtOnce, AreParts, IsSimpleAt}
 use Rattle.wave_read.specs.declared.parts.Partial.{Partial}
 use Rattle.wave_read.specs.declared.values.Frame.{Frame}
-use Rattle.wave_read.specs.Errors.{IsBuiltOrMemory}
-use Rattle.wave_read.proofs.ReadErrors.HandedOn.{built_anew, built_of}
+use Rattle.wave_leaf.specs.Errors.{IsBuiltOrMemory}
+use Rattle.wave_leaf.proofs.ReadErrors.HandedOn.{built_anew, built_of}
 
 -- what a node of another form would be refused for
 abbrev other_form : NodeTree → Diagnostic

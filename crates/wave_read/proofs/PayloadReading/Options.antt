@@ -17,13 +17,13 @@ use Rattle.wave_grammar.specs.NodeAccessors.{RefusedAs}
 use Rattle.wave_grammar.specs.declared.form.NodeType.TheVariants as node_type
 use Rattle.wave_grammar.proofs.ByKind.Options.{SomeNode, some_node, given_none, some_built, some_blame, none_built, option_fault}
 use Rattle.wave_grammar.proofs.ErrorSpans.Nodes.{built_in, deeper, first_belongs, at_in, form_at}
-use Rattle.wave_read.specs.Reading.{IsReadAs}
+use Rattle.wave_leaf.specs.Reading.{IsReadAs}
 use Rattle.wave_read.specs.Flat.{IsFlatAt}
 use Rattle.wave_wasm.proofs.TypesOfValues.TypeOfKind.{formed_as}
-use Rattle.wave_read.specs.Faults.{IsBuiltAt}
+use Rattle.wave_leaf.specs.Faults.{IsBuiltAt}
 use Rattle.wave_read.specs.Payloads.{IsReadPayload}
-use Rattle.wave_read.specs.Errors.{IsBuiltOrMemory}
-use Rattle.wave_read.proofs.ReadErrors.HandedOn.{built_anew, built_of}
+use Rattle.wave_leaf.specs.Errors.{IsBuiltOrMemory}
+use Rattle.wave_leaf.proofs.ReadErrors.HandedOn.{built_anew, built_of}
 
 -- the node of `some` of these
 abbrev some_of : Range ℕ → List NodeTree → NodeTree

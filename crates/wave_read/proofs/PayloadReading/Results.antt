@@ -22,12 +22,12 @@ use Rattle.wave_wasm.proofs.TypesOfValues.TypeOfKind.{simple_is}
 use Rattle.wave_grammar.proofs.ChildNodes.Inside.{some_is}
 use Rattle.wave_grammar.proofs.ChildNodes.Trees.{list_of_trees}
 use Rattle.wave_grammar.proofs.ErrorSpans.Nodes.{built_in, part_in, first_belongs, at_in, form_at}
-use Rattle.wave_read.specs.Reading.{IsReadAs}
+use Rattle.wave_leaf.specs.Reading.{IsReadAs}
 use Rattle.wave_read.specs.Flat.{IsFlatAt}
-use Rattle.wave_read.specs.Faults.{IsBuiltAt}
+use Rattle.wave_leaf.specs.Faults.{IsBuiltAt}
 use Rattle.wave_read.specs.Payloads.{result_node, payload_of}
 use Rattle.wave_read.specs.Private.Payloads.{result_name, result_with, IsOfPayloadType}
-use Rattle.wave_read.proofs.ReadErrors.HandedOn.{built_anew, built_of}
+use Rattle.wave_leaf.proofs.ReadErrors.HandedOn.{built_anew, built_of}
 
 -- the type of a result with these payloads
 result_is : (T : TypeTree) (parts : Option TypeTree × Option TypeTree) → result_parts T ≡ Some parts → T ≡ type.result (maybe_type parts.0) (maybe_type parts.1)

@@ -6,7 +6,7 @@ use Rattle.wave_wasm.specs.Values.{Value}
 use Rattle.wave_lex.specs.Errors.{Diagnostic}
 use Rattle.wave_grammar.specs.NodeTree.{NodeTree, type_of}
 use Rattle.wave_grammar.specs.declared.form.NodeType.{NodeType}
-use Rattle.wave_read.specs.Reading.{IsReadAs, IsOfType}
+use Rattle.wave_leaf.specs.Reading.{IsReadAs, IsOfType}
 use Rattle.wave_read.specs.Flat.{IsFlatAt, IsWrapper, IsWrapperWhereExpected, IsOfPartWithin}
 
 module _ {S V : Type 0} (type_tree : S → TypeTree) (tree : V → Value) (of : V → TypeTree → Type 0) (Full : TypeTree → Type 0) (i w : Order) (T : TypeTree) (source : List ℕ) (n : NodeTree) (o : Option (Bor S)) (x : Bor S) (built : Result V Diagnostic) (is : IsWrapper type_tree T (type_of n) o x) (read : IsReadAs tree of Full i w (type_tree x.now) source n built) where

@@ -10,13 +10,13 @@ use Rattle.wave_wasm.specs.ValueErrors.{cause_of}
 use Rattle.wave_lex.specs.Errors.{Diagnostic, refusal_of, refused_by}
 use Rattle.wave_grammar.specs.NodeTree.{NodeTree, node, node_trees}
 use Rattle.wave_grammar.specs.declared.form.NodeType.{NodeType}
-use Rattle.wave_read.specs.Reading.{IsReadAs}
-use Rattle.wave_read.specs.Errors.{IsRefusedBy}
-use Rattle.wave_read.proofs.ReadErrors.HandedOn.{no_memory}
-use Rattle.wave_read.specs.declared.fault.Fault.{Fault}
-use Rattle.wave_read.specs.declared.fault.Fault.TheVariants as fault
-use Rattle.wave_read.specs.Faults.{Reports, IsRefusedWhateverFollows}
-use Rattle.wave_read.specs.Private.Faults.{IsFaultOf}
+use Rattle.wave_leaf.specs.Reading.{IsReadAs}
+use Rattle.wave_leaf.specs.Errors.{IsRefusedBy}
+use Rattle.wave_leaf.proofs.ReadErrors.HandedOn.{no_memory}
+use Rattle.wave_leaf.specs.declared.fault.Fault.{Fault}
+use Rattle.wave_leaf.specs.declared.fault.Fault.TheVariants as fault
+use Rattle.wave_leaf.specs.Faults.{Reports, IsRefusedWhateverFollows}
+use Rattle.wave_leaf.specs.FaultCauses.{IsFaultOf}
 
 module _ {V : Type 0} (tree : V → Value) (of : V → TypeTree → Type 0) (Full : TypeTree → Type 0) (o w : Order) where
   -- the refusal of a part is that of the whole

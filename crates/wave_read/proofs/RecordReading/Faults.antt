@@ -29,7 +29,7 @@ use Rattle.wave_grammar.proofs.Fields.FieldOrder.{full_at}
 use Rattle.wave_grammar.proofs.Fields.EntryOrder.{AreReadAt, key_blamed, unknown_label, value_blamed}
 use Rattle.wave_grammar.proofs.Fields.Reading.{RecordType, record_is, names_are, fields_distinct}
 use Rattle.wave_grammar.proofs.ErrorSpans.Nodes.{deeper, at_in, form_at, refused_at}
-use Rattle.wave_read.specs.Reading.{IsReadAs}
+use Rattle.wave_leaf.specs.Reading.{IsReadAs}
 use Rattle.wave_read.specs.RecordParts.{last_key}
 use Rattle.wave_read.proofs.MapReading.KeyedChildren.{StandsBehind, key_stands, value_stands, entry_stands, pair_belongs}
 

@@ -27,19 +27,19 @@ use Rattle.wave_grammar.proofs.Fields.Lookup.{all_last, map_last, not_found}
 use Rattle.wave_grammar.proofs.Fields.Reading.{RecordType, record_is, fields_distinct, names_are, look_has, all_from}
 use Rattle.wave_grammar.proofs.ErrorSpans.Nodes.{said_here}
 use Rattle.wave_grammar.specs.NodeParts.{TakesKey, TakesPart}
-use Rattle.wave_read.specs.Reading.{IsReadAs, IsReadWhereExpected}
-use Rattle.wave_read.specs.Faults.{IsRefusedWhateverFollows}
+use Rattle.wave_leaf.specs.Reading.{IsReadAs, IsReadWhereExpected}
+use Rattle.wave_leaf.specs.Faults.{IsRefusedWhateverFollows}
 use Rattle.wave_read.specs.RecordParts.{AreFields, AreBegun, AreKeptAs, IsKeptAs, IsUnread, IsKeyExpected, last_key, type_expected, field_name, part_of}
 use Rattle.wave_read.specs.Private.RecordParts.{IsFieldKey, IsReadBefore, IsKeyFault, with_value}
-use Rattle.wave_read.specs.declared.fault.Fault.{Fault}
-use Rattle.wave_read.specs.declared.fault.Fault.TheVariants as fault
+use Rattle.wave_leaf.specs.declared.fault.Fault.{Fault}
+use Rattle.wave_leaf.specs.declared.fault.Fault.TheVariants as fault
 use Rattle.wave_read.specs.declared.records.Field.{Field}
 use Rattle.wave_read.specs.declared.records.Fields.{Fields}
 use Rattle.wave_read.proofs.ReadErrors.RejectedValues.{reported_rejects}
 use Rattle.wave_read.proofs.MapReading.KeyedChildren.{pairs_with_key, key_waits, pairs_with_value, none_waits, odd_waits}
 use Rattle.wave_read.proofs.RecordReading.Faults.{key_rejects, unknown_rejects, value_rejects}
 use Rattle.wave_read.proofs.RecordReading.Fields.{has_got, one_of_fields, part_names, same_parts, same_names, kept_more, value_kept}
-use Rattle.wave_read.proofs.ReadErrors.HandedOn.{plain_says}
+use Rattle.wave_leaf.proofs.ReadErrors.HandedOn.{plain_says}
 
 module _ {V : Type 0} (tree : V → Value) (of : V → TypeTree → Type 0) (Full : TypeTree → Type 0) (w : Order) {S : Type 0} (type_tree : S → TypeTree) (T : TypeTree) (source : List ℕ) where
   -- what is said of fields speaks of their type, of them and of what is expected alone

@@ -25,7 +25,7 @@ use Rattle.wave_grammar.proofs.ByKind.Lists.{HasAt}
 use Rattle.wave_grammar.proofs.ByKind.Enums.{none_one}
 use Rattle.wave_grammar.proofs.Fields.Lookup.{take_next, map_last}
 use Rattle.wave_grammar.proofs.ChildNodes.Inside.{some_is}
-use Rattle.wave_read.specs.Reading.{IsReadAs}
+use Rattle.wave_leaf.specs.Reading.{IsReadAs}
 use Rattle.wave_read.specs.declared.records.Field.{Field}
 use Rattle.wave_read.specs.RecordParts.{part_of, field_name, IsKeptAs, AreKeptAs}
 use Rattle.wave_read.specs.Private.RecordParts.{with_value, IsFull, AreFull, IsFilled, FirstUnfilled}

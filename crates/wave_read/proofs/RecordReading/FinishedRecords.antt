@@ -30,15 +30,15 @@ use Rattle.wave_grammar.proofs.ByKind.MakerAnswers.{built}
 use Rattle.wave_grammar.proofs.Fields.Entries.{AreFieldsOf, record_nodes, entry_found, none_found, some_map}
 use Rattle.wave_grammar.proofs.Fields.Reading.{RecordType, fields_distinct, given_fields, FieldIsRead, FieldsRead, field_read, record_reads, record_full}
 use Rattle.wave_grammar.proofs.ErrorSpans.Nodes.{at_in, built_in}
-use Rattle.wave_read.specs.Reading.{IsReadAs}
+use Rattle.wave_leaf.specs.Reading.{IsReadAs}
 use Rattle.wave_read.specs.RecordParts.{AreFields, AreKeptAs, IsKeptAs, field_name, part_of}
 use Rattle.wave_read.specs.Private.RecordParts.{IsFull, AreFull, FirstUnfilled, IsLeftUnfilled}
 use Rattle.wave_read.specs.declared.records.Field.{Field}
 use Rattle.wave_read.specs.declared.records.Fields.{Fields}
 use Rattle.wave_read.proofs.RecordReading.Fields.{of_one, part_names}
 use Rattle.wave_read.proofs.RecordReading.FieldSteps.{is_record, entries_read}
-use Rattle.wave_read.specs.Errors.{IsBuiltOrMemory}
-use Rattle.wave_read.proofs.ReadErrors.HandedOn.{built_anew, built_of}
+use Rattle.wave_leaf.specs.Errors.{IsBuiltOrMemory}
+use Rattle.wave_leaf.proofs.ReadErrors.HandedOn.{built_anew, built_of}
 
 module _ {V : Type 0} (tree : V → Value) (of : V → TypeTree → Type 0) (Full : TypeTree → Type 0) (w : Order) {S : Type 0} (type_tree : S → TypeTree) (T : TypeTree) (source : List ℕ) where
   -- a refusal is handed on

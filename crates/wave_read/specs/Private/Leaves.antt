@@ -1,8 +1,8 @@
 -- A token that stands in some source.
 use Rattle.std.specs.Prelude.{ℕ, List}
 use Rattle.wave_grammar.specs.NodeParts.{IsOneToken}
-use Rattle.wave_read.specs.declared.leaf.Leaf.{Leaf}
-use Rattle.wave_read.specs.Leaves.{IsLeafIn}
+use Rattle.wave_leaf.specs.declared.leaf.Leaf.{Leaf}
+use Rattle.wave_leaf.specs.Leaves.{IsLeafIn}
 
 -- it is one token of some text
 abbrev pub IsTokenOfSome : Leaf → Type 0

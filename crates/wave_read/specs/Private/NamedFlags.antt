@@ -15,9 +15,9 @@ use Rattle.wave_grammar.specs.declared.form.NodeType.TheVariants as kind
 use Rattle.wave_grammar.specs.ErrorSpans.{RefusesAt}
 use Rattle.wave_grammar.specs.NodeFlags.{RefusesUnknown}
 use Rattle.wave_grammar.specs.PartReading.{IsCaused}
-use Rattle.wave_read.specs.Reading.{IsReadAs}
-use Rattle.wave_read.specs.declared.fault.Fault.{Fault}
-use Rattle.wave_read.specs.Faults.{Reports}
+use Rattle.wave_leaf.specs.Reading.{IsReadAs}
+use Rattle.wave_leaf.specs.declared.fault.Fault.{Fault}
+use Rattle.wave_leaf.specs.Faults.{Reports}
 
 -- the names of the flags, in byte order
 abbrev pub flag_names : BTreeMap (Bor (List ℕ)) (Range ℕ) → List (List ℕ)

@@ -11,9 +11,9 @@ use Rattle.wave_grammar.specs.FaultOrder.{Order, in_text}
 use Rattle.wave_grammar.specs.NodeTree.{NodeTree, node, no_nodes, node_trees}
 use Rattle.wave_grammar.specs.NodeParts.{TakesKey, TakesPart}
 use Rattle.wave_grammar.specs.declared.form.NodeType.{NodeType}
-use Rattle.wave_read.specs.Reading.{IsReadAs, IsReadWhereExpected}
-use Rattle.wave_read.specs.declared.fault.Fault.{Fault}
-use Rattle.wave_read.specs.Faults.{IsRefusedWhateverFollows}
+use Rattle.wave_leaf.specs.Reading.{IsReadAs, IsReadWhereExpected}
+use Rattle.wave_leaf.specs.declared.fault.Fault.{Fault}
+use Rattle.wave_leaf.specs.Faults.{IsRefusedWhateverFollows}
 
 -- that parts were read of these children of a node, in an order within them, at a type and in a text
 abbrev pub PartsFact : Type 0 → Type 0 → Type 0 → Type 1

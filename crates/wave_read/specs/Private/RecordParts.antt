@@ -17,10 +17,10 @@ use Rattle.wave_grammar.specs.NodeTree.{NodeTree}
 use Rattle.wave_grammar.specs.NodeFields.{IsLeftOut, IsMissing}
 use Rattle.wave_grammar.specs.declared.form.NodeType.{NodeType}
 use Rattle.wave_grammar.specs.declared.form.NodeType.TheVariants as kind
-use Rattle.wave_read.specs.declared.fault.Fault.{Fault}
-use Rattle.wave_read.specs.declared.fault.Fault.TheVariants as fault
+use Rattle.wave_leaf.specs.declared.fault.Fault.{Fault}
+use Rattle.wave_leaf.specs.declared.fault.Fault.TheVariants as fault
 use Rattle.wave_read.specs.declared.records.Field.{Field}
-use Rattle.wave_read.specs.declared.error.Reason.TheVariants as reason
+use Rattle.wave_leaf.specs.declared.error.Reason.TheVariants as reason
 use Rattle.wave_read.specs.RecordParts.{IsUnread, field_name}
 
 -- the field with this value

@@ -17,7 +17,8 @@ use Rattle.wave_grammar.specs.NodeTree.{NodeTree, node_trees}
 use Rattle.wave_grammar.specs.Nodes.{placed_of, all_placed, flags_of, shape_from, and_then, with_both}
 use Rattle.wave_grammar.specs.declared.form.NodeType.TheVariants as kind
 use Rattle.wave_tree.specs.ParsedNodes.{IsSound, IsParsed}
-use Rattle.wave_tree.specs.Private.ParsedNodes.{flag_node, AreFurtherFlags, IsOfFlags}
+use Rattle.wave_node.specs.FlagNodes.{flag_node}
+use Rattle.wave_tree.specs.Private.ParsedNodes.{AreFurtherFlags, IsOfFlags}
 use Rattle.wave_grammar.specs.FlagOrder.{Flag, flag_name, put_flag, flags_in_order}
 use Rattle.wave_grammar.specs.CommaSeparated.{FurtherItems}
 use Rattle.wave_tree.proofs.NodeCorrectness.Lists.{brace_mark, closed_tokens}

@@ -13,7 +13,7 @@ use Rattle.wave_grammar.specs.declared.form.NodeType.{NodeType}
 use Rattle.wave_grammar.specs.declared.form.NodeType.TheVariants as kind
 use Rattle.wave_tree.specs.ParsedNodes.{IsParsed, TakesClass}
 use Rattle.wave_tree.specs.Private.ParsedNodes.{IsParsedBehind, IsMaybe, IsInParens, IsOfItems, items_type, AreClosedItems, AreFurther, IsClosed, key_node_type, AreFurtherPairs, AreKeyedParts, IsOfEntries, IsOfFlags}
-use Rattle.wave_tree.specs.Private.ParserState.{IsLabelWord}
+use Rattle.wave_tree.specs.ValueStarts.{IsLabelWord}
 use Rattle.wave_tree.specs.Private.TokenRoles.{IsClose, IsKeyClass}
 use Rattle.wave_lex.specs.Tokenization.{span}
 use Rattle.wave_tree.proofs.NodeCorrectness.Braces.{entries_parsed, empty_parsed, no_fields_parsed}

@@ -10,7 +10,7 @@ use Rattle.wave_grammar.specs.NodeTree.{node, no_nodes}
 use Rattle.wave_grammar.specs.declared.form.NodeType.{NodeType}
 use Rattle.wave_grammar.specs.declared.form.NodeType.TheVariants as kind
 use Rattle.wave_tree.specs.ParsedNodes.{IsParsed}
-use Rattle.wave_tree.specs.Private.ParserState.{IsAlone, IsAloneWord, IsLabelWord, BeginsNothing}
+use Rattle.wave_tree.specs.ValueStarts.{IsAlone, IsAloneWord, IsLabelWord, BeginsNothing}
 use Rattle.wave_tree.proofs.NodeCorrectness.Items.{same_level, leaf_tied, number_word_tied, none_tied}
 use Rattle.wave_tree.proofs.NodeCorrectness.Tokens.{number_parsed, char_parsed, string_parsed, multiline_parsed}
 use Rattle.wave_tree.proofs.ParserCorrectness.Steps.{value_read, read_there}

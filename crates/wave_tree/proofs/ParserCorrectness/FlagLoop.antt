@@ -29,7 +29,7 @@ use Rattle.wave_tree.proofs.ParserCorrectness.LexerCalls.{asks_reached}
 use Rattle.wave_wasm.proofs.Names.NameSets.{Holds}
 use Rattle.wave_grammar.proofs.NodeMeaning.FlagOrder.{order_last, none_in_order}
 use Rattle.wave_grammar.proofs.Fields.Lookup.{all_last}
-use Rattle.wave_tree.proofs.ParserCorrectness.FlagsSorted.{entry_of, named_place, insert_flag, nodes_of, IsWritten, all_ordered, all_named}
+use Rattle.wave_node.proofs.ParserCorrectness.FlagsSorted.{entry_of, named_place, insert_flag, nodes_of, IsWritten, all_ordered, all_named}
 use Rattle.wave_wasm.proofs.Names.NameTests.{none_of, distinct_more}
 
 -- the flag that was taken last

@@ -30,8 +30,8 @@ use Rattle.wave_grammar.proofs.ChildNodes.Inside.{From, inside}
 use Rattle.wave_grammar.proofs.ErrorSpans.Nodes.{all_in_text}
 use Rattle.wave_grammar.proofs.OneFault.FaultyTrees.{refused}
 use Rattle.wave_grammar.specs.FaultOrder.{in_text}
-use Rattle.wave_read.specs.PlainReading.{IsPlain, IsReadSparing}
-use Rattle.wave_read.specs.Reading.{IsReadAs}
+use Rattle.wave_leaf.specs.PlainReading.{IsPlain, IsReadSparing}
+use Rattle.wave_leaf.specs.Reading.{IsReadAs}
 use Rattle.wave_tree.specs.ParserState.{BeginsRow}
 use Rattle.wave_tree.specs.ParsedNodes.{IsParsed, IsNodeTaken, IsSound}
 use Rattle.wave_tree.specs.Private.ParsedNodes.{IsNodeBuilt}

@@ -2,7 +2,7 @@
 use Rattle.std.specs.Prelude.{ℕ, List, Option, refl}
 use Rattle.std.specs.Coded.{Coded, code_by, coded×, coded_ℕ, coded_list, coded_option}
 use Rattle.wave_grammar.specs.NodeTree.{NodeTree}
-use Rattle.wave_tree.specs.Private.NodeEncoding.{node_code}
+use Rattle.wave_node.specs.NodeEncoding.{node_code}
 use Rattle.wave_tree.specs.UntypedCall.{Called}
 
 -- an untyped call is stored as the tuple of its source, the two ends of its name and its parameters

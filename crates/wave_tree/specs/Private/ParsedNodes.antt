@@ -14,6 +14,7 @@ use Rattle.wave_grammar.specs.declared.form.NodeType.{NodeType}
 use Rattle.wave_grammar.specs.declared.form.NodeType.TheVariants as kind
 use Rattle.wave_grammar.specs.FlagOrder.{Flag, flag_name, flags_in_order}
 use Rattle.wave_tree.specs.ParsedNodes.{IsParsed, TakesClass}
+use Rattle.wave_node.specs.FlagNodes.{flag_node}
 
 -- after a token of this class, which was taken before, stands what is left of a tree
 abbrev pub IsParsedBehind : lex.Token → ℕ → Place → Place → NodeTree → Type 0
@@ -110,10 +111,6 @@ pub record IsOfEntries (n : ℕ) (start : ℕ) (ty : NodeType) (old new : Place)
   pub children : List NodeTree
   pub are : AreKeyedParts n ty old children new
   pub is : parsed ≡ node kind.TupleSet (span start new.lexer.end) (node_trees children)
-
--- the flag's node
-abbrev pub flag_node : Flag → NodeTree
-flag_node f = node kind.Label f.0 no_nodes
 
 -- each further flag after its comma, then the close
 abbrev pub AreFurtherFlags : Place → List Flag → Place → Type 0

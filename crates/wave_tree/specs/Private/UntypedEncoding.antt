@@ -2,7 +2,7 @@
 use Rattle.std.specs.Prelude.{ℕ, List, refl}
 use Rattle.std.specs.Coded.{Coded, code_by, coded×, coded_ℕ, coded_list}
 use Rattle.wave_grammar.specs.NodeTree.{NodeTree}
-use Rattle.wave_tree.specs.Private.NodeEncoding.{node_code}
+use Rattle.wave_node.specs.NodeEncoding.{node_code}
 use Rattle.wave_tree.specs.Untyped.{Untyped}
 
 -- an untyped value is stored as the pair of its source and its node

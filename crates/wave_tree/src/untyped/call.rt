@@ -10,8 +10,6 @@ ghost use Rattle.wave_tree.specs.UntypedCall.{IsParamsOf, IsCalledOf, NameFault,
 ghost use Rattle.wave_tree.specs.Private.UntypedCall.{CallStandsIn, params_place};
 ghost use Rattle.wave_tree.specs.DisplayKeeps.{IsCallKeptByDisplay};
 
-use crate::ast::Node;
-use crate::params::{ParamType, omitted_params};
 use crate::parser::{ParserError, ParserErrorKind};
 use crate::tokens::Tokens;
 use crate::untyped::display::write_node;
@@ -20,6 +18,8 @@ use std::borrow::CowStr;
 use std::fmt;
 use std::marker::Model;
 use wave_lex::lex::{FuncNameLexer, Span};
+use wave_node::ast::Node;
+use wave_node::params::{ParamType, omitted_params, read_params};
 use wave_wasm::wasm::{WasmFunc, WasmValue};
 
 /// The call that the whole text is: a function name at its start, and parameters in parentheses, each
@@ -45,7 +45,7 @@ pub fn parse_raw_func_call<'source>(
 }
 
 /// The lexer after the function name at the start of the text.
-pub(crate) fn name_at<'source>(source: &'source str) -> Result<FuncNameLexer<'source>, ParserError>
+pub fn name_at<'source>(source: &'source str) -> Result<FuncNameLexer<'source>, ParserError>
     ensures named { IfOk result (λ l. (k : ℕ) × IsName source.now k × (l ≡ record { source = source.now; start = 0; end = k })) }
     ensures refused { IfErr result (NameFault source.now) }
 {
@@ -209,7 +209,7 @@ impl<'source> UntypedFuncCall<'source> {
         ensures caused { IfErr result (λ e. e.kind ≡ WasmValueError → IsCausedInParams self.now.name self.now.params e) }
     {
         match &self.params {
-            Some(params) => params.read_params(alloc, types, self.source.as_str()),
+            Some(params) => read_params(params, alloc, types, self.source.as_str()),
             None => omitted_params(alloc, types, self.name.start..self.name.end),
         }
     }
@@ -221,7 +221,7 @@ impl<'source> UntypedFuncCall<'source> {
         ensures stands { CallStandsIn self.now.source self.now.name self.now.params }
     {
         match &self.params {
-            Some(params) => params.out_of_memory(),
+            Some(params) => ParserError::new(ParserErrorKind::OutOfMemory, params.span()),
             None => ParserError::new(ParserErrorKind::OutOfMemory, self.name.start..self.name.end),
         }
     }

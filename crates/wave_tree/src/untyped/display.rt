@@ -11,10 +11,10 @@ ghost use Rattle.wave_tree.specs.DisplayKeeps.{IsKeptByDisplay};
 ghost use Rattle.wave_tree.specs.NodeDisplay.{shown_at};
 ghost use Rattle.wave_tree.specs.Private.NodeDisplay.{name_at, entries_at, braces_at, payload_at, AreEntriesOf};
 
-use crate::ast::{Node, NodeType, make};
 use crate::untyped::UntypedValue;
 use std::fmt;
 use wave_grammar::label::label_name;
+use wave_node::ast::{Node, NodeType, make};
 use wave_wasm::keyword::Keyword;
 
 impl fmt::Display for UntypedValue<'_> {

@@ -5,7 +5,8 @@ ghost use Rattle.wave_value.specs.Private.RecordConstructor.{SaysName};
 use super::{Type, Value};
 use std::alloc::{AllocError, Global};
 use wave_wasm::wasm::{WasmTypeKind, WasmValueError};
-use wave_wasm::writer::{self, WriterError};
+use wave_writer::writer;
+use wave_writer::writer::WriterError;
 
 // What shows a value in a refusal.
 pub(super) trait ShowsValue {

@@ -6,10 +6,8 @@ use Rattle.std.specs.List.{list_all}
 use Rattle.std.specs.Option.{option_to_list, IsSome}
 use Rattle.std.specs.Prelude.{◌↔◌}
 use Rattle.wave_wasm.specs.Lists.{AllOf}
-use Rattle.wave_wasm.specs.Commas.{joined, followed, enclosed}
-use Rattle.wave_wasm.specs.Private.Commas.{comma_if}
-use Rattle.wave_wasm.specs.WriterState.{Output, Appended}
-use Rattle.wave_wasm.proofs.CanonicalText.WrittenParts.{Writing, writing_as, start_written}
+use Rattle.wave_wasm.specs.Commas.{joined, followed}
+use Rattle.wave_wasm.specs.CommaParts.{comma_if}
 
 -- a fact of what is left at i, from the item there
 pub at_item : {X Y : Type 0} (h : List X → Y) (xs : List X) (i : ℕ) (x : X) → i < length xs → x ≡ get_or xs i x → h (drop i xs) ≡ h (x ∷ drop (i + 1) xs)
@@ -51,23 +49,11 @@ pub parted_joined : (ss : List (List ℕ)) → parted false ss ≡ joined ss
 parted_joined [] = refl
 parted_joined (s ∷ ss) = ap (λ z. s ++ z) (parted_followed ss)
 
--- the start of a sequence was written
-pub writing_start : {X : Type 0} (f : X → List ℕ) (xs : List X) (start end : List ℕ) {whole : List ℕ} {old new : Output} → whole ≡ enclosed start (map f xs) end → Appended start old new → Writing whole (parted false (map f xs) ++ end) old new
-writing_start f xs start end {whole} {old} {new} is a = start_written (parted false (map f xs) ++ end) (is ∙ ap (λ z. start ++ (z ++ end)) (sym (parted_joined (map f xs)))) a
-
 -- what is left to write begins with the next item
 pub parted_item : {X : Type 0} (f : X → List ℕ) (xs : List X) (i : ℕ) (x : X) (later : Bool) (close : List ℕ) → i < length xs → x ≡ get_or xs i x → parted later (map f (drop i xs)) ++ close ≡ comma_if later ++ (f x ++ (parted true (map f (drop (i + 1) xs)) ++ close))
 parted_item f xs i x later close lt is =
     let left = parted true (map f (drop (i + 1) xs)) in
     at_item (λ l. parted later (map f l) ++ close) xs i x lt is ∙ (append_assoc (comma_if later) (f x ++ left) close ∙ ap (λ s. comma_if later ++ s) (append_assoc (f x) left close))
-
--- so of a text that is being written
-pub writing_item : {X : Type 0} (f : X → List ℕ) (xs : List X) (i : ℕ) (x : X) {whole : List ℕ} (later : Bool) (close : List ℕ) {old now : Output} → i < length xs → x ≡ get_or xs i x → Writing whole (parted later (map f (drop i xs)) ++ close) old now → Writing whole (comma_if later ++ (f x ++ (parted true (map f (drop (i + 1) xs)) ++ close))) old now
-writing_item f xs i x later close lt is w = writing_as (parted_item f xs i x later close lt is) w
-
--- after the last item only the close is left
-pub writing_close : {X : Type 0} (f : X → List ℕ) (xs : List X) (i : ℕ) {whole : List ℕ} (later : Bool) (close : List ℕ) {old now : Output} → length xs ≤ i → Writing whole (parted later (map f (drop i xs)) ++ close) old now → Writing whole close old now
-writing_close f xs i later close le w = writing_as (at_end (λ l. parted later (map f l) ++ close) xs i le) w
 
 -- ---- whether it can be written
 
@@ -121,36 +107,6 @@ all_at P xs ys i x same lt is h = each_at P xs i x lt is (subst (AllOf P) (sym s
 -- the list from which its last item was taken off
 pub prefix_split : {X : Type 0} (all left ys : List X) (taken : Option X) (last : X) → all ≡ left ++ option_to_list taken → ys ≡ left → taken ≡ Some last → all ≡ ys ++ last ∷ []
 prefix_split all left ys taken last split same is = split ∙ (ap (λ o. left ++ option_to_list o) is ∙ ap (λ l. l ++ last ∷ []) (sym same))
-
--- the texts, each before a comma, and then the last one
-abbrev pub prefixed : List (List ℕ) → List ℕ → List ℕ
-prefixed [] last = last
-prefixed (s ∷ ss) last = s ++ (codes ", " ++ prefixed ss last)
-
-followed_prefix : (ss : List (List ℕ)) (last : List ℕ) → followed (ss ++ last ∷ []) ≡ codes ", " ++ joined (ss ++ last ∷ [])
-followed_prefix [] last = refl
-followed_prefix (s ∷ ss) last = refl
-
--- they are the texts with commas between
-prefixed_joined : (ss : List (List ℕ)) (last : List ℕ) → joined (ss ++ last ∷ []) ≡ prefixed ss last
-prefixed_joined [] last = append-nil last
-prefixed_joined (s ∷ ss) last = ap (λ z. s ++ z) (followed_prefix ss last ∙ ap (λ z. codes ", " ++ z) (prefixed_joined ss last))
-
--- the start of a sequence with a last item was written
-pub writing_prefix_start : {X : Type 0} (f : X → List ℕ) (all ys : List X) (last : X) (start end : List ℕ) {whole : List ℕ} {old new : Output} → whole ≡ enclosed start (map f all) end → all ≡ ys ++ last ∷ [] → Appended start old new → Writing whole (prefixed (map f ys) (f last) ++ end) old new
-writing_prefix_start f all ys last start end is split a =
-    let texts = ap (λ l. joined (map f l)) split ∙ (ap joined (map-append f ys (last ∷ [])) ∙ prefixed_joined (map f ys) (f last)) in
-    start_written (prefixed (map f ys) (f last) ++ end) (is ∙ ap (λ z. start ++ (z ++ end)) texts) a
-
--- what is left to write begins with the next item
-pub writing_prefix : {X : Type 0} (f : X → List ℕ) (ys : List X) (i : ℕ) (x : X) (last close : List ℕ) {whole : List ℕ} {old now : Output} → i < length ys → x ≡ get_or ys i x → Writing whole (prefixed (map f (drop i ys)) last ++ close) old now → Writing whole (f x ++ (codes ", " ++ (prefixed (map f (drop (i + 1) ys)) last ++ close))) old now
-writing_prefix f ys i x last close lt is w =
-    let left = prefixed (map f (drop (i + 1) ys)) last in
-    writing_as (at_item (λ l. prefixed (map f l) last ++ close) ys i x lt is ∙ (append_assoc (f x) (codes ", " ++ left) close ∙ ap (λ s. f x ++ s) (append_assoc (codes ", ") left close))) w
-
--- after the others the last item and the close are left
-pub writing_prefix_close : {X : Type 0} (f : X → List ℕ) (ys : List X) (i : ℕ) (last close : List ℕ) {whole : List ℕ} {old now : Output} → length ys ≤ i → Writing whole (prefixed (map f (drop i ys)) last ++ close) old now → Writing whole (last ++ close) old now
-writing_prefix_close f ys i last close le w = writing_as (at_end (λ l. prefixed (map f l) last ++ close) ys i le) w
 
 alone : (b : Bool) → (b && true) ≡ b
 alone true = refl

@@ -13,7 +13,7 @@ use Rattle.wave_wasm.specs.Keywords.{case_label}
 use Rattle.wave_wasm.specs.Commas.{followed, behind_name, enclosed}
 use Rattle.wave_wasm.specs.Merge.{merged, merged_values, merged_fields}
 use Rattle.wave_wasm.specs.Text.{text, has_text, printed_items, printed_fields, are_writable, are_writable_fields, is_no_option, record_text}
-use Rattle.wave_wasm.specs.Private.Text.{payload_text, has_payload_text}
+use Rattle.wave_wasm.specs.TextParts.{payload_text, has_payload_text}
 use Rattle.wave_wasm.proofs.CanonicalText.Sequences.{depths}
 
 -- ---- a leaf is of a kind of leaves

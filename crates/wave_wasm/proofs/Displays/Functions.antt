@@ -3,7 +3,7 @@ use Rattle.std.proofs.Common.{ℕ, zero, suc, true, ◌≡◌, ◌<◌, ◌≤�
 use Rattle.std.proofs.Math.Seq.{drop-nil}
 use Rattle.wave_wasm.specs.Borrowed.{texts}
 use Rattle.wave_wasm.specs.Types.{TypeTree}
-use Rattle.wave_wasm.specs.Private.Commas.{comma_if}
+use Rattle.wave_wasm.specs.CommaParts.{comma_if}
 use Rattle.wave_wasm.specs.TypeText.{type_text, typed_names}
 use Rattle.wave_wasm.specs.Private.TypeText.{name_part}
 use Rattle.wave_wasm.proofs.Displays.TextAppend.{Adding, adding_as}

@@ -1,7 +1,7 @@
 -- How the parts that are added to a text join to the whole.
 use Rattle.std.proofs.Common.{ℕ, ◌≡◌, ◌<◌, ◌+◌, List, [], ◌++◌, Bool, true, false, refl, sym, ap, ◌∙◌, append_assoc, length, get_or, drop, map, subst}
 use Rattle.std.proofs.lemmas.List.{append-nil}
-use Rattle.wave_wasm.specs.Private.Commas.{comma_if}
+use Rattle.wave_wasm.specs.CommaParts.{comma_if}
 use Rattle.wave_wasm.specs.Commas.{enclosed}
 use Rattle.wave_wasm.proofs.CanonicalText.Sequences.{at_item, parted, parted_joined}
 

@@ -12,7 +12,7 @@ use Rattle.std.specs.Fmt.{digits}
 use Rattle.std.specs.Str.Parse.{AllDigits, digits_value}
 use Rattle.wave_wasm.specs.Lists.{AllOf}
 use Rattle.wave_wasm.specs.Text.{escaped, is_escaped, quoted, quoted_char}
-use Rattle.wave_wasm.specs.Private.Text.{number_escape}
+use Rattle.wave_wasm.specs.TextParts.{number_escape}
 
 -- the escape of a scalar, as scalars
 abbrev escape : ℕ → List ℕ

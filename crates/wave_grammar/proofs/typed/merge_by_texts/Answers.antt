@@ -5,7 +5,7 @@ use Rattle.std.proofs.lemmas.Iterator.Adapters.{YieldsList-from_vec}
 use Rattle.std.proofs.lemmas.Iterator.Consumers.{YieldsList-end}
 use Rattle.wave_wasm.specs.Merge.{merge_by_text}
 use Rattle.wave_wasm.specs.Text.{text}
-use Rattle.wave_wasm.proofs.Merging.Congruence.{merge_keyed}
+use Rattle.wave_writer.proofs.Merging.Congruence.{merge_keyed}
 use Rattle.wave_grammar.proofs.typed.merge_by_texts.Goals as goal
 
 pub returns : goal.returns

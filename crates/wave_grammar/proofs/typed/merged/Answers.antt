@@ -1,7 +1,7 @@
 use Rattle.std.proofs.Common.{ℕ, List, sym}
 use Rattle.wave_wasm.specs.Text.{text}
 use Rattle.std.proofs.lemmas.Bool.{OnTrue_at}
-use Rattle.wave_wasm.proofs.Merging.DistinctKeys.{merge_distinct}
+use Rattle.wave_writer.proofs.Merging.DistinctKeys.{merge_distinct}
 use Rattle.wave_grammar.proofs.typed.merged.Goals as goal
 
 pub returns-then-have_distinct_keys : goal.returns-then-have_distinct_keys

@@ -1,7 +1,7 @@
 use Rattle.std.proofs.Common.{Result, sym, ◌∙◌, subst}
 use Rattle.wave_lex.specs.Errors.{Diagnostic}
 use Rattle.wave_grammar.specs.NodeTree.{type_of}
-use Rattle.wave_read.specs.Reading.{IsOfType}
+use Rattle.wave_leaf.specs.Reading.{IsOfType}
 use Rattle.wave_read.proofs.PayloadReading.FlatValues.{flat_refused, option_wrapped, option_typed, result_wrapped, result_typed}
 use Rattle.wave_read.proofs.PayloadReading.KindsWithoutForm.{none_flat}
 use Rattle.wave_read.proofs.flat.wrap.Goals as goal

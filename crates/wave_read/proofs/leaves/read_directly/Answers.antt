@@ -1,5 +1,5 @@
 use Rattle.std.proofs.Common.{◌∙◌, sym, subst}
-use Rattle.wave_read.specs.Leaves.{leaf_node}
+use Rattle.wave_leaf.specs.Leaves.{leaf_node}
 use Rattle.wave_grammar.specs.NodeParts.{IsOneToken}
 use Rattle.wave_read.proofs.LeafReading.RefusedForms.{leaf_refused, others_simple}
 use Rattle.wave_read.proofs.PayloadReading.Options.{other_option}

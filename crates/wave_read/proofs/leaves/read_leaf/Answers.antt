@@ -1,6 +1,6 @@
 use Rattle.std.proofs.Common.{refl}
 use Rattle.wave_grammar.specs.FaultOrder.{in_text}
-use Rattle.wave_read.specs.Leaves.{leaf_node}
+use Rattle.wave_leaf.specs.Leaves.{leaf_node}
 use Rattle.wave_read.proofs.leaves.read_leaf.Goals as goal
 
 pub wrap-requires : goal.wrap-requires

@@ -1,4 +1,4 @@
-use Rattle.wave_read.specs.Leaves.{leaf_node}
+use Rattle.wave_leaf.specs.Leaves.{leaf_node}
 use Rattle.wave_read.proofs.PayloadReading.Options.{none_read}
 use Rattle.wave_read.proofs.options.read_none.Goals as goal
 

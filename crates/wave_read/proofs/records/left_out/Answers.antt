@@ -10,8 +10,8 @@ use Rattle.wave_wasm.specs.declared.wasm.WasmValueError.TheVariants as causes
 use Rattle.wave_lex.specs.Errors.{Diagnostic, Refusal, refused_by}
 use Rattle.wave_grammar.specs.NodeTree.{NodeTree, place_of}
 use Rattle.wave_grammar.specs.NodeFields.{IsMissing}
-use Rattle.wave_read.specs.Errors.{IsRefusedBy}
-use Rattle.wave_read.proofs.ReadErrors.HandedOn.{built_at}
+use Rattle.wave_leaf.specs.Errors.{IsRefusedBy}
+use Rattle.wave_leaf.proofs.ReadErrors.HandedOn.{built_at}
 use Rattle.wave_grammar.proofs.Fields.LeftOut.{missing, left_built}
 use Rattle.wave_read.specs.Private.RecordParts.{IsMissingOrMemory}
 use Rattle.wave_read.proofs.records.left_out.Goals.{in-Option+in-Err, in_default}

@@ -2,7 +2,7 @@ use Rattle.std.proofs.Common.{[], sym, ◌∙◌, ap, subst}
 use Rattle.wave_grammar.specs.FaultOrder.{in_text}
 use Rattle.wave_grammar.specs.NodeTree.{node, no_nodes}
 use Rattle.wave_grammar.specs.declared.form.NodeType.{NodeType}
-use Rattle.wave_read.specs.Reading.{IsReadAs}
+use Rattle.wave_leaf.specs.Reading.{IsReadAs}
 use Rattle.wave_read.specs.Payloads.{result_node}
 use Rattle.wave_read.proofs.results.read_alone.Goals as goal
 

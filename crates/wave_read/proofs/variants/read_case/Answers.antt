@@ -1,7 +1,7 @@
 use Rattle.std.proofs.Common.{◌≡◌, Some, None, refl, ap, ◌∙◌, rules}
 use Rattle.wave_grammar.specs.LeafTokens.{name_of}
 use Rattle.wave_grammar.specs.declared.form.NodeType.TheVariants as kind
-use Rattle.wave_read.specs.Leaves.{leaf_node}
+use Rattle.wave_leaf.specs.Leaves.{leaf_node}
 use Rattle.wave_read.proofs.PayloadReading.CaseNodes.{no_case_read, no_payload_read, case_built, case_refused, case_named, none_named}
 use Rattle.wave_read.proofs.variants.read_case.Goals as goal
 

@@ -6,7 +6,7 @@ use Rattle.wave_wasm.specs.ConstructorContracts.{MakesList, FullList, TypedList}
 use Rattle.wave_grammar.specs.NodeTree.{node, node_trees}
 use Rattle.wave_grammar.specs.PartReading.{IsOfLength, IsOtherLength}
 use Rattle.wave_grammar.specs.declared.form.NodeType.TheVariants as kind
-use Rattle.wave_read.specs.Reading.{IsReadAs}
+use Rattle.wave_leaf.specs.Reading.{IsReadAs}
 use Rattle.wave_read.specs.ListParts.{ReadOrHeld}
 use Rattle.wave_read.proofs.ItemReading.Lists.{refusal_handed, length_refused, item_refused, items_typed, list_read}
 use Rattle.wave_read.proofs.lists.Items+V+Type+V.finish.Goals as goal

@@ -1,6 +1,6 @@
 use Rattle.wave_grammar.specs.FaultOrder.{in_text}
 use Rattle.std.proofs.Common.{sym, ap, ◌∙◌, ◌++◌, ◌∷◌, []}
-use Rattle.wave_read.specs.Leaves.{leaf_node}
+use Rattle.wave_leaf.specs.Leaves.{leaf_node}
 use Rattle.wave_read.proofs.ItemReading.Lists.{one_more, item_read_at_once}
 use Rattle.wave_read.proofs.lists.Items+V+Type+V.push_fast.Goals as goal
 

@@ -1,7 +1,7 @@
 use Rattle.wave_grammar.specs.FaultOrder.{in_text}
 use Rattle.std.proofs.Common.{sym, subst, ap, ◌∙◌, ◌++◌, ◌∷◌, []}
 use Rattle.wave_wasm.specs.Borrowed.{shown}
-use Rattle.wave_read.specs.Reading.{IsReadWhereExpected}
+use Rattle.wave_leaf.specs.Reading.{IsReadWhereExpected}
 use Rattle.wave_read.specs.ListParts.{element_expected}
 use Rattle.wave_read.proofs.ItemReading.Lists.{one_more, held_still, item_kept, refusal_held}
 use Rattle.wave_read.proofs.lists.Items+V+Type+V.push_part.Goals as goal

@@ -4,7 +4,7 @@ use Rattle.wave_wasm.specs.Types.{TypeTree}
 use Rattle.wave_lex.specs.Errors.{Diagnostic}
 use Rattle.wave_grammar.specs.NodeTree.{node, node_trees}
 use Rattle.wave_grammar.specs.declared.form.NodeType.TheVariants as node_type
-use Rattle.wave_read.specs.Reading.{IsReadAs}
+use Rattle.wave_leaf.specs.Reading.{IsReadAs}
 use Rattle.wave_read.specs.Payloads.{IsReadPayload}
 use Rattle.wave_read.proofs.PayloadReading.Options.{some_typed, some_read, some_refused}
 use Rattle.wave_read.proofs.options.SomePayload+V+Type+V.finish.Goals as goal

@@ -4,8 +4,8 @@ use Rattle.wave_grammar.specs.NodeTree.{node, node_trees}
 use Rattle.wave_grammar.specs.declared.form.NodeType.{NodeType}
 use Rattle.wave_grammar.specs.declared.form.NodeType.TheVariants as kind
 use Rattle.wave_wasm.specs.Types.{TypeTree}
-use Rattle.wave_read.specs.PlainReading.{IsPlain}
-use Rattle.wave_read.specs.Reading.{IsReadAs}
+use Rattle.wave_leaf.specs.PlainReading.{IsPlain}
+use Rattle.wave_leaf.specs.Reading.{IsReadAs}
 use Rattle.wave_read.specs.PartsOfKinds.{AreParts, AreBareOrRead}
 use Rattle.wave_read.specs.declared.parts.Partial.{Partial}
 use Rattle.wave_read.proofs.ReadErrors.RejectedValues.{reported}

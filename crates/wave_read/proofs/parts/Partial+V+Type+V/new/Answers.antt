@@ -2,7 +2,7 @@ use Rattle.std.proofs.Common.{◌∙◌, refl, sym}
 use Rattle.wave_read.proofs.LeafReading.RefusedForms.{others_simple}
 use Rattle.wave_read.proofs.LeafReading.Enums.{enum_other_form}
 use Rattle.wave_read.proofs.PartByPart.NoneRead.{no_label, sound, wrong}
-use Rattle.wave_read.proofs.LeafReading.PlainTypes.{plain_parts}
+use Rattle.wave_leaf.proofs.LeafReading.PlainTypes.{plain_parts}
 use Rattle.wave_read.proofs.parts.Partial+V+Type+V.new.Goals as goal
 
 pub returns-in-Enum-clause-begun : goal.returns-in-Enum-clause-begun

@@ -1,7 +1,7 @@
 use Rattle.wave_grammar.specs.FaultOrder.{in_text}
 use Rattle.std.proofs.Common.{[], ◌∷◌, ◌++◌, Some, refl, ◌∙◌}
 use Rattle.wave_grammar.specs.declared.form.NodeType.TheVariants as kind
-use Rattle.wave_read.specs.declared.fault.Fault.TheVariants as fault
+use Rattle.wave_leaf.specs.declared.fault.Fault.TheVariants as fault
 use Rattle.wave_read.proofs.PayloadReading.CaseAnswers.{part_refused}
 use Rattle.wave_read.proofs.MapReading.EntrySteps as entries
 use Rattle.wave_read.proofs.RecordReading.FieldSteps as fields

@@ -1,7 +1,7 @@
 use Rattle.std.proofs.Common.{Ok, sym, subst, ◌∙◌}
 use Rattle.wave_wasm.specs.Borrowed.{shown}
-use Rattle.wave_read.specs.Leaves.{leaf_node}
-use Rattle.wave_read.specs.Reading.{IsReadWhereExpected}
+use Rattle.wave_leaf.specs.Leaves.{leaf_node}
+use Rattle.wave_leaf.specs.Reading.{IsReadWhereExpected}
 use Rattle.wave_read.proofs.parts.Partial+V+Type+V.push_other_fast.Goals as goal
 
 pub returns-in_ok-push_value-in-Some-read_fast-clause-grown : goal.returns-in_ok-push_value-in-Some-read_fast-clause-grown

@@ -1,7 +1,7 @@
 use Rattle.std.proofs.Common.{subst}
 use Rattle.wave_wasm.specs.Borrowed.{shown}
-use Rattle.wave_read.specs.Leaves.{leaf_node}
-use Rattle.wave_read.specs.PlainReading.{IsReadSparing}
+use Rattle.wave_leaf.specs.Leaves.{leaf_node}
+use Rattle.wave_leaf.specs.PlainReading.{IsReadSparing}
 use Rattle.wave_read.proofs.PartByPart.OneMore.{where_ok}
 use Rattle.wave_read.proofs.values.Frame+V+Type+V.push_token.Goals as goal
 

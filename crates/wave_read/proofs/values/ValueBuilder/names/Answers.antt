@@ -3,8 +3,8 @@ use Rattle.wave_grammar.specs.NodeTree.{node}
 use Rattle.wave_grammar.specs.declared.form.NodeType.TheVariants as kind
 use Rattle.wave_wasm.specs.Borrowed.{shown}
 use Rattle.wave_grammar.specs.FlagParts.{flag_nodes}
-use Rattle.wave_read.specs.Reading.{IsReadWhereExpected}
-use Rattle.wave_read.proofs.LeafReading.PlainTypes.{no_row_spares, flags_no_row}
+use Rattle.wave_leaf.specs.Reading.{IsReadWhereExpected}
+use Rattle.wave_leaf.proofs.LeafReading.PlainTypes.{no_row_spares, flags_no_row}
 use Rattle.wave_read.proofs.values.ValueBuilder.names.Goals as goal
 
 pub returns-in-Some : goal.returns-in-Some

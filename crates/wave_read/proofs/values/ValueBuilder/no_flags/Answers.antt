@@ -4,8 +4,8 @@ use Rattle.wave_grammar.specs.NodeTree.{node, no_nodes}
 use Rattle.wave_wasm.specs.Borrowed.{shown}
 use Rattle.wave_grammar.specs.declared.form.NodeType.{NodeType}
 use Rattle.wave_grammar.specs.declared.form.NodeType.TheVariants as kind
-use Rattle.wave_read.specs.Reading.{IsReadWhereExpected}
-use Rattle.wave_read.proofs.LeafReading.PlainTypes.{no_row_spares, flags_no_row}
+use Rattle.wave_leaf.specs.Reading.{IsReadWhereExpected}
+use Rattle.wave_leaf.proofs.LeafReading.PlainTypes.{no_row_spares, flags_no_row}
 use Rattle.wave_read.specs.Flat.{IsWrapper}
 use Rattle.wave_read.proofs.PayloadReading.Surrounding.{part_within}
 use Rattle.wave_read.proofs.values.ValueBuilder.no_flags.Goals as goal

@@ -1,8 +1,8 @@
 use Rattle.std.proofs.Common.{sym, subst, Option, Bor, Ok}
 use Rattle.wave_grammar.specs.NodeTree.{node, no_nodes}
 use Rattle.wave_wasm.specs.Borrowed.{shown}
-use Rattle.wave_read.specs.Reading.{IsReadWhereExpected}
-use Rattle.wave_read.proofs.LeafReading.PlainTypes.{no_row_spares, token_no_row}
+use Rattle.wave_leaf.specs.Reading.{IsReadWhereExpected}
+use Rattle.wave_leaf.proofs.LeafReading.PlainTypes.{no_row_spares, token_no_row}
 use Rattle.wave_read.proofs.values.ValueBuilder.token.Goals as goal
 
 pub returns-in-None-read_fast : goal.returns-in-None-read_fast

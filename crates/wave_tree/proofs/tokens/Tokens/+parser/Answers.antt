@@ -12,7 +12,7 @@ use Rattle.wave_lex.specs.declared.error.ParserErrorKind.TheVariants as because
 use Rattle.wave_tree.proofs.ParserCorrectness.Steps.{gives_or_memory, no_level, refuses_there, kind_is, here, here_is, handed, gives_then, fails, any_token, shallow, value_read, level_open, read_there, unexpected_there, no_paren, behind_bare, reached, fails_behind, then_behind, payload_other, unexpected_behind, not_expected, untrue, moved, then_class, then_behind_class, range_path, close_first, close_empty, close_next, then_same, then_refuses, item_refuses, then_reached, Reached, no_close, empty_there, key_reads, no_key, brace_key, entries_other, close_behind, comma_behind, other_behind, token_less, tokens_less, no_colon, no_brace, gives_alike, paren_alike, colon_alike, item_fails, value_less, other_next}
 use Rattle.wave_tree.specs.declared.role.ValueStart.{ValueStart}
 use Rattle.wave_tree.specs.declared.role.ValueStart.TheVariants as starts
-use Rattle.wave_tree.specs.Private.ParserState.{IsAlone, IsValueStart}
+use Rattle.wave_tree.specs.ValueStarts.{IsAlone, IsValueStart}
 use Rattle.wave_tree.specs.Private.ParsedNodes.{IsParsedBehind, IsMaybe, IsInParens, IsOfItems, IsOfEntries, IsOfFlags, items_type, label_children}
 use Rattle.wave_tree.specs.ParsedNodes.{TakesClass, IsParsed}
 use Rattle.wave_grammar.specs.NodeTree.{NodeTree, node, no_nodes, node_trees}

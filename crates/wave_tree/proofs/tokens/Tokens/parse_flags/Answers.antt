@@ -19,7 +19,7 @@ use Rattle.std.specs.Cmp.Lexicographic.{slice_cmp}
 use Rattle.std.specs.Ordering.{nat_cmp}
 use Rattle.wave_grammar.specs.FlagOrder.{flag_name}
 use Rattle.wave_tree.proofs.NodeCorrectness.Items.{class_as}
-use Rattle.wave_tree.proofs.ParserCorrectness.FlagsSorted.{entry_of}
+use Rattle.wave_node.proofs.ParserCorrectness.FlagsSorted.{entry_of}
 use Rattle.wave_tree.proofs.ParserCorrectness.FlagLoop.{flag_at, grown, ended, asks_flags}
 use Rattle.wave_tree.proofs.ParserCorrectness.ClassTests.{is_class, is_other, differs, differs_not}
 use Rattle.wave_tree.proofs.ParserCorrectness.LexerCalls.{asks_none, asks_once, asks_token}

@@ -5,7 +5,7 @@ use Rattle.wave_lex.specs.declared.error.ParserErrorKind.TheVariants as because
 use Rattle.wave_lex.specs.Errors.{Diagnostic}
 use Rattle.wave_grammar.specs.PrefixAutomaton.{value}
 use Rattle.wave_grammar.specs.SyntaxErrors.{FailsBySyntax}
-use Rattle.wave_read.specs.PlainReading.{TakesMemory}
+use Rattle.wave_leaf.specs.PlainReading.{TakesMemory}
 use Rattle.wave_tree.specs.Private.ParserState.{Stream}
 use Rattle.wave_tree.specs.FromStr.{IsTypeRefused, IsCausedBetween}
 use Rattle.wave_tree.proofs.ErrorSpans.Syntax.{back_lies, back_same, refused_lies, refused_kind}

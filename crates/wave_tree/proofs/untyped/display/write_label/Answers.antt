@@ -1,6 +1,6 @@
 use Rattle.std.proofs.Common.{sym}
 use Rattle.std.proofs.Output.{has_written_of_eq}
-use Rattle.wave_wasm.proofs.CanonicalText.Labels.{name_labelled}
+use Rattle.wave_writer.proofs.CanonicalText.Labels.{name_labelled}
 use Rattle.wave_tree.proofs.untyped.display.write_label.Goals as goal
 
 pub returns-in-None : goal.returns-in-None

@@ -3,7 +3,7 @@ use Rattle.wave_wasm.specs.Borrowed.{shown}
 use Rattle.wave_wasm.specs.Types.{TypeTree, maybe_type, depth}
 use Rattle.wave_wasm.specs.TypeText.{type_text, payload_text}
 use Rattle.wave_wasm.specs.Commas.{joined}
-use Rattle.wave_wasm.specs.Private.Commas.{comma_if}
+use Rattle.wave_wasm.specs.CommaParts.{comma_if}
 use Rattle.wave_wasm.proofs.Displays.TextAppend.{adding_none, adding_as, adding_more, adding_two, adding_start, adding_item}
 use Rattle.wave_wasm.proofs.CanonicalText.Sequences.{part_depth}
 use Rattle.wave_wasm.proofs.CanonicalText.ValueParts.{map_map}

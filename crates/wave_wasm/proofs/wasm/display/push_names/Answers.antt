@@ -1,6 +1,6 @@
 use Rattle.std.proofs.Common.{ℕ, List, ◌++◌, [], ap, sym, Bor, codes, map, get_or}
 use Rattle.wave_wasm.specs.Commas.{joined}
-use Rattle.wave_wasm.specs.Private.Commas.{comma_if}
+use Rattle.wave_wasm.specs.CommaParts.{comma_if}
 use Rattle.wave_wasm.proofs.Displays.TextAppend.{adding_none, adding_as, adding_more, adding_start, adding_item}
 use Rattle.wave_wasm.proofs.CanonicalText.Sequences.{item_again}
 use Rattle.wave_wasm.proofs.wasm.display.push_names.Goals as goal

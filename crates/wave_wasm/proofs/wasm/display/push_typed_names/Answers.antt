@@ -1,7 +1,7 @@
 use Rattle.std.proofs.Common.{ap, sym, codes, ◌++◌, Bor, arith}
 use Rattle.wave_wasm.specs.Borrowed.{texts, shown_all}
 use Rattle.wave_wasm.specs.Types.{TypeTree}
-use Rattle.wave_wasm.specs.Private.Commas.{comma_if}
+use Rattle.wave_wasm.specs.CommaParts.{comma_if}
 use Rattle.wave_wasm.specs.TypeText.{type_text, typed_names}
 use Rattle.wave_wasm.specs.Private.TypeText.{name_part}
 use Rattle.wave_wasm.proofs.Displays.TextAppend.{adding_none, adding_as, adding_more, adding_two}

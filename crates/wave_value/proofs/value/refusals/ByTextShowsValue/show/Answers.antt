@@ -1,5 +1,5 @@
 use Rattle.std.proofs.Common.{rules, subst}
-use Rattle.wave_wasm.proofs.CanonicalText.Writable.{only_memory, writes}
+use Rattle.wave_writer.proofs.CanonicalText.Writable.{only_memory, writes}
 use Rattle.wave_value.specs.TypedValue.{IsTyped}
 use Rattle.wave_value.proofs.ValueModel.ContentMeaning.{means}
 use Rattle.wave_value.proofs.value.refusals.ByTextShowsValue.show.Goals as goal

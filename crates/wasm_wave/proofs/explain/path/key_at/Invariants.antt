@@ -1,8 +1,0 @@
-use Rattle.wave_grammar.specs.NodeTree.{children_of}
-use Rattle.wave_grammar.specs.NodeAccessors.{node_pairs}
-use Rattle.wave_grammar.specs.ErrorSpans.{LiesInNode}
-use Rattle.wasm_wave.proofs.Steps.{IsSearch}
-use Rattle.wasm_wave.proofs.explain.path.key_at.Given as goal
-
-abbrev pub invariant-loop-key : goal.invariant-loop-key
-invariant-loop-key l = IsSearch (λ e. LiesInNode e.0 l.span → ⊥) (node_pairs (children_of l.node)) l.entries

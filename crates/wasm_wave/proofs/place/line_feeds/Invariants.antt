@@ -1,8 +1,0 @@
-use Rattle.std.proofs.Common.{◌≡◌, ◌≤◌, length}
-use Rattle.wasm_wave.specs.Places.{line_feeds}
-use Rattle.wasm_wave.proofs.place.line_feeds.Given as goal
-
-abbrev pub invariant-loop-byte : goal.invariant-loop-byte
-invariant-loop-byte l =
-    (l.count ≡ line_feeds l.yielded) ×
-    (l.count ≤ length l.yielded)

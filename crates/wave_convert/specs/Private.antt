@@ -1,0 +1,2 @@
+pub mod OwnTypes
+pub mod TupleParts

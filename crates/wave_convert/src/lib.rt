@@ -1,0 +1,4 @@
+//! Values made of those of Rust.
+#![tactic(auto)]
+
+pub mod convert;

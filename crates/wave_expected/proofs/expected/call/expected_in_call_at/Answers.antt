@@ -1,0 +1,32 @@
+use Rattle.std.proofs.Common.{ℕ, ◌≡◌, ◌≤◌, ◌<◌, ap, subst, refl, arith}
+use Rattle.wave_lex.specs.Tokenization.{Lexed}
+use Rattle.wave_expected.specs.declared.expected.Expected.{Expected}
+use Rattle.wave_expected.specs.Expected.{MayFollowInCall, AreParams, IsExpectedFrom}
+use Rattle.wave_expected.proofs.ExpectedTokens.ParamTokens.{in_call, refused_name, name_behind}
+use Rattle.wave_expected.proofs.expected.call.expected_in_call_at.Goals as goal
+
+pub returns-in_default : goal.returns-in_default
+returns-in_default c = refused_name c.args.source.now c.args.at c.in_default.field-0 c.in_default.ensures.refused
+
+pub returns-then-span-at : goal.returns-then-span-at
+returns-then-span-at c =
+    let (k, named, is) = c.in-Ok.ensures.named in
+    name_behind c.args.source.now c.args.at k named (past k (ap (λ (l : Lexed). l.end) is))
+  where
+    past : (k : ℕ) → c.in-Ok.names.end ≡ k → c.args.at < k
+    past k e = let ends = ap (λ r. r.end) c.span.ensures.span in omega (arith, c.if-span-at.true)
+
+pub returns : goal.returns
+returns c =
+    let (k, named, is) = c.in-Ok.ensures.named in
+    let new : Expected = record { classes = c.in_ok-classes_in_call.field-0; may_end = c.end_in_call.result; open_brackets = c.in_ok-tuple.tuple.open_brackets } in (
+      k,
+      named,
+      by k (ap (λ (l : Lexed). l.end) is),
+      subst (λ (l : Lexed). IsExpectedFrom l c.args.at (MayFollowInCall 100) (AreParams 100) new) is
+          (subst (λ (l : Lexed). IsExpectedFrom l c.args.at (MayFollowInCall 100) (AreParams 100) new) c.into_lexer-first.ensures
+          (in_call c.into_lexer-first.result c.args.at c.prefix_of-prefix.result c.in_ok-tuple.tuple new c.prefix_of-prefix.ensures c.in_ok-tuple.ensures c.in_ok-classes_in_call.ensures c.end_in_call.ensures refl)),
+    )
+  where
+    by : (k : ℕ) → c.in-Ok.names.end ≡ k → k ≤ c.args.at
+    by k e = let ends = ap (λ r. r.end) c.span.ensures.span in omega (arith, c.if-span-at.false)

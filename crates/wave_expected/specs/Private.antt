@@ -1,0 +1,4 @@
+pub mod Moves
+pub mod Prefixes
+pub mod CallPrefixes
+pub mod Separators

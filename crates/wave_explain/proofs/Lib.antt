@@ -1,0 +1,3 @@
+pub mod Reported
+pub mod Expecting
+pub mod Escapes

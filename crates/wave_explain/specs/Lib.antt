@@ -1,0 +1,4 @@
+pub mod EscapeMarks
+pub mod ValueExplained
+pub mod CallExplained
+pub mod Private

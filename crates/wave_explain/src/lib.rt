@@ -1,0 +1,9 @@
+//! Explanations of refusals, at their types and without.
+#![tactic(auto)]
+
+pub mod call;
+mod escape;
+mod expected;
+mod open;
+mod syntax;
+pub mod value;

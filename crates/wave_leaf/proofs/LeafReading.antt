@@ -1,0 +1,6 @@
+pub mod LabelKeys
+pub mod BetweenQuotes
+pub mod SimpleTypes
+pub mod ReadAtOnce
+pub mod Strings
+pub mod PlainTypes

@@ -1,0 +1,2 @@
+pub mod LeafReading
+pub mod ReadErrors

@@ -1,0 +1,2 @@
+pub mod ParserCorrectness
+pub mod NodeReading

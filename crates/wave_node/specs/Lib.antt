@@ -1,0 +1,4 @@
+pub mod Private
+pub mod FlagNodes
+pub mod KeywordNodes
+pub mod NodeEncoding

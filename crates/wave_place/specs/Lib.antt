@@ -1,0 +1,4 @@
+pub mod Places
+pub mod Shown
+pub mod Paths
+pub mod Private

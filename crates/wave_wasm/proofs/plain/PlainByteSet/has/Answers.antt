@@ -1,6 +1,0 @@
-use Rattle.std.proofs.Common.{arith}
-use Rattle.wave_wasm.proofs.Escapes.PlainBytes.{plain_table}
-use Rattle.wave_wasm.proofs.plain.PlainByteSet.has.Goals as goal
-
-pub returns : goal.returns
-returns c = plain_table c.args.byte (omega arith)

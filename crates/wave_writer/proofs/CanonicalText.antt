@@ -1,0 +1,9 @@
+pub mod WrittenParts
+pub mod WrittenSequences
+pub mod Maps
+pub mod Gathering
+pub mod Rows
+pub mod Records
+pub mod Flags
+pub mod Labels
+pub mod Writable

@@ -1,0 +1,3 @@
+pub mod NumberEscapes
+pub mod PlainBytes
+pub mod StringRuns

@@ -1,0 +1,4 @@
+pub mod Merging
+pub mod TypesOfValues
+pub mod CanonicalText
+pub mod Escapes

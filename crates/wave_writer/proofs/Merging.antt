@@ -1,0 +1,4 @@
+pub mod DistinctKeys
+pub mod Congruence
+pub mod EntryByEntry
+pub mod EntryPlaces

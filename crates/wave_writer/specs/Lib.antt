@@ -1,0 +1,3 @@
+pub mod Private
+pub mod WriterErrors
+pub mod WriterState

@@ -1,0 +1,2 @@
+pub mod WriterState
+pub mod Values
