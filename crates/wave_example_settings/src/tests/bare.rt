@@ -15,12 +15,22 @@ fn written(rt: HostRuntime, val: &Bare) -> Result<Option<String>, Fail> {
     let answer = writer.write_value(rt.alloc(), val);
     let out = writer.into_inner();
     let shown = format!(in rt.alloc(); "{}", DisplayValue::new(rt.alloc(), val));
-    match (answer, to_string(rt.alloc(), val), shown) {
-        (Ok(()), Ok(text), Ok(shown))
-            if text.as_str() == shown.as_str() && text.as_str() == out.as_str() => Ok(Some(out)),
-        (Err(WriterError::UnsupportedType), Err(WriterError::UnsupportedType), Err(_)) => Ok(None),
-        _ => Err(Fail::new("written in several ways")),
+    let text = to_string(rt.alloc(), val);
+    match answer {
+        Ok(()) => {
+            let (text, shown) = (text?, shown?);
+            if text.as_str() == shown.as_str() && text.as_str() == out.as_str() {
+                return Ok(Some(out));
+            }
+        }
+        Err(WriterError::UnsupportedType) => {
+            if let (Err(WriterError::UnsupportedType), Err(_)) = (text, shown) {
+                return Ok(None);
+            }
+        }
+        Err(_) => {}
     }
+    Err(Fail::new("written in several ways"))
 }
 
 #[test]
