@@ -1,39 +1,37 @@
 //! The lengths of what nodes iterate, and the parts of their strings.
 use std::alloc::Global;
-use std::iter::ExactSizeIterator;
 use wasm_wave::ast::NodeType;
 use wasm_wave::strings::StringPart;
 use wasm_wave::untyped::UntypedValue;
 
-/// The bounds of `size_hint` where they are one number, and the length after the first item.
-fn counted<I: ExactSizeIterator>(items: &mut I) -> Option<(usize, usize)>
-where
-    I::Item: Drop,
-{
-    let (least, most) = items.size_hint();
-    items.next()?;
-    match most == Some(least) {
-        true => Some((least, items.len())),
-        false => None,
-    }
+/// The bounds of a `size_hint`, and the length after the first item.
+fn counted(alloc: Global, bounds: (usize, Option<usize>), further: usize) -> Option<String> {
+    let (least, most) = bounds;
+    let most = most?;
+    format!(in alloc; "{least} {most} {further}").ok()
 }
 
-/// How many names of flags, or fields and entries, the text's node iterates, and how many behind the first; of
-/// flags also the first name.
+/// The bounds of how many names of flags the text's node iterates, how many are left behind the first, and the
+/// first; or the same of fields, without the first, and in the next line of entries.
 pub fn lengths(alloc: Global, text: &str) -> Option<String> {
     let value = UntypedValue::parse(alloc, text).ok()?;
     let node = value.node();
     if node.ty() == NodeType::Flags {
         let mut names = node.as_flags(value.source()).ok()?;
-        let (whole, first) = (names.size_hint(), names.next()?);
-        return match whole {
-            (least, Some(most)) => format!(in alloc; "{least} {most} {first} {}", names.len()).ok(),
-            _ => None,
-        };
+        let bounds = names.size_hint();
+        let first = names.next()?;
+        let names = counted(alloc, bounds, names.len())?;
+        return format!(in alloc; "{names} {first}").ok();
     }
-    let (fields, further) = counted(&mut node.as_record(alloc, value.source()).ok()?)?;
-    let (entries, others) = counted(&mut node.as_map().ok()?)?;
-    format!(in alloc; "{fields} {further} {entries} {others}").ok()
+    let mut fields = node.as_record(alloc, value.source()).ok()?;
+    let mut entries = node.as_map().ok()?;
+    let (of_fields, of_entries) = (fields.size_hint(), entries.size_hint());
+    if fields.next().is_none() || entries.next().is_none() {
+        return None;
+    }
+    let fields = counted(alloc, of_fields, fields.len())?;
+    let entries = counted(alloc, of_entries, entries.len())?;
+    format!(in alloc; "{fields}\n{entries}").ok()
 }
 
 /// The parts of the text, which is a string: a run in angle brackets, a char bare, a refusal in braces.

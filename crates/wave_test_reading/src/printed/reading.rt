@@ -4,7 +4,7 @@ use crate::rows::reading::read_late;
 use crate::rows::types::type_of;
 use std::alloc::Global;
 use wasm_wave::lex::{Lexer, Token};
-use wasm_wave::parser::{Parser, ParserError};
+use wasm_wave::parser::{MAX_LEVELS, Parser, ParserError};
 use wasm_wave::value::Value;
 use wasm_wave::{from_str, to_string};
 
@@ -39,7 +39,13 @@ pub fn in_turn(alloc: Global, is_behind_number: bool, words: &[String]) -> Optio
     let mut out = String::new(alloc);
     for at in 1..words.len() {
         match word(words, at).strip_prefix("limit ") {
-            Some(limit) => parser = parser.with_limit(limit.parse::<u32>().ok()?),
+            Some(limit) => {
+                let limit = limit.parse::<u32>().ok()?;
+                if limit < 1 || limit > MAX_LEVELS {
+                    return None;
+                }
+                parser = parser.with_limit(limit);
+            }
             None => {
                 let answer = next(alloc, &mut parser, word(words, at))?;
                 write!(out, "{answer}\n").ok()?;
