@@ -1,5 +1,5 @@
 -- What is told of a part, and which parameter it is.
-use Rattle.std.proofs.Common.{ℕ, ◌+◌, ◌≡◌, ◌<◌, ◌≤◌, ◌⊎◌, inl, inr, List, [], ◌++◌, Some, option_map, false, length, get_or, Bor, Result, Ok, Err, is_ok, IfOk, if◌then◌else◌, refl, subst, ap, sym, ◌∙◌, append_assoc, arith}
+use Rattle.std.proofs.Common.{ℕ, ◌+◌, ◌≡◌, ◌<◌, ◌≤◌, ◌⊎◌, inl, inr, List, [], ◌++◌, Some, option_map, true, false, length, get_or, Bor, Result, Ok, Err, is_ok, IfOk, if◌then◌else◌, refl, subst, ap, sym, ◌∙◌, append_assoc, arith}
 use Rattle.std.specs.Prelude.{slice_get}
 use Rattle.std.specs.Fmt.{decimal}
 use Rattle.std.specs.declared.ops.Range.{Range}
@@ -14,7 +14,7 @@ use Rattle.wave_grammar.specs.NodeTree.{NodeTree}
 use Rattle.wave_grammar.specs.ErrorSpans.{LiesInNode}
 use Rattle.wave_tree.specs.UntypedCall.{Called, IsCalledOf, IsNoCall}
 use Rattle.wave_explain.specs.EscapeMarks.{IsSyntaxMark}
-use Rattle.wave_explain.specs.ValueExplained.{is_of_type, ReportsPart, IsPartMark, IsUnexpected}
+use Rattle.wave_explain.specs.ValueExplained.{is_of_type, ReportsPart, IsPartMark, IsUnexpected, BeginWith}
 use Rattle.wave_explain.specs.CallExplained.{name_or_number, Gives, ReportsParameter, HasNoParameter, ReportsExpectedInCall}
 
 -- the same is told of an equal node, by an equal path and equal lines
@@ -73,8 +73,8 @@ module _ {S : Type 0} (tree : S → TypeTree) where
 -- what a block of a call tells by its path and its lines
 abbrev pub Reports : List ℕ → Func → Diagnostic → Range ℕ → List ℕ → List ℕ → Type 0
 Reports source f e mark path lines =
-    ReportsParameter source f e.span path lines × IsPartMark source e.span mark
-    ⊎ (path ≡ []) × HasNoParameter e.kind source f.params e.span × IsSyntaxMark source e mark × (IsUnexpected e.kind → ReportsExpectedInCall source e.span.start lines)
+    (is_of_type e.kind ≡ true) × ReportsParameter source f e.span path lines × IsPartMark source e.span mark
+    ⊎ (path ≡ []) × HasNoParameter e.kind source f.params e.span × IsSyntaxMark source e mark × (IsUnexpected e.kind → BeginWith ReportsExpectedInCall source e.span.start lines)
 
 -- the same is reported by an equal path and equal lines
 pub params_again : (source : List ℕ) (f : Func) (e : Diagnostic) (mark : Range ℕ) (path lines other others : List ℕ) → path ≡ other → lines ≡ others → Reports source f e mark path lines → Reports source f e mark other others

@@ -1,5 +1,5 @@
 -- What is shown of the refusal of a call at a function's type.
-use Rattle.std.specs.Prelude.{ℕ, ◌+◌, ◌≡◌, ◌⊎◌, List, [], ◌++◌, Option, Some, None, false, codes, slice_get}
+use Rattle.std.specs.Prelude.{ℕ, ◌+◌, ◌≡◌, ◌⊎◌, List, [], ◌++◌, Option, Some, None, true, false, codes, slice_get}
 use Rattle.std.specs.Fmt.{decimal}
 use Rattle.std.specs.declared.ops.Range.{Range}
 use Rattle.wave_wasm.specs.Types.{TypeTree}
@@ -12,7 +12,7 @@ use Rattle.wave_expected.specs.declared.expected.Expected.{Expected}
 use Rattle.wave_expected.specs.Expected.{IsExpectedInCall, IsWithoutName}
 use Rattle.wave_tree.specs.UntypedCall.{Called, IsCalledOf, IsNoCall}
 use Rattle.wave_explain.specs.EscapeMarks.{IsSyntaxMark}
-use Rattle.wave_explain.specs.ValueExplained.{is_of_type, ReportsPart, IsPartMark, IsBlock, IsUnexpected, ReportsExpected, IsSyntaxExplained}
+use Rattle.wave_explain.specs.ValueExplained.{is_of_type, ReportsPart, IsPartMark, IsBlock, IsUnexpected, expectation, BeginWith, IsSyntaxExplained}
 
 -- the call gives the value of this node to the parameter at index i
 abbrev pub Gives : Called → ℕ → NodeTree → Type 0
@@ -52,22 +52,23 @@ abbrev pub HasNoParameter : ParserErrorKind → List ℕ → List TypeTree → R
 HasNoParameter k source types span =
     (is_of_type k ≡ false) ⊎ IsNoCall source ⊎ ((call : Called) × IsCalledOf source call × NoValueHolds call types span)
 
--- behind the name of a call the first line says what may stand at this place
+-- what is said of what may stand at this place behind the name of a call; nothing where it has none
 abbrev pub ReportsExpectedInCall : List ℕ → ℕ → List ℕ → Type 0
-ReportsExpectedInCall source at lines = IsWithoutName source at ⊎ ((x : Expected) × IsExpectedInCall source at x × ReportsExpected x lines)
+ReportsExpectedInCall source at said =
+    IsWithoutName source at × (said ≡ []) ⊎ ((x : Expected) × IsExpectedInCall source at x × (said ≡ expectation x.classes.items x.may_end))
 
 -- the text explains the refusal of the source, which is read as a call without types
 abbrev pub IsUntypedCallExplained : List ℕ → Diagnostic → List ℕ → Type 0
 IsUntypedCallExplained source e text = IsSyntaxExplained ReportsExpectedInCall source e text
 
--- the text explains the refusal of the source, a call of the function f: a block with the path to the part of a parameter that is wrong
--- and the type that is expected there, or without a path where no parameter is reported
+-- the text explains the refusal of the source, a call of the function f: of a fault of type a block with the path to the part of a
+-- parameter that is wrong and the type that is expected there, or one without a path where no parameter is reported
 pub record IsCallExplained (source : List ℕ) (f : Func) (e : Diagnostic) (text : List ℕ) : Type 0 where
   pub mark : Range ℕ
   pub path : List ℕ
   pub lines : List ℕ
   pub reported :
-      ReportsParameter source f e.span path lines × IsPartMark source e.span mark
+      (is_of_type e.kind ≡ true) × ReportsParameter source f e.span path lines × IsPartMark source e.span mark
       ⊎ (path ≡ []) × HasNoParameter e.kind source f.params e.span × IsSyntaxMark source e mark
-      × (IsUnexpected e.kind → ReportsExpectedInCall source e.span.start lines)
+      × (IsUnexpected e.kind → BeginWith ReportsExpectedInCall source e.span.start lines)
   pub block : IsBlock source (error_text e) mark path lines text

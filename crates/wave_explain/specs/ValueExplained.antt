@@ -5,6 +5,7 @@ use Rattle.std.specs.declared.ops.Range.{Range}
 use Rattle.wave_wasm.specs.Types.{TypeTree}
 use Rattle.wave_wasm.specs.TypeText.{type_text}
 use Rattle.wave_lex.specs.Errors.{Diagnostic, error_text}
+use Rattle.wave_lex.specs.declared.lex.Token.{Token}
 use Rattle.wave_lex.specs.declared.error.ParserErrorKind.{ParserErrorKind}
 use Rattle.wave_lex.specs.declared.error.ParserErrorKind.TheVariants as kind
 use Rattle.wave_grammar.specs.NodeTree.{NodeTree}
@@ -18,7 +19,7 @@ use Rattle.wave_tree.specs.Untyped.{Untyped, IsUntypedTaken}
 use Rattle.wave_place.specs.Places.{IsPlaceNear, IsMarked}
 use Rattle.wave_place.specs.Shown.{shown_lines}
 use Rattle.wave_place.specs.Paths.{Step, IsPartAt, shown_first, path_text}
-use Rattle.wave_hints.specs.WordMarks.{IsWordMark}
+use Rattle.wave_hints.specs.WordMarks.{IsWordMark, IsName}
 use Rattle.wave_explain.specs.EscapeMarks.{IsSyntaxMark}
 
 -- the kinds of faults of a value at its type
@@ -59,13 +60,10 @@ pub record ReportsPart (source : List ℕ) (span : Range ℕ) (n : NodeTree) (T 
 abbrev pub ReportsPartOfValue : List ℕ → Range ℕ → TypeTree → List ℕ → List ℕ → Type 0
 ReportsPartOfValue source span T path lines = (u : Untyped) × IsPrefix source u × ReportsPart source span u.node T path lines
 
--- what is marked is the span, or a name within it
-abbrev pub IsWithin : Range ℕ → Range ℕ → Type 0
-IsWithin span mark = (mark ≡ span) ⊎ (span.start ≤ mark.start) × (mark.start ≤ mark.end) × (mark.end ≤ span.end)
-
--- or the whole word that holds the span
+-- what is marked is the span, a whole name within it, or the whole word that holds it
 abbrev pub IsPartMark : List ℕ → Range ℕ → Range ℕ → Type 0
-IsPartMark source span mark = IsWithin span mark ⊎ IsWordMark source span mark
+IsPartMark source span mark =
+    (mark ≡ span) ⊎ (span.start ≤ mark.start) × (mark.end ≤ span.end) × IsName source mark ⊎ IsWordMark source span mark
 
 -- `, at ` before a path, where there is one
 abbrev pub before_path : List ℕ → List ℕ
@@ -96,21 +94,26 @@ pub record IsBlock (source message : List ℕ) (mark : Range ℕ) (path lines te
 abbrev pub IsUnexpected : ParserErrorKind → Type 0
 IsUnexpected k = (k ≡ kind.UnexpectedToken) ⊎ (k ≡ kind.UnexpectedEnd)
 
--- the first line says what may stand there; nothing is said where nothing may
-abbrev pub ReportsExpected : Expected → List ℕ → Type 0
-ReportsExpected x lines =
-    (x.classes.items ≡ []) × (x.may_end ≡ false) ⊎ ((more : List ℕ) × (lines ≡ expected_line (expected_words x.classes.items x.may_end) [] ++ more))
+-- what is said of what may stand there: a line, or nothing where nothing may
+abbrev pub expectation : List Token → Bool → List ℕ
+expectation [] false = []
+expectation [] true = expected_line (expected_words [] true) []
+expectation (c ∷ more) end = expected_line (expected_words (c ∷ more) end) []
 
--- so it does of this place of a source in which a value of at most 1000 levels is read
+-- so of this place of a source in which a value of at most 1000 levels is read
 abbrev pub ReportsExpectedAt : List ℕ → ℕ → List ℕ → Type 0
-ReportsExpectedAt source at lines = (x : Expected) × IsExpected source at 1000 x × ReportsExpected x lines
+ReportsExpectedAt source at said = (x : Expected) × IsExpected source at 1000 x × (said ≡ expectation x.classes.items x.may_end)
+
+-- the lines begin with what is said of the place
+abbrev pub BeginWith : (List ℕ → ℕ → List ℕ → Type 0) → List ℕ → ℕ → List ℕ → Type 0
+BeginWith Reports source at lines = (said : List ℕ) × (more : List ℕ) × Reports source at said × (lines ≡ said ++ more)
 
 -- the text explains the refusal of the source: a block without a path, whose lines tell what may stand where a token or the end is refused
 pub record IsSyntaxExplained (Reports : List ℕ → ℕ → List ℕ → Type 0) (source : List ℕ) (e : Diagnostic) (text : List ℕ) : Type 0 where
   pub mark : Range ℕ
   pub is_mark : IsSyntaxMark source e mark
   pub lines : List ℕ
-  pub reported : IsUnexpected e.kind → Reports source e.span.start lines
+  pub reported : IsUnexpected e.kind → BeginWith Reports source e.span.start lines
   pub block : IsBlock source (error_text e) mark [] lines text
 
 -- so it does where a value is read without a type
@@ -119,13 +122,13 @@ IsUntypedExplained source e text = IsSyntaxExplained ReportsExpectedAt source e 
 
 -- ---- at a type
 
--- the text explains the refusal of the source at the type T: a block with the path to the part that is wrong and the type that is expected
--- there, or without a path where no part is looked for
+-- the text explains the refusal of the source at the type T: of a fault of type a block with the path to the part that is wrong and the
+-- type that is expected there, or one without a path where no part is looked for
 pub record IsValueExplained (source : List ℕ) (T : TypeTree) (e : Diagnostic) (text : List ℕ) : Type 0 where
   pub mark : Range ℕ
   pub path : List ℕ
   pub lines : List ℕ
   pub reported :
-      ReportsPartOfValue source e.span T path lines × IsPartMark source e.span mark
-      ⊎ (path ≡ []) × HasNoPart e.kind source × IsSyntaxMark source e mark × (IsUnexpected e.kind → ReportsExpectedAt source e.span.start lines)
+      (is_of_type e.kind ≡ true) × ReportsPartOfValue source e.span T path lines × IsPartMark source e.span mark
+      ⊎ (path ≡ []) × HasNoPart e.kind source × IsSyntaxMark source e mark × (IsUnexpected e.kind → BeginWith ReportsExpectedAt source e.span.start lines)
   pub block : IsBlock source (error_text e) mark path lines text

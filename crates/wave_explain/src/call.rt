@@ -9,12 +9,12 @@ ghost use Rattle.wave_grammar.specs.ErrorSpans.{LiesInNode};
 ghost use Rattle.wave_grammar.specs.TypedReading.{IsValueOf};
 ghost use Rattle.wave_tree.specs.UntypedCall.{IsCalledOf, IsNoCall};
 ghost use Rattle.wave_explain.specs.EscapeMarks.{IsSyntaxMark};
-ghost use Rattle.wave_explain.specs.ValueExplained.{is_of_type, IsPartMark, IsUnexpected};
+ghost use Rattle.wave_explain.specs.ValueExplained.{is_of_type, IsPartMark, IsUnexpected, BeginWith};
 ghost use Rattle.wave_explain.specs.CallExplained.{Gives, parameter_text, ReportsParameter, HasNoParameter, ReportsExpectedInCall, IsCallExplained, IsUntypedCallExplained};
 
 use crate::open::open_line_in_call;
 use crate::syntax::Reading;
-use crate::value::{block, explain_syntax, first_refused, is_of_type, report_part};
+use crate::value::{block, explain_syntax, is_of_type, part_mark, report_part};
 use std::alloc::{AllocError, Global};
 use std::fmt::Write;
 use wave_hints::params::params_lines;
@@ -119,7 +119,7 @@ fn explain_call_alone<F: WasmFunc>(
     requires { (is_of_type error.now.kind ≡ false) ⊎ IsNoCall source.now }
     ensures { IfOk result (λ text. IsCallExplained source.now (F.func func.now) error.now (string_bytes text)) }
 {
-    let at = first_refused(error, source);
+    let at = part_mark(source, error.span(), None).start;
     let more = open_line_in_call(alloc, error.kind(), source, at, func)?;
     explain_syntax(alloc, error, source, Reading::Call, more.as_str())
 }
@@ -169,9 +169,9 @@ fn report_params<F: WasmFunc>(
     requires lines { string_bytes lines.old ≡ [] }
     requires call { IsCalledOf source.now call.now }
     requires kind { IsUnexpected error.now.kind → ⊥ }
-    ensures { IfOk result (λ mark. ReportsParameter source.now (F.func func.now) error.now.span (string_bytes path.new) (string_bytes lines.new) × IsPartMark source.now error.now.span mark
+    ensures { IfOk result (λ mark. (is_of_type error.now.kind ≡ true) × ReportsParameter source.now (F.func func.now) error.now.span (string_bytes path.new) (string_bytes lines.new) × IsPartMark source.now error.now.span mark
         ⊎ (string_bytes path.new ≡ []) × HasNoParameter error.now.kind source.now (F.func func.now).params error.now.span × IsSyntaxMark source.now error.now mark
-        × (IsUnexpected error.now.kind → ReportsExpectedInCall source.now error.now.span.start (string_bytes lines.new))) }
+        × (IsUnexpected error.now.kind → BeginWith ReportsExpectedInCall source.now error.now.span.start (string_bytes lines.new))) }
 {
     let types = func.params(alloc)?;
     let names = func.param_names(alloc)?;
@@ -201,6 +201,7 @@ fn value_at<'a>(
         ⊎ ((i : ℕ) (n : NodeTree) → Gives call.now i n → i < count → LiesInNode n span.now → ⊥)) }
     ensures some { IfSome result (λ found. (found.0 < count) × Gives call.now found.0 found.1.now × LiesInNode found.1.now span.now) }
     ensures value { IfSome result (λ found. IsValueOf call.now.source found.1.now) }
+    ensures kind { IfSome result (λ _. is_of_type kind ≡ true) }
 {
     if !is_of_type(kind) {
         return None;

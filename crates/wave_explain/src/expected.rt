@@ -40,18 +40,14 @@ pub(crate) fn push_line(lines: &mut String, text: &str, more: &str) -> Result<()
 
 /// What was found, where that is of another form than the type takes; else which values the type has.
 fn more(error: &ParserError, node: &Node, kind: WasmTypeKind) -> &'static str {
+    let refused = error.span();
+    let whole = node.span();
+    let is_whole = refused.start == whole.start && refused.end == whole.end;
     match error.kind() {
-        ParserErrorKind::InvalidType if is_at(error, node) => found(node.ty()),
+        ParserErrorKind::InvalidType if is_whole => found(node.ty()),
         ParserErrorKind::InvalidValue | ParserErrorKind::InvalidEscape => values(kind),
         _ => "",
     }
-}
-
-/// Whether the refusal stands at the node itself.
-fn is_at(error: &ParserError, node: &Node) -> bool {
-    let there = error.span();
-    let place = node.span();
-    there.start == place.start && there.end == place.end
 }
 
 /// What was found.

@@ -90,7 +90,7 @@ fn type_line<T: WasmType>(alloc: Global, path: &str, ty: &T) -> Result<String, A
 }
 
 /// What is around a place.
-#[derive(Clone, Copy, PartialEq, Eq)]
+#[derive(Clone, Copy)]
 enum Around {
     /// Nothing: a whole value stands there.
     Nothing,
@@ -120,11 +120,11 @@ fn open_part<'a, T: WasmType>(
     let mut from = start;
     for bracket in brackets {
         let place = Passed::between(source, from, bracket.start);
-        let Some(value) = value_at(alloc, source, around, part, &place, path)? else {
+        let Some(value) = value_at(alloc, around, part, &place, path)? else {
             return Ok(part);
         };
         let opening = source.get(bracket.start..bracket.end).unwrap_or("");
-        let Some(entered) = enter(alloc, opening, place.word(source), value, path)? else {
+        let Some(entered) = enter(alloc, opening, place.word, value, path)? else {
             return Ok(value);
         };
         around = entered.0;
@@ -135,7 +135,7 @@ fn open_part<'a, T: WasmType>(
     if !place.is_needed {
         return Ok(part);
     }
-    match value_at(alloc, source, around, part, &place, path)? {
+    match value_at(alloc, around, part, &place, path)? {
         Some(value) => Ok(value),
         None => Ok(part),
     }
@@ -145,19 +145,18 @@ fn open_part<'a, T: WasmType>(
 /// added.
 fn value_at<'a, T: WasmType>(
     alloc: Global,
-    source: &str,
     around: Around,
     ty: &'a T,
-    place: &Passed,
+    place: &Passed<'_>,
     path: &mut String,
 ) -> Result<Option<&'a T>, AllocError> {
-    match around {
-        Around::Nothing | Around::Payload => Ok(Some(ty)),
-        Around::List => {
+    match (around, place.key) {
+        (Around::Nothing | Around::Payload, _) => Ok(Some(ty)),
+        (Around::List, _) => {
             push_item(path, place.commas)?;
             Ok(ty.list_element_type())
         }
-        Around::Tuple => {
+        (Around::Tuple, _) => {
             let types = ty.tuple_element_types(alloc)?;
             let Some(item_type) = types.get(place.commas).copied() else {
                 return Ok(None);
@@ -165,30 +164,20 @@ fn value_at<'a, T: WasmType>(
             push_item(path, place.commas)?;
             Ok(Some(item_type))
         }
-        Around::Braces => entry_at(alloc, place.key(source), ty, path),
+        (Around::Braces, Some(key)) => {
+            if let Some((_, value_type)) = ty.map_key_value_types() {
+                push_key(path, key)?;
+                return Ok(Some(value_type));
+            }
+            let name = key.strip_prefix('%').unwrap_or(key);
+            let field_type = type_of_field(alloc, ty, name)?;
+            if field_type.is_some() {
+                push_name(path, name)?;
+            }
+            Ok(field_type)
+        }
+        (Around::Braces, None) => Ok(None),
     }
-}
-
-/// The type of the value behind the key, where there is one; the step to it is added.
-fn entry_at<'a, T: WasmType>(
-    alloc: Global,
-    key: Option<&str>,
-    ty: &'a T,
-    path: &mut String,
-) -> Result<Option<&'a T>, AllocError> {
-    let Some(key) = key else {
-        return Ok(None);
-    };
-    if let Some((_, value_type)) = ty.map_key_value_types() {
-        push_key(path, key)?;
-        return Ok(Some(value_type));
-    }
-    let name = key.strip_prefix('%').unwrap_or(key);
-    let Some(value_type) = type_of_field(alloc, ty, name)? else {
-        return Ok(None);
-    };
-    push_name(path, name)?;
-    Ok(Some(value_type))
 }
 
 /// What is within the bracket that opens a value of the type, and of which type that is, where it fits; the
@@ -222,16 +211,11 @@ fn payload_of<'a, T: WasmType>(
     ty: &'a T,
     path: &mut String,
 ) -> Result<Option<&'a T>, AllocError> {
+    let (ok, err) = ty.result_types().unwrap_or((None, None));
     let keyword_type = match word {
         "some" => ty.option_some_type(),
-        "ok" => match ty.result_types() {
-            Some((ok, _)) => ok,
-            None => None,
-        },
-        "err" => match ty.result_types() {
-            Some((_, err)) => err,
-            None => None,
-        },
+        "ok" => ok,
+        "err" => err,
         _ => None,
     };
     if let Some(payload_type) = keyword_type {
@@ -240,91 +224,71 @@ fn payload_of<'a, T: WasmType>(
     }
     let name = word.strip_prefix('%').unwrap_or(word);
     let ty = type_alone(ty).unwrap_or(ty);
-    let Some(payload_type) = type_of_case(alloc, ty, name)? else {
-        return Ok(None);
-    };
-    push_name(path, name)?;
-    Ok(Some(payload_type))
+    let payload_type = type_of_case(alloc, ty, name)?;
+    if payload_type.is_some() {
+        push_name(path, name)?;
+    }
+    Ok(payload_type)
 }
 
 /// What was passed between an open bracket and a place within it, but for what is in brackets of its own.
 #[derive(Drop)]
-struct Passed {
+struct Passed<'source> {
     /// How many commas.
     commas: usize,
-    /// The last token behind the last comma.
-    last: Option<Span>,
-    /// The last token before a colon there.
-    key: Option<Span>,
+    /// The last token behind the last comma, which a payload may follow.
+    word: Option<&'source str>,
+    /// The last token before a colon there: the key, where a value is expected behind it or stands there.
+    key: Option<&'source str>,
     /// Whether a value is expected at the place: no token stands behind the last comma or colon.
     is_needed: bool,
 }
 
-impl Passed {
+impl<'source> Passed<'source> {
     /// What was passed between these two places of the source.
-    fn between(source: &str, from: usize, to: usize) -> Passed {
+    fn between(source: &'source str, from: usize, to: usize) -> Passed<'source> {
         let mut passed = Passed {
             commas: 0,
-            last: None,
+            word: None,
             key: None,
             is_needed: true,
         };
         let mut depth = 0_usize;
         let mut lexer = Lexer::new(source.get(from..to).unwrap_or(""));
-        while let Some(item) = lexer.next() {
-            let Ok(token) = item else {
-                return passed;
-            };
-            let span = lexer.span();
-            depth = depth_after(depth, token);
+        while let Some(Ok(token)) = lexer.next() {
+            match token {
+                Token::BraceOpen | Token::ParenOpen | Token::BracketOpen => {
+                    depth = depth.saturating_add(1);
+                }
+                Token::BraceClose | Token::ParenClose | Token::BracketClose => {
+                    depth = depth.saturating_sub(1);
+                }
+                _ => {}
+            }
             if depth == 0 {
-                passed.note(
-                    token,
-                    from.saturating_add(span.start)..from.saturating_add(span.end),
-                );
+                passed.note(token, lexer.slice());
             }
         }
         passed
     }
 
-    /// Notes a token.
-    fn note(&mut self, token: Token, span: Span) {
+    /// Notes a token of this text.
+    fn note(&mut self, token: Token, text: &'source str) {
         match token {
             Token::Comma => {
                 self.commas = self.commas.saturating_add(1);
-                self.last = None;
+                self.word = None;
                 self.key = None;
                 self.is_needed = true;
             }
             Token::Colon => {
-                self.key = self.last.take();
+                self.key = self.word.take();
                 self.is_needed = true;
             }
             _ => {
-                self.last = Some(span);
+                self.word = Some(text);
                 self.is_needed = false;
             }
         }
-    }
-
-    /// The text of the key before the place, where a value is expected behind it or stands there.
-    fn key<'source>(&self, source: &'source str) -> Option<&'source str> {
-        let span = self.key.as_ref()?;
-        source.get(span.start..span.end)
-    }
-
-    /// The text of the token that a payload follows.
-    fn word<'source>(&self, source: &'source str) -> Option<&'source str> {
-        let span = self.last.as_ref()?;
-        source.get(span.start..span.end)
-    }
-}
-
-/// How many brackets are open after the token.
-fn depth_after(depth: usize, token: Token) -> usize {
-    match token {
-        Token::BraceOpen | Token::ParenOpen | Token::BracketOpen => depth.saturating_add(1),
-        Token::BraceClose | Token::ParenClose | Token::BracketClose => depth.saturating_sub(1),
-        _ => depth,
     }
 }

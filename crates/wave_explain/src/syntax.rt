@@ -1,14 +1,15 @@
 //! How a fault of syntax may be mended.
-ghost use Rattle.std.specs.Prelude.{IfOk};
+ghost use Rattle.std.specs.Prelude.{◌≡◌, IfOk};
 ghost use Rattle.std.specs.String.{string_bytes};
-ghost use Rattle.wave_explain.specs.ValueExplained.{IsUnexpected, ReportsExpected};
+ghost use Rattle.wave_explain.specs.ValueExplained.{IsUnexpected, expectation, BeginWith};
 ghost use Rattle.wave_explain.specs.Private.Readings.{MayStandAs, TellsAs};
 
 use crate::escape::unknown_escape;
 use crate::expected::push_line;
 use std::alloc::{AllocError, Global};
 use wave_expected::expected::{Expected, expected_at, expected_in_call_at};
-use wave_hints::hints::{ESCAPES, line, push_hint};
+use wave_hints::hints::{ESCAPES, kind_hint};
+use wave_hints::rows::{line, token_hint};
 use wave_hints::word::word_hint;
 use wave_lex::error::{ParserError, ParserErrorKind};
 use wave_lex::lex::{FuncNameLexer, Span};
@@ -17,7 +18,7 @@ use wave_place::place::place_of;
 use wave_tree::parser::MAX_LEVELS;
 
 /// What a text is read as.
-#[derive(Clone, Copy, PartialEq, Eq)]
+#[derive(Clone, Copy)]
 pub(crate) enum Reading {
     /// A value.
     Value,
@@ -33,7 +34,7 @@ pub(crate) fn syntax_lines(
     source: &str,
     reading: Reading,
 ) -> Result<String, AllocError>
-    ensures { IfOk result (λ lines. IsUnexpected error.now.kind → TellsAs reading source.now error.now.span.start (string_bytes lines)) }
+    ensures { IfOk result (λ lines. IsUnexpected error.now.kind → BeginWith (TellsAs reading) source.now error.now.span.start (string_bytes lines)) }
 {
     let hint = syntax_hint(alloc, error, source, reading)?;
     let mut lines = first_line(alloc, error, source, reading, hint.is_empty())?;
@@ -63,7 +64,8 @@ fn first_line(
     }
 }
 
-/// The line that says what might have stood at the place, where what stands before it begins such a text.
+/// The line that says what might have stood at the place; nothing where nothing might, or where a call has no
+/// name before it.
 fn expected_line(
     alloc: Global,
     source: &str,
@@ -78,15 +80,17 @@ fn expected_line(
     }
 }
 
-/// The line that says what may stand there, where anything may.
+/// The line that says what may stand there; nothing where nothing may.
+#[tactic(auto, using(crate::proofs::Expecting::some_expected, crate::proofs::Expecting::none_expected))]
 fn line_of(alloc: Global, expected: &Expected) -> Result<String, AllocError>
-    ensures { IfOk result (λ lines. ReportsExpected expected.now (string_bytes lines)) }
+    ensures { IfOk result (λ lines. string_bytes lines ≡ expectation expected.now.classes.items expected.now.may_end) }
 {
     let mut lines = String::new(alloc);
-    if !expected.classes.is_empty() || expected.may_end {
-        let words = expected.words(alloc)?;
-        push_line(&mut lines, words.as_str(), "")?;
+    if expected.classes.is_empty() && !expected.may_end {
+        return Ok(lines);
     }
+    let words = expected.words(alloc)?;
+    push_line(&mut lines, words.as_str(), "")?;
     Ok(lines)
 }
 
@@ -112,18 +116,20 @@ fn syntax_hint(
     source: &str,
     reading: Reading,
 ) -> Result<String, AllocError> {
-    if reading == Reading::Call {
-        let hint = call_hint(error, source);
-        if !hint.is_empty() {
-            return line(alloc, hint);
-        }
+    let hint = match reading {
+        Reading::Call => call_hint(error, source),
+        Reading::Value => "",
+    };
+    if !hint.is_empty() {
+        return line(alloc, hint, None);
     }
     match error.kind() {
         ParserErrorKind::UnexpectedEnd => unclosed(alloc, source, reading),
-        ParserErrorKind::EmptyTuple => line(alloc, "a tuple has at least one item"),
-        ParserErrorKind::DuplicateFlag => line(alloc, "a flag may be given only once"),
-        ParserErrorKind::OutOfMemory => line(alloc, ""),
+        ParserErrorKind::OutOfMemory => Ok(String::new(alloc)),
         ParserErrorKind::InvalidToken => invalid_token(alloc, source, &error.span()),
+        ParserErrorKind::EmptyTuple | ParserErrorKind::DuplicateFlag => {
+            line(alloc, kind_hint(error.kind()), None)
+        }
         _ => beside_word(alloc, source, &error.span()),
     }
 }
@@ -132,52 +138,30 @@ fn syntax_hint(
 
 /// What helps with a text that is no call by its beginning, or that goes on behind one.
 fn call_hint(error: &ParserError, source: &str) -> &'static str {
+    let names_function = matches!(FuncNameLexer::new(source).next(), Some(Ok(_)));
+    let place = place_of(source, error.span().start);
+    let begins_line = place.line > 1 && place.prefix.trim().is_empty();
     match error.kind() {
-        ParserErrorKind::UnexpectedEnd | ParserErrorKind::InvalidToken
-            if name_end(source).is_none() => { "a call begins with the function's name" }
-        ParserErrorKind::TrailingCharacters if begins_line(source, error.span().start) => {
-            "a text has only one call"
+        ParserErrorKind::UnexpectedEnd | ParserErrorKind::InvalidToken if !names_function => {
+            "a call begins with the function's name"
         }
+        ParserErrorKind::TrailingCharacters if begins_line => "a text has only one call",
         _ => "",
     }
 }
 
-/// Where the function name at the start of the text ends.
-fn name_end(source: &str) -> Option<usize> {
-    let mut names = FuncNameLexer::new(source);
-    match names.next() {
-        Some(Ok(_)) => Some(names.span().end),
-        _ => None,
-    }
-}
-
-/// Whether nothing but blanks stands before the place on its line, which isn't the first.
-fn begins_line(source: &str, at: usize) -> bool {
-    let place = place_of(source, at);
-    place.line > 1 && place.prefix.trim().is_empty()
-}
-
 // ---- the end
 
-/// The last bracket that is open at the end of the text.
+/// The line that says which bracket is the last that is open at the end of the text.
 fn unclosed(alloc: Global, source: &str, reading: Reading) -> Result<String, AllocError> {
     let Some(expected) = expected_in(alloc, source, source.len(), reading)? else {
-        return line(alloc, "");
+        return Ok(String::new(alloc));
     };
-    match expected.open_brackets.last() {
-        Some(bracket) => open_bracket(alloc, source, bracket.start),
-        None => line(alloc, ""),
-    }
-}
-
-/// The line that says which bracket is open.
-fn open_bracket(alloc: Global, source: &str, start: usize) -> Result<String, AllocError> {
-    let place = place_of(source, start);
-    let bracket = match place.rest.chars().next() {
-        Some('(') => "(",
-        Some('[') => "[",
-        _ => "{",
+    let Some(span) = expected.open_brackets.last() else {
+        return Ok(String::new(alloc));
     };
+    let bracket = source.get(span.start..span.end).unwrap_or("");
+    let place = place_of(source, span.start);
     format!(in alloc;
         "  = the {bracket} at line {}, column {} is not closed\n",
         place.line, place.column
@@ -189,68 +173,19 @@ fn open_bracket(alloc: Global, source: &str, start: usize) -> Result<String, All
 /// What helps where no token begins.
 fn invalid_token(alloc: Global, source: &str, span: &Span) -> Result<String, AllocError> {
     let at = source.floor_char_boundary(span.start);
+    if let Some(mark) = unknown_escape(source, at) {
+        return escape_hint(alloc, source, mark);
+    }
     let after = source.split_at(at).1;
-    if after.starts_with("\"\"\"") {
-        return line(
-            alloc,
-            "the multiline string isn't closed: \"\"\" on a line of its own ends it",
-        );
+    let hint = token_hint(alloc, after)?;
+    if !hint.is_empty() {
+        return Ok(hint);
     }
     match after.chars().next() {
-        Some('"') => quoted(alloc, source, at, '"'),
-        Some('\'') => quoted(alloc, source, at, '\''),
-        Some('‘' | '’' | '“' | '”' | '„' | '«' | '»' | '`') => {
-            line(alloc, "write straight quotes: \"text\", 'c'")
-        }
-        Some('+') => line(alloc, "a number has no plus sign"),
-        Some('=') => line(
-            alloc,
-            "a colon stands between a name and its value: {name: value}",
-        ),
-        Some(';') => line(alloc, "values are separated by commas"),
-        Some('#') => line(alloc, "a comment begins with //"),
         Some(scalar) if is_invisible(scalar) => {
-            let mut lines = String::new(alloc);
-            push_hint(
-                &mut lines,
-                "this is ",
-                invisible_name(scalar),
-                ", which can't be seen",
-            )?;
-            Ok(lines)
+            line(alloc, "this is a character, which can't be seen", None)
         }
         _ => beside_word(alloc, source, span),
-    }
-}
-
-/// The name of a scalar that isn't seen.
-fn invisible_name(scalar: char) -> &'static str {
-    match scalar {
-        '\u{feff}' => "a byte order mark, U+FEFF",
-        '\u{200b}' => "a zero-width space, U+200B",
-        '\u{200c}' => "a zero-width non-joiner, U+200C",
-        '\u{200d}' => "a zero-width joiner, U+200D",
-        '\u{2060}' => "a word joiner, U+2060",
-        '\u{ad}' => "a soft hyphen, U+00AD",
-        '\u{a0}' => "a no-break space, U+00A0",
-        '\u{202f}' => "a narrow no-break space, U+202F",
-        '\u{3000}' => "an ideographic space, U+3000",
-        _ => "a character",
-    }
-}
-
-/// What helps where a string or a char isn't one.
-fn quoted(alloc: Global, source: &str, at: usize, quote: char) -> Result<String, AllocError> {
-    match unknown_escape(source, at) {
-        Some(mark) => escape_hint(alloc, source, mark),
-        None if quote == '"' => line(
-            alloc,
-            "the string isn't closed on its line; a string of several lines is written in \"\"\"",
-        ),
-        None => line(
-            alloc,
-            "a char is one character in single quotes; a string is written in double quotes",
-        ),
     }
 }
 
@@ -262,11 +197,11 @@ fn escape_hint(alloc: Global, source: &str, mark: Span) -> Result<String, AllocE
         return line(
             alloc,
             "the braces of \\u{..} hold the number of a character, in one to six hexadecimal digits",
+            None,
         );
     }
-    let mut lines = String::new(alloc);
-    push_hint(&mut lines, "unknown escape ", name, "")?;
-    push_hint(&mut lines, ESCAPES, "", "")?;
+    let mut lines = line(alloc, "unknown escape @", Some(name))?;
+    lines.push_str(line(alloc, ESCAPES, None)?.as_str())?;
     Ok(lines)
 }
 
@@ -279,6 +214,7 @@ fn beside_word(alloc: Global, source: &str, span: &Span) -> Result<String, Alloc
         return line(
             alloc,
             "the parentheses are empty: write a value in them, or the name without them",
+            None,
         );
     }
     word_hint(alloc, source, span)

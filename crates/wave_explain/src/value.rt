@@ -1,5 +1,5 @@
 //! A refusal of a text at a type, as a person is shown it.
-ghost use Rattle.std.specs.Prelude.{ℕ, ◌≡◌, ◌⊎◌, ◌++◌, List, [], IfOk, IfSome, IfNone};
+ghost use Rattle.std.specs.Prelude.{ℕ, ◌≡◌, ◌++◌, List, [], true, IfOk, IfSome, IfNone};
 ghost use Rattle.std.specs.String.{string_bytes};
 ghost use Rattle.wave_wasm.specs.Types.{TypeTree};
 ghost use Rattle.wave_lex.specs.Errors.{error_text};
@@ -13,7 +13,7 @@ use crate::open::open_line;
 use crate::syntax::{Reading, syntax_lines};
 use std::alloc::{AllocError, Global};
 use wave_hints::hints::hints_of;
-use wave_hints::word::wrong_word;
+use wave_hints::word::{is_name, wrong_word};
 use wave_lex::error::{ParserError, ParserErrorKind};
 use wave_lex::lex::Span;
 use wave_node::ast::Node;
@@ -67,7 +67,8 @@ fn explain_part<T: WasmType>(
     value: &UntypedValue<'_>,
     ty: &T,
 ) -> Result<String, AllocError>
-    requires { IsPrefix source.now value.now }
+    requires prefix { IsPrefix source.now value.now }
+    requires kind { is_of_type error.now.kind ≡ true }
     ensures { IfOk result (λ text. IsValueExplained source.now (T.tree ty.now) error.now (string_bytes text)) }
 {
     let mut path = String::new(alloc);
@@ -143,18 +144,9 @@ fn explain_alone<T: WasmType>(
     requires { HasNoPart error.now.kind source.now }
     ensures { IfOk result (λ text. IsValueExplained source.now (T.tree ty.now) error.now (string_bytes text)) }
 {
-    let at = first_refused(error, source);
+    let at = part_mark(source, error.span(), None).start;
     let more = open_line(alloc, error.kind(), source, at, ty)?;
     explain_syntax(alloc, error, source, Reading::Value, more.as_str())
-}
-
-/// Where the refusal begins, or the word that it is within, where that is wrong.
-pub(crate) fn first_refused(error: &ParserError, source: &str) -> usize {
-    let span = error.span();
-    match wrong_word(source, &span) {
-        Some(word) => word.start,
-        None => span.start,
-    }
 }
 
 /// The value that begins the source, read without a type, where the refusal is of a fault of type.
@@ -164,6 +156,7 @@ fn untyped(
     source: &str,
 ) -> Result<Option<UntypedValue<'_>>, AllocError>
     ensures value { IfOk result (λ r. IfSome r (IsPrefix source.now)) }
+    ensures kind { IfOk result (λ r. IfSome r (λ _. is_of_type kind ≡ true)) }
     ensures none { IfOk result (λ r. IfNone r (HasNoPart kind source.now)) }
 {
     if !is_of_type(kind) {
@@ -219,14 +212,14 @@ pub(crate) fn report_part<T: WasmType>(
     Ok(part_mark(source, span, hints.mark))
 }
 
-/// The mark, where it lies within the span; else the word that holds the span, where that is wrong, or the
-/// span.
-fn part_mark(source: &str, span: Span, mark: Option<Span>) -> Span
+/// The name, where it is a whole one within the span; else the word that holds the span, where that is wrong,
+/// or the span.
+pub(crate) fn part_mark(source: &str, span: Span, name: Option<Span>) -> Span
     ensures { IsPartMark source.now span result }
 {
-    match mark {
-        Some(mark) if span.start <= mark.start && mark.start <= mark.end && mark.end <= span.end =>
-            mark,
+    match name {
+        Some(name) if span.start <= name.start && name.end <= span.end && is_name(source, &name) =>
+            name,
         _ => match wrong_word(source, &span) {
             Some(word) => word,
             None => span,

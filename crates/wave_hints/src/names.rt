@@ -1,13 +1,12 @@
 //! The names that there are, and the one that is nearest to a name that isn't among them.
+use crate::own::SHOWN;
 use std::alloc::{AllocError, Global};
 use strsim::levenshtein;
 use wave_place::path::push_first;
+use wave_wasm::wasm::{DisplayType, WasmType};
 
 /// How many names are listed.
 const LISTED: usize = 10;
-
-/// How many scalars of a name are shown.
-const NAME_SHOWN: usize = 40;
 
 /// How many edits lead at most from a name to one that may be meant.
 const MOST_EDITS: usize = 2;
@@ -21,50 +20,51 @@ pub(crate) fn push_names(
     name: &str,
     names: &Vec<&str>,
 ) -> Result<(), AllocError> {
-    push_unknown(lines, what, name)?;
-    if let Some(near) = nearest(alloc, name, names)? {
-        push_meant(lines, near)?;
-    }
-    lines.push_str("\n")?;
-    if !names.is_empty() {
-        push_known(lines, what, names)?;
-    }
-    Ok(())
-}
-
-/// Adds that the name is unknown.
-fn push_unknown(lines: &mut String, what: &str, name: &str) -> Result<(), AllocError> {
     lines.push_str("  = unknown ")?;
     lines.push_str(what)?;
-    lines.push_str(" \"")?;
-    push_first(lines, name, NAME_SHOWN)?;
+    push_quoted(lines, " ", name)?;
+    if let Some(near) = nearest(alloc, name, names)? {
+        push_quoted(lines, "; did you mean ", near)?;
+        lines.push('?')?;
+    }
+    if !names.is_empty() {
+        lines.push_str("\n  = ")?;
+        lines.push_str(what)?;
+        lines.push_str("s: ")?;
+        for (i, name) in names.iter().take(LISTED).enumerate() {
+            if i > 0 {
+                lines.push_str(", ")?;
+            }
+            push_first(lines, name, SHOWN)?;
+        }
+        if names.len() > LISTED {
+            lines.push_str(", …")?;
+        }
+    }
+    lines.push_str("\n")
+}
+
+/// Adds the name in quotes behind this.
+pub(crate) fn push_quoted(lines: &mut String, before: &str, name: &str) -> Result<(), AllocError> {
+    lines.push_str(before)?;
+    lines.push_str("\"")?;
+    push_first(lines, name, SHOWN)?;
     lines.push_str("\"")
 }
 
-/// Adds which name may be meant.
-fn push_meant(lines: &mut String, near: &str) -> Result<(), AllocError> {
-    lines.push_str("; did you mean \"")?;
-    push_first(lines, near, NAME_SHOWN)?;
-    lines.push_str("\"?")
-}
-
-/// Adds a line of the names.
-fn push_known(lines: &mut String, what: &str, names: &Vec<&str>) -> Result<(), AllocError> {
-    lines.push_str("  = ")?;
-    lines.push_str(what)?;
-    lines.push_str("s: ")?;
-    let mut later = false;
-    for name in names.iter().take(LISTED) {
-        if later {
-            lines.push_str(", ")?;
-        }
-        push_first(lines, name, NAME_SHOWN)?;
-        later = true;
-    }
-    if names.len() > LISTED {
-        lines.push_str(", …")?;
-    }
-    lines.push_str("\n")
+/// A line that says that this is missing, and its type.
+pub(crate) fn missing_line<T: WasmType>(
+    alloc: Global,
+    what: &str,
+    ty: &T,
+) -> Result<String, AllocError> {
+    let text = DisplayType::new(alloc, ty).to_string(alloc)?;
+    let mut line = String::from_str(alloc, "  = ")?;
+    line.push_str(what)?;
+    line.push_str(" of type ")?;
+    push_first(&mut line, text.as_str(), SHOWN)?;
+    line.push_str(" is missing\n")?;
+    Ok(line)
 }
 
 /// The first of those names that the fewest edits lead to, at most two, and fewer than the name has

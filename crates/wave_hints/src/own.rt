@@ -1,41 +1,87 @@
 //! The author's own words, as they might be written instead.
-use crate::hints::line;
+ghost use Rattle.std.specs.Prelude.{◌≤◌};
+
 use std::alloc::{AllocError, Global};
+use wave_node::ast::{Node, NodeType};
 use wave_place::path::push_first;
 use wave_place::place::scalars;
 
-/// How many scalars of the author's text are shown.
-const OWN_SHOWN: usize = 40;
+/// How many scalars of a name, of a type or of the author's text are shown.
+pub(crate) const SHOWN: usize = 40;
 
-/// A line of the hint, and behind it the author's text between these two.
-pub(crate) fn own_line(
-    alloc: Global,
-    hint: &str,
-    before: &str,
-    text: &str,
-    after: &str,
-) -> Result<String, AllocError> {
-    let mut lines = String::from_str(alloc, "  = ")?;
-    lines.push_str(hint)?;
-    lines.push_str(before)?;
-    push_own(&mut lines, text)?;
-    lines.push_str(after)?;
-    lines.push_str("\n")?;
-    Ok(lines)
+/// Which of the author's words a hint shows.
+pub(crate) enum Own {
+    /// None.
+    Nothing,
+    /// All.
+    All,
+    /// What is within brackets or quotes.
+    Inside,
+    /// The names within brackets.
+    Names,
+    /// A name without its `%`.
+    Name,
+    /// The case of the type.
+    Case,
+    /// `true` or `false` within quotes.
+    Bool,
+    /// One scalar, perhaps within quotes.
+    Scalar,
+    /// A whole number within quotes.
+    Number,
+    /// A number before a fraction of zeros alone.
+    BeforePoint,
+    /// A number without its underscores.
+    BesideUnderscores,
+    /// A number without the zeros before it.
+    BehindZeros,
+    /// A number, of which this is the hexadecimal, the octal or the binary form.
+    Hexadecimal,
+    Octal,
+    Binary,
 }
 
-/// So it is where there is such a text; else a line of the hint alone, which ends with a colon and a
-/// blank.
-pub(crate) fn own_or_line(
+/// These words of the text, which is this value and names this case of the type, where there are such.
+pub(crate) fn words_of<'a>(
     alloc: Global,
-    hint: &str,
-    before: &str,
-    text: Option<&str>,
-    after: &str,
-) -> Result<String, AllocError> {
-    match text {
-        Some(text) => own_line(alloc, hint, before, text, after),
-        None => line(alloc, hint.trim_end_matches(": ")),
+    own: &Own,
+    text: &'a str,
+    node: Option<&Node>,
+    case: Option<&'a str>,
+) -> Result<Option<String>, AllocError> {
+    let words = match own {
+        Own::Nothing => None,
+        Own::All => Some(text),
+        Own::Inside => Some(inside(text)),
+        Own::Names => match node {
+            Some(node) if are_names(node) => Some(inside(text)),
+            _ => Some("name, name"),
+        },
+        Own::Name => Some(without_percent(text)),
+        Own::Case => case,
+        Own::Bool => match inside(text) {
+            "true" => Some("true"),
+            "false" => Some("false"),
+            _ => None,
+        },
+        Own::Scalar => match text.strip_prefix('"') {
+            Some(_) => one_scalar(inside(text)),
+            None => one_scalar(text),
+        },
+        Own::Number => whole_number(inside(text)),
+        Own::BeforePoint => before_point(text),
+        Own::BesideUnderscores => return beside_underscores(alloc, text),
+        Own::BehindZeros => match text.trim_start_matches('0') {
+            "" => Some("0"),
+            digits => Some(digits),
+        },
+        Own::Hexadecimal => return in_decimal(alloc, text, 16),
+        Own::Octal => return in_decimal(alloc, text, 8),
+        Own::Binary => return in_decimal(alloc, text, 2),
+    };
+    match words {
+        Some(words) => Ok(Some(String::from_str(alloc, words)?)),
+        None => Ok(None),
     }
 }
 
@@ -45,8 +91,8 @@ pub(crate) fn push_own(lines: &mut String, text: &str) -> Result<(), AllocError>
         Some((prefix, _)) => prefix.trim_end(),
         None => text,
     };
-    push_first(lines, first, OWN_SHOWN)?;
-    if first.len() < text.len() && scalars(first) <= OWN_SHOWN {
+    push_first(lines, first, SHOWN)?;
+    if first.len() < text.len() && scalars(first) <= SHOWN {
         lines.push('…')?;
     }
     Ok(())
@@ -57,33 +103,9 @@ pub(crate) fn inside(text: &str) -> &str {
     text.get(1..text.len().saturating_sub(1)).unwrap_or("")
 }
 
-/// The text, where it is a whole number as it is to be written.
-pub(crate) fn whole_number(text: &str) -> Option<&str> {
-    let digits = text.strip_prefix('-').unwrap_or(text);
-    if are_digits(digits) && (digits == "0" || !digits.starts_with('0')) {
-        Some(text)
-    } else {
-        None
-    }
-}
-
-/// Whether the text has digits alone, and some.
-pub(crate) fn are_digits(text: &str) -> bool {
-    !text.is_empty() && text.bytes().all(is_digit)
-}
-
-/// Whether the byte is a decimal digit.
-fn is_digit(byte: u8) -> bool {
-    byte.is_ascii_digit()
-}
-
-/// The text, where it is one scalar that stands for itself between single quotes.
-pub(crate) fn one_scalar(text: &str) -> Option<&str> {
-    if scalars(text) == 1 && text != "'" && text != "\\" {
-        Some(text)
-    } else {
-        None
-    }
+/// The name of a label.
+pub(crate) fn without_percent(label: &str) -> &str {
+    label.strip_prefix('%').unwrap_or(label)
 }
 
 /// What stands before the payload, or all where there is none.
@@ -91,5 +113,77 @@ pub(crate) fn word_before(text: &str) -> &str {
     match text.split_once('(') {
         Some((word, _)) => word.trim_end(),
         None => text,
+    }
+}
+
+/// Whether the value is a list of names.
+fn are_names(node: &Node) -> bool {
+    let Ok(items) = node.as_list() else {
+        return false;
+    };
+    for item in items {
+        if item.ty() != NodeType::Label {
+            return false;
+        }
+    }
+    true
+}
+
+/// The text, where it is one scalar that stands for itself between single quotes.
+fn one_scalar(text: &str) -> Option<&str> {
+    if scalars(text) == 1 && text != "'" && text != "\\" {
+        Some(text)
+    } else {
+        None
+    }
+}
+
+/// The decimal digits.
+pub(crate) const DECIMALS: &[char] = &['0', '1', '2', '3', '4', '5', '6', '7', '8', '9'];
+
+/// Whether the text has digits alone, and some.
+pub(crate) fn is_number(text: &str) -> bool {
+    !text.is_empty() && text.trim_start_matches(DECIMALS).is_empty()
+}
+
+/// The text, where it is a whole number as it is to be written.
+fn whole_number(text: &str) -> Option<&str> {
+    let digits = text.strip_prefix('-').unwrap_or(text);
+    if is_number(digits) && (digits == "0" || !digits.starts_with('0')) {
+        Some(text)
+    } else {
+        None
+    }
+}
+
+/// The number before a fraction of zeros alone.
+fn before_point(text: &str) -> Option<&str> {
+    let (number, fraction) = text.split_once('.')?;
+    if fraction.trim_matches('0').is_empty() {
+        whole_number(number)
+    } else {
+        None
+    }
+}
+
+/// The number without its underscores, where it is a whole number then.
+fn beside_underscores(alloc: Global, word: &str) -> Result<Option<String>, AllocError> {
+    let mut number = String::new(alloc);
+    for part in word.split('_') {
+        number.push_str(part)?;
+    }
+    match whole_number(number.as_str()) {
+        Some(_) => Ok(Some(number)),
+        None => Ok(None),
+    }
+}
+
+/// The number that the digits behind the first two bytes have in this base.
+fn in_decimal(alloc: Global, word: &str, base: u32) -> Result<Option<String>, AllocError>
+    requires { (2 ≤ base) × (base ≤ 36) }
+{
+    match u64::from_str_radix(word.get(2..).unwrap_or(""), base) {
+        Ok(number) => Ok(Some(format!(in alloc; "{number}")?)),
+        Err(_) => Ok(None),
     }
 }

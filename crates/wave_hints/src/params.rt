@@ -1,7 +1,7 @@
 //! How a fault of the parameters of a call may be mended.
-use crate::hints::push_hint;
+use crate::names::{missing_line, push_quoted};
+use crate::rows::line;
 use std::alloc::{AllocError, Global};
-use std::fmt::Write;
 use wave_lex::error::{ParserError, ParserErrorKind};
 use wave_place::path::push_first;
 use wave_tree::untyped::UntypedFuncCall;
@@ -9,9 +9,6 @@ use wave_wasm::wasm::{DisplayType, WasmType, WasmTypeKind};
 
 /// How many scalars of the parameters are shown.
 const PARAMS_SHOWN: usize = 60;
-
-/// How many scalars of a name or of a type are shown.
-const SHOWN: usize = 40;
 
 /// The lines beside a refusal that no value of a parameter has: which parameter is missing, or that there
 /// are too many values, and which parameters there are.
@@ -22,15 +19,14 @@ pub fn params_lines<T: WasmType>(
     types: &Vec<&T>,
     names: &Vec<&str>,
 ) -> Result<String, AllocError> {
-    let mut lines = String::new(alloc);
-    if error.kind() == ParserErrorKind::InvalidParams {
-        let given = count_of(call);
-        if given > types.len() {
-            push_count(&mut lines, types.len())?;
-        } else if let Some(i) = missing(types, given) {
-            push_missing(alloc, &mut lines, names.get(i).copied(), i, types)?;
-        }
-    }
+    let mut lines = match (error.kind(), call.params_node()) {
+        (ParserErrorKind::InvalidParams, Some(params)) => match params.as_tuple() {
+            Ok(values) => count_line(alloc, values.len(), types, names)?,
+            Err(_) => String::new(alloc),
+        },
+        (ParserErrorKind::InvalidParams, None) => count_line(alloc, 0, types, names)?,
+        _ => String::new(alloc),
+    };
     if !types.is_empty() {
         let text = params_text(alloc, types, names)?;
         lines.push_str("  = the parameters are ")?;
@@ -40,64 +36,33 @@ pub fn params_lines<T: WasmType>(
     Ok(lines)
 }
 
-/// How many values the call gives.
-fn count_of(call: &UntypedFuncCall<'_>) -> usize {
-    match call.params_node() {
-        Some(params) => match params.as_tuple() {
-            Ok(values) => values.len(),
-            Err(_) => 0,
-        },
-        None => 0,
+/// The line that says how many parameters there are, where so many values are too many; or the first that
+/// is missing, which is no option.
+fn count_line<T: WasmType>(
+    alloc: Global,
+    given: usize,
+    types: &Vec<&T>,
+    names: &Vec<&str>,
+) -> Result<String, AllocError> {
+    if given > types.len() {
+        let count = format!(in alloc; "{}", types.len())?;
+        return match types.len() {
+            0 => line(alloc, "the function has no parameters", None),
+            1 => line(alloc, "the function has one parameter", None),
+            _ => line(alloc, "the function has @ parameters", Some(count.as_str())),
+        };
     }
-}
-
-/// The first parameter after so many that is no option.
-fn missing<T: WasmType>(types: &Vec<&T>, given: usize) -> Option<usize> {
     for i in given..types.len() {
         if types[i].kind() != WasmTypeKind::Option {
-            return Some(i);
+            let mut what = String::from_str(alloc, "parameter")?;
+            match names.get(i) {
+                Some(name) => push_quoted(&mut what, " ", name)?,
+                None => what.push_str(format!(in alloc; " {}", i + 1)?.as_str())?,
+            }
+            return missing_line(alloc, what.as_str(), types[i]);
         }
     }
-    None
-}
-
-/// Adds how many parameters there are.
-fn push_count(lines: &mut String, count: usize) -> Result<(), AllocError> {
-    match count {
-        0 => push_hint(lines, "the function has no parameters", "", ""),
-        1 => push_hint(lines, "the function has one parameter", "", ""),
-        _ => match write!(lines, "  = the function has {count} parameters\n") {
-            Ok(()) => Ok(()),
-            Err(_) => Err(AllocError),
-        },
-    }
-}
-
-/// Adds which parameter is missing, and its type.
-fn push_missing<T: WasmType>(
-    alloc: Global,
-    lines: &mut String,
-    name: Option<&str>,
-    i: usize,
-    types: &Vec<&T>,
-) -> Result<(), AllocError> {
-    let Some(ty) = types.get(i) else {
-        return Ok(());
-    };
-    let text = DisplayType::new(alloc, *ty).to_string(alloc)?;
-    let number = format!(in alloc; "{}", i.saturating_add(1))?;
-    lines.push_str("  = parameter ")?;
-    match name {
-        Some(name) => {
-            lines.push_str("\"")?;
-            push_first(lines, name, SHOWN)?;
-            lines.push_str("\"")?;
-        }
-        None => lines.push_str(number.as_str())?,
-    }
-    lines.push_str(" of type ")?;
-    push_first(lines, text.as_str(), SHOWN)?;
-    lines.push_str(" is missing\n")
+    Ok(String::new(alloc))
 }
 
 /// The parameters in parentheses, each after its name where it has one.

@@ -1,9 +1,9 @@
 //! A word that is wrong as a whole, as `0512`, `True` and `not_found`.
 ghost use Rattle.std.specs.Prelude.{ℕ, ◌≡◌, ◌≤◌, ◌<◌, ◌-◌, length, IfSome, IsTrue, ◌↔◌, slice_index};
-ghost use Rattle.wave_hints.specs.WordMarks.{IsOfWord, IsWordMark};
+ghost use Rattle.wave_hints.specs.WordMarks.{IsOfWord, IsWordMark, IsName};
 
-use crate::hints::{NO_NULL, line, push_hint};
-use crate::own::{are_digits, own_or_line, whole_number};
+use crate::own::DECIMALS;
+use crate::rows::{DIGITS, KEYWORDS, line, row_for, row_hint};
 use std::alloc::{AllocError, Global};
 use wave_lex::lex::Span;
 
@@ -11,26 +11,18 @@ use wave_lex::lex::Span;
 pub fn word_hint(alloc: Global, source: &str, span: &Span) -> Result<String, AllocError> {
     let word = match wrong_word(source, span) {
         Some(place) => source.get(place.start..place.end).unwrap_or(""),
-        None => "",
+        None => return Ok(String::new(alloc)),
     };
-    if word.starts_with(is_digit) {
-        return number_hint(alloc, word);
+    if word.starts_with(DECIMALS) {
+        return row_hint(alloc, DIGITS, word, None, None, None);
     }
-    if word == "Null" {
-        return line(alloc, NO_NULL);
+    let hint = row_hint(alloc, KEYWORDS, word, None, None, None)?;
+    let name = kebab(alloc, word)?;
+    let name = name.as_str().trim_end_matches('-');
+    if hint.is_empty() && !name.is_empty() {
+        return line(alloc, "names are in kebab-case: @", Some(name));
     }
-    let mut lines = String::new(alloc);
-    match keyword_meant(word) {
-        Some(keyword) => push_hint(&mut lines, "keywords are in lower case: ", keyword, "")?,
-        None => {
-            let kebab = kebab(alloc, word)?;
-            let name = kebab.as_str().trim_end_matches('-');
-            if !name.is_empty() {
-                push_hint(&mut lines, "names are in kebab-case: ", name, "")?;
-            }
-        }
-    }
-    Ok(lines)
+    Ok(hint)
 }
 
 /// The whole word that holds the span, where that is wrong: a number that is written otherwise, or a
@@ -57,6 +49,23 @@ fn word_around(source: &str, span: &Span) -> Option<Span>
         Some(start..end)
     } else {
         None
+    }
+}
+
+/// Whether a whole word stands at the span, perhaps with the `%` before it.
+pub fn is_name(source: &str, span: &Span) -> bool
+    ensures { IsTrue result → IsName source.now span.now }
+{
+    let bytes = source.as_bytes();
+    let is_escaped = span.start < bytes.len() && bytes[span.start] == b'%';
+    let start = if is_escaped {
+        span.start + 1
+    } else {
+        span.start
+    };
+    match word_around(source, &(start..span.end)) {
+        Some(word) => word.start == start && word.end == span.end,
+        None => false,
     }
 }
 
@@ -99,150 +108,25 @@ fn is_of_word(byte: u8) -> bool
     matches!(byte, b'0'..=b'9' | b'A'..=b'Z' | b'a'..=b'z' | b'_' | b'-')
 }
 
-/// Whether the word is neither a number nor a name.
+/// Whether the word is neither a number nor a name: it has an underscore, or a part with letters of both cases.
 fn is_wrong(word: &str) -> bool {
-    if word.starts_with(is_digit) {
-        NumberFault::of(word).is_some()
-    } else {
-        word.contains('_') || word.split('-').any(is_mixed)
+    if word.starts_with(DECIMALS) {
+        return row_for(DIGITS, word, None, None).is_some();
     }
-}
-
-/// Whether the part of a name has letters of both cases.
-fn is_mixed(part: &str) -> bool {
-    part.contains(is_small) && part.contains(is_capital)
-}
-
-/// Whether the scalar is a small letter.
-fn is_small(scalar: char) -> bool {
-    scalar.is_ascii_lowercase()
-}
-
-/// Whether the scalar is a capital letter.
-fn is_capital(scalar: char) -> bool {
-    scalar.is_ascii_uppercase()
-}
-
-/// Whether the scalar is a decimal digit.
-fn is_digit(scalar: char) -> bool {
-    scalar.is_ascii_digit()
-}
-
-/// What is wrong with a word that begins with a digit.
-#[derive(Clone, Copy)]
-enum NumberFault {
-    /// It is written with a base: 16, 8 or 2.
-    Base(u32),
-    /// It has an underscore.
-    Underscore,
-    /// It has a zero before other digits.
-    LeadingZero,
-}
-
-impl NumberFault {
-    /// That of the word, where it is one of these.
-    fn of(word: &str) -> Option<NumberFault> {
-        if word.starts_with("0x") || word.starts_with("0X") {
-            Some(NumberFault::Base(16))
-        } else if word.starts_with("0b") || word.starts_with("0B") {
-            Some(NumberFault::Base(2))
-        } else if word.starts_with("0o") || word.starts_with("0O") {
-            Some(NumberFault::Base(8))
-        } else if word.contains('_') {
-            Some(NumberFault::Underscore)
-        } else if word.starts_with('0') && word.len() > 1 && are_digits(word) {
-            Some(NumberFault::LeadingZero)
-        } else {
-            None
+    let mut has_small = false;
+    let mut has_capital = false;
+    for scalar in word.chars() {
+        if scalar == '-' {
+            has_small = false;
+            has_capital = false;
+        }
+        has_small = has_small || scalar.is_ascii_lowercase();
+        has_capital = has_capital || scalar.is_ascii_uppercase();
+        if scalar == '_' || has_small && has_capital {
+            return true;
         }
     }
-}
-
-/// What is wrong with a word that begins with a digit, and the number as it is to be written.
-fn number_hint(alloc: Global, word: &str) -> Result<String, AllocError> {
-    match NumberFault::of(word) {
-        Some(NumberFault::Base(16)) => {
-            based_hint(
-                alloc,
-                word,
-                "numbers are written in decimal, not in hexadecimal: ",
-                16,
-            )
-        }
-        Some(NumberFault::Base(8)) => {
-            based_hint(
-                alloc,
-                word,
-                "numbers are written in decimal, not in octal: ",
-                8,
-            )
-        }
-        Some(NumberFault::Base(_)) => {
-            based_hint(
-                alloc,
-                word,
-                "numbers are written in decimal, not in binary: ",
-                2,
-            )
-        }
-        Some(NumberFault::Underscore) => {
-            let number = without_underscores(alloc, word)?;
-            own_or_line(
-                alloc,
-                "a number has no underscores: ",
-                "",
-                whole_number(number.as_str()),
-                "",
-            )
-        }
-        Some(NumberFault::LeadingZero) => {
-            let digits = word.trim_start_matches('0');
-            let number = if digits.is_empty() { "0" } else { digits };
-            own_or_line(
-                alloc,
-                "a number has no leading zero: ",
-                "",
-                Some(number),
-                "",
-            )
-        }
-        None => line(alloc, ""),
-    }
-}
-
-/// The word without its underscores.
-fn without_underscores(alloc: Global, word: &str) -> Result<String, AllocError> {
-    let mut number = String::new(alloc);
-    for part in word.split('_') {
-        number.push_str(part)?;
-    }
-    Ok(number)
-}
-
-/// The hint, and the number that the digits after the first two bytes of the word have in this base.
-fn based_hint(alloc: Global, word: &str, hint: &str, base: u32) -> Result<String, AllocError>
-    requires { (2 ≤ base) × (base ≤ 36) }
-{
-    match u64::from_str_radix(word.get(2..).unwrap_or(""), base) {
-        Ok(number) => {
-            let text = format!(in alloc; "{number}")?;
-            own_or_line(alloc, hint, "", Some(text.as_str()), "")
-        }
-        Err(_) => own_or_line(alloc, hint, "", None, ""),
-    }
-}
-
-/// The keyword that the word is meant for.
-fn keyword_meant(word: &str) -> Option<&'static str> {
-    match word {
-        "None" => Some("none"),
-        "Some" => Some("some"),
-        "Ok" => Some("ok"),
-        "Err" => Some("err"),
-        "True" => Some("true"),
-        "False" => Some("false"),
-        _ => None,
-    }
+    false
 }
 
 /// The name in kebab-case: words in small letters, parted by `-`.

@@ -14,7 +14,7 @@ MayStandAs Value source at None = ⊥
 MayStandAs Call source at (Some x) = IsExpectedInCall source at x
 MayStandAs Call source at None = IsWithoutName source at
 
--- the first line says so
+-- so much is said of the place
 abbrev pub TellsAs : Reading → List ℕ → ℕ → List ℕ → Type 0
 TellsAs Value = ReportsExpectedAt
 TellsAs Call = ReportsExpectedInCall

@@ -1,6 +1,7 @@
-use Rattle.std.proofs.Common.{◌++◌, inl, inr, ap, subst, ◌∙◌}
+use Rattle.std.proofs.Common.{◌≡◌, ◌++◌, true, inl, inr, ap, subst, ◌∙◌}
 use Rattle.wave_wasm.specs.Borrowed.{texts}
 use Rattle.wave_grammar.specs.ErrorSpans.{LiesInNode}
+use Rattle.wave_explain.specs.ValueExplained.{is_of_type}
 use Rattle.wave_explain.specs.CallExplained.{parameter_text}
 use Rattle.wave_explain.proofs.Reported.{has_type, as_many, none_reported, ok_with}
 use Rattle.wave_explain.proofs.call.report_params.Goals as goal
@@ -11,10 +12,12 @@ returns-in-Some g c =
     let i = c.in-Some.i in
     let found = c.in-Some.ensures.some in
     let count = c.len.ensures ∙ c.in_ok-types.types.ok.0 in
+    let kind = subst (λ k. is_of_type k ≡ true) c.kind.ensures c.in-Some.ensures.kind in
     let named =
     c.in_ok-push_parameter-in-Some.ensures
     ∙ (ap (λ x. x ++ parameter_text (texts c.in_ok-names.names.items) i) c.requires.path ∙ ap (λ ns. parameter_text ns i) c.in_ok-names.ensures.names) in
     ok_with c.report_part.result (λ mark reported within. inl (
+      kind,
       record {
         call = c.args.call.now;
         is_call = c.requires.call;

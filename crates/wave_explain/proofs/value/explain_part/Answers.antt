@@ -13,6 +13,6 @@ returns g c =
       mark = c.in_ok-mark.mark;
       path = c.as_str-2.result.now;
       lines = c.as_str-3.result.now;
-      reported = inl ((c.args.value.now, c.requires, part), c.in_ok-mark.ensures.mark);
+      reported = inl (c.requires.kind, (c.args.value.now, c.requires.prefix, part), c.in_ok-mark.ensures.mark);
       block = subst (λ m. IsBlock c.args.source.now m c.in_ok-mark.mark c.as_str-2.result.now c.as_str-3.result.now (string_bytes text)) (c.as_str.ensures.value ∙ c.in_ok-message.ensures.ok) block;
     }) c.block.ensures
