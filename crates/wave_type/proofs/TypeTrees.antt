@@ -1,5 +1,5 @@
-pub mod Representable
 pub mod RepresentableParts
 pub mod Lists
 pub mod Conversion
 pub mod Equality
+pub mod Sizes

@@ -29,12 +29,13 @@ pub enum TypeErrorKind {
     OutOfMemory,
 }
 
-impl TypeErrorKind {
-    /// What is printed of the kind.
-    fn words(self) -> &'static str
-        ensures { result.now ≡ type_error_words self }
-    {
-        match self {
+impl fmt::Display for TypeErrorKind {
+    ghost use Rattle.std.specs.Prelude.{Some};
+
+    ghost output = { λ kind. Some (type_error_words kind) };
+
+    fn fmt<W: fmt::Write>(&self, f: &mut fmt::Formatter<W>) -> fmt::Result {
+        let words = match self {
             TypeErrorKind::UnexpectedToken => "unexpected token in a type",
             TypeErrorKind::UnexpectedEnd => "unexpected end of a type",
             TypeErrorKind::InvalidToken => "invalid token in a type",
@@ -43,17 +44,8 @@ impl TypeErrorKind {
             TypeErrorKind::InvalidCount => "invalid length of a list",
             TypeErrorKind::NestingTooDeep => "type nesting too deep",
             TypeErrorKind::OutOfMemory => "out of memory",
-        }
-    }
-}
-
-impl fmt::Display for TypeErrorKind {
-    ghost use Rattle.std.specs.Prelude.{Some};
-
-    ghost output = { λ kind. Some (type_error_words kind) };
-
-    fn fmt<W: fmt::Write>(&self, f: &mut fmt::Formatter<W>) -> fmt::Result {
-        f.write_str(self.words())
+        };
+        f.write_str(words)
     }
 }
 

@@ -81,7 +81,12 @@ impl FuncType {
 fn has_unnamed(parts: &Vec<(String, Type)>) -> bool
     ensures { result ≡ list_any is_unnamed (map by_bytes parts.now.items) }
 {
-    parts.iter().any(|part| part.0.is_empty())
+    for part in parts {
+        if part.0.is_empty() {
+            return true;
+        }
+    }
+    false
 }
 
 // Whether there is one alone, and it has no name.

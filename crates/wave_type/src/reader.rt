@@ -7,10 +7,10 @@ ghost use Rattle.wave_type.specs.TypeFaults.{no_more, a_length, more_types, more
 ghost use Rattle.wave_type.specs.TypeConstructors.{simple_type};
 ghost use Rattle.wave_type.specs.TypeWords.{kind_of_word, key_of_word, without_percent, name_of_token, count_of_token, is_mark};
 ghost use Rattle.wave_type.specs.Private.TypeTokens.{Answers, IsRefused, GoesOn, RefusesName, misplaced, texts_of};
-ghost use Rattle.wave_type.specs.Private.TypeReading.{first_of, after, closed, kind_at, name_at, HasNames, new_name, count_at, key_at};
-ghost use Rattle.wave_type.specs.Private.TypeReading.{names_read, types_read, fields_read, cases_read, payload_read, list_read, fixed_behind};
+ghost use Rattle.wave_type.specs.Private.TypeReading.{first_of, after, closed, kind_at, HasNames, new_name, count_at, key_at};
+ghost use Rattle.wave_type.specs.Private.TypeReading.{names_read, types_read, fields_read, cases_read, payload_read, list_read};
 ghost use Rattle.wave_type.specs.Private.TypeReading.{option_read, map_read, result_read, payloads_read, err_behind};
-ghost use Rattle.wave_type.specs.Private.TypeReading.{kind_read, type_read, enum_read, flags_read};
+ghost use Rattle.wave_type.specs.Private.TypeReading.{kind_read, type_read};
 
 use crate::error::TypeErrorKind;
 use crate::tokens::Token;
@@ -72,8 +72,10 @@ fn kind_of_word(word: &str) -> Option<WasmTypeKind>
 fn key_of_word(word: &str) -> Option<Type>
     ensures { result ≡ key_of_word word.now }
 {
-    let key = Type::simple(kind_of_word(word)?)?;
-    if key.is_simple() { Some(key) } else { None }
+    match kind_of_word(word)? {
+        WasmTypeKind::F32 | WasmTypeKind::F64 => None,
+        kind => Type::simple(kind),
+    }
 }
 
 /// The token without a `%` before it.
@@ -265,20 +267,6 @@ impl<'tokens, 'text> Reader<'tokens, 'text> {
         }
     }
 
-    /// The name that stands next.
-    fn name(&self) -> Result<&'text str, TypeErrorKind>
-        ensures named { IfOk result (λ name. name_at self.now ≡ Some name.now) }
-        ensures refused { IfErr result (λ kind. (kind ≡ misplaced self.now) × (name_at self.now ≡ None)) }
-    {
-        let Some(token) = self.next() else {
-            return Err(TypeErrorKind::UnexpectedEnd);
-        };
-        match name_of_token(token) {
-            Some(name) => Ok(name),
-            None => Err(self.refusal()),
-        }
-    }
-
     /// Takes a name, which has to stand next and is none of those that were taken; it is one of them
     /// then.
     fn new_name(&mut self, taken: &mut BTreeSet<&'text str>) -> Result<&'text str, TypeErrorKind>
@@ -286,7 +274,12 @@ impl<'tokens, 'text> Reader<'tokens, 'text> {
         ensures added { IfOk result (λ name. (names : List (List ℕ)) → HasNames taken.old names → HasNames taken.new (names ++ name.now ∷ [])) }
         ensures refused { IfErr result (λ kind. (names : List (List ℕ)) → HasNames taken.old names → RefusesName names self.old kind self.new) }
     {
-        let name = self.name()?;
+        let Some(token) = self.next() else {
+            return Err(TypeErrorKind::UnexpectedEnd);
+        };
+        let Some(name) = name_of_token(token) else {
+            return Err(TypeErrorKind::UnexpectedToken);
+        };
         if !taken.insert(name)? {
             return Err(TypeErrorKind::DuplicateName);
         }
@@ -335,11 +328,31 @@ impl<'tokens, 'text> Reader<'tokens, 'text> {
             WasmTypeKind::Option => self.option(alloc, levels),
             WasmTypeKind::Map => self.map(alloc, levels),
             WasmTypeKind::Result => self.result(alloc, levels),
-            WasmTypeKind::Tuple => self.tuple(alloc, levels),
-            WasmTypeKind::Record => self.record(alloc, levels),
-            WasmTypeKind::Variant => self.variant(alloc, levels),
-            WasmTypeKind::Enum => self.enumeration(alloc),
-            WasmTypeKind::Flags => self.flags(alloc),
+            WasmTypeKind::Tuple => {
+                self.expect("<")?;
+                let types = self.types(alloc, levels)?;
+                Type::tuple(alloc, types)?.ok_or(TypeErrorKind::UnexpectedEnd)
+            }
+            WasmTypeKind::Record => {
+                self.expect("{")?;
+                let fields = self.fields(alloc, levels, "}")?;
+                Type::record(alloc, fields)?.ok_or(TypeErrorKind::UnexpectedEnd)
+            }
+            WasmTypeKind::Variant => {
+                self.expect("{")?;
+                let cases = self.cases(alloc, levels)?;
+                Type::variant(alloc, cases)?.ok_or(TypeErrorKind::UnexpectedEnd)
+            }
+            WasmTypeKind::Enum => {
+                self.expect("{")?;
+                let names = self.names(alloc, "}")?;
+                Type::enum_ty(alloc, names.as_slice())?.ok_or(TypeErrorKind::UnexpectedEnd)
+            }
+            WasmTypeKind::Flags => {
+                self.expect("{")?;
+                let names = self.names(alloc, "}")?;
+                Type::flags(alloc, names.as_slice())?.ok_or(TypeErrorKind::UnexpectedEnd)
+            }
             _ => self.simple(kind),
         }
     }
@@ -364,13 +377,6 @@ impl<'tokens, 'text> Reader<'tokens, 'text> {
         if self.ends(">")? {
             return Ok(Type::list(alloc, element)?);
         }
-        self.fixed(alloc, element)
-    }
-
-    /// Takes the length of a list after its element type and a comma.
-    fn fixed(&mut self, alloc: Global, element: Type) -> Result<Type, TypeErrorKind>
-        ensures { Answers (λ ty. ty) result self.old self.new (fixed_behind element self.old) (λ expectations. part_expected (codes ">") a_length ∷ expectations) }
-    {
         let count = self.length()?;
         self.close(">")?;
         Ok(Type::fixed_length_list(alloc, element, count)?)
@@ -437,19 +443,6 @@ impl<'tokens, 'text> Reader<'tokens, 'text> {
         Ok(Type::result(alloc, ok, Some(err))?)
     }
 
-    #[cycle(types)]
-    fn tuple(&mut self, alloc: Global, levels: usize) -> Result<Type, TypeErrorKind>
-        ensures { Answers (λ ty. ty) result self.old self.new (kind_read (type_read levels) kinds.Tuple self.old)
-            (λ expectations. expected_behind levels kinds.Tuple ++ expectations) }
-    {
-        self.expect("<")?;
-        let types = self.types(alloc, levels)?;
-        match Type::tuple(alloc, types)? {
-            Some(ty) => Ok(ty),
-            None => Err(self.refusal()),
-        }
-    }
-
     /// Takes types through `>`.
     #[cycle(types)]
     fn types(&mut self, alloc: Global, levels: usize) -> Result<Vec<Type>, TypeErrorKind>
@@ -465,19 +458,6 @@ impl<'tokens, 'text> Reader<'tokens, 'text> {
             }
         }
         Err(TypeErrorKind::UnexpectedEnd)
-    }
-
-    #[cycle(types)]
-    fn record(&mut self, alloc: Global, levels: usize) -> Result<Type, TypeErrorKind>
-        ensures { Answers (λ ty. ty) result self.old self.new (kind_read (type_read levels) kinds.Record self.old)
-            (λ expectations. expected_behind levels kinds.Record ++ expectations) }
-    {
-        self.expect("{")?;
-        let fields = self.fields(alloc, levels, "}")?;
-        match Type::record(alloc, fields)? {
-            Some(ty) => Ok(ty),
-            None => Err(self.refusal()),
-        }
     }
 
     /// Takes fields through the mark.
@@ -503,19 +483,6 @@ impl<'tokens, 'text> Reader<'tokens, 'text> {
             }
         }
         Err(TypeErrorKind::UnexpectedEnd)
-    }
-
-    #[cycle(types)]
-    fn variant(&mut self, alloc: Global, levels: usize) -> Result<Type, TypeErrorKind>
-        ensures { Answers (λ ty. ty) result self.old self.new (kind_read (type_read levels) kinds.Variant self.old)
-            (λ expectations. expected_behind levels kinds.Variant ++ expectations) }
-    {
-        self.expect("{")?;
-        let cases = self.cases(alloc, levels)?;
-        match Type::variant(alloc, cases)? {
-            Some(ty) => Ok(ty),
-            None => Err(self.refusal()),
-        }
     }
 
     /// Takes cases through `}`.
@@ -553,27 +520,5 @@ impl<'tokens, 'text> Reader<'tokens, 'text> {
         let ty = self.ty(alloc, levels)?;
         self.expect(")")?;
         Ok(Some(ty))
-    }
-
-    fn enumeration(&mut self, alloc: Global) -> Result<Type, TypeErrorKind>
-        ensures { Answers (λ ty. ty) result self.old self.new (enum_read self.old) (λ expectations. expected_behind 0 kinds.Enum ++ expectations) }
-    {
-        self.expect("{")?;
-        let names = self.names(alloc, "}")?;
-        match Type::enum_ty(alloc, names.as_slice())? {
-            Some(ty) => Ok(ty),
-            None => Err(self.refusal()),
-        }
-    }
-
-    fn flags(&mut self, alloc: Global) -> Result<Type, TypeErrorKind>
-        ensures { Answers (λ ty. ty) result self.old self.new (flags_read self.old) (λ expectations. expected_behind 0 kinds.Flags ++ expectations) }
-    {
-        self.expect("{")?;
-        let names = self.names(alloc, "}")?;
-        match Type::flags(alloc, names.as_slice())? {
-            Some(ty) => Ok(ty),
-            None => Err(self.refusal()),
-        }
     }
 }

@@ -1,36 +1,28 @@
 //! The tokens of the text of a type.
 ghost use Rattle.std.specs.Prelude.{◌≡◌, IfOk};
-ghost use Rattle.wave_wasm.specs.Names.{is_one_of};
 ghost use Rattle.wave_type.specs.Private.TypeTokens.{items_of, IsKnownAs};
 ghost use Rattle.wave_type.specs.TypeItems.{AreItems};
-ghost use Rattle.wave_type.specs.TypeWords.{marks_of_types};
 
 use std::alloc::{AllocError, Global};
 use wave_lex::lex::{self, Lexer, Span};
 
 /// A token: its text, where it begins, and whether it is a token of the encoding or one more that
 /// types have.
-#[derive(Clone, Copy, Debug)]
+#[derive(Clone, Copy)]
 pub(crate) struct Token<'text> {
     pub(crate) text: &'text str,
     pub(crate) start: usize,
     pub(crate) known: bool,
 }
 
-/// Whether the text is that of a token that types have beside those of the encoding; `->` is two.
-fn is_mark_of_types(text: &str) -> bool
-    ensures { result ≡ is_one_of marks_of_types text.now }
-{
-    matches!(text, "<" | ">" | "_" | "-")
-}
-
-/// Whether the item of this text is a token of the encoding, or one more that types have.
+/// Whether the item of this text is a token of the encoding, or one more that types have;
+/// `->` is two of these.
 fn is_known(item: &Result<lex::Token, Span>, text: &str) -> bool
     ensures { IsKnownAs item.now text.now result }
 {
     match item {
         Ok(_) => true,
-        Err(_) => is_mark_of_types(text),
+        Err(_) => matches!(text, "<" | ">" | "_" | "-"),
     }
 }
 

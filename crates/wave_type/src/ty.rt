@@ -1,17 +1,13 @@
 //! A type of component values, which shares its parts.
 ghost use Rattle.std.specs.Prelude.{◌≡◌, IfOk, Some, map, string_bytes, ◌↔◌, IsTrue, true, ◌≢◌, None};
 ghost use Rattle.wave_wasm.specs.Types as type;
-ghost use Rattle.wave_wasm.specs.Lists.{AllOf};
-ghost use Rattle.wave_wasm.specs.Types.{maybe_type, every_maybe, can_be_built, IsRepresentable};
+ghost use Rattle.wave_wasm.specs.Names.{AreDistinct};
+ghost use Rattle.wave_wasm.specs.Types.{maybe_type, every_maybe, can_be_built, EachNamesOfMaybe};
 ghost use Rattle.wave_wasm.specs.Borrowed.{texts, named};
-ghost use Rattle.wave_type.specs.Private.TypeModel.{IsSimple};
 ghost use Rattle.wave_type.specs.TypeConstructors.{simple_type, record_type, tuple_type, variant_type, enum_type, flags_type, map_type};
 
-use self::distinct::{
-    cases_are_distinct, fields_are_distinct, names_are_distinct, payload_is_distinct,
-    types_are_distinct,
-};
-use self::index::first_places;
+use self::index::{are_distinct, first_places};
+use self::places::{has_distinct_names, is_representable};
 use std::alloc::{AllocError, Global};
 use std::collections::BTreeMap;
 use std::marker::Model;
@@ -19,10 +15,9 @@ use std::rc::Rc;
 use wave_wasm::wasm::WasmTypeKind;
 
 mod conversion;
-mod display;
-mod distinct;
+pub(crate) mod display;
 mod equality;
-mod index;
+pub(crate) mod index;
 pub(crate) mod labels;
 pub(crate) mod parse;
 mod parts;
@@ -200,7 +195,7 @@ impl Type {
         ensures { IfOk result (λ t. t ≡ type.list element) }
     {
         let _ = &element.shape;
-        let distinct = names_are_distinct(&element);
+        let distinct = has_distinct_names(&element);
         Ok(Type {
             shape: Shape::List(Rc::new(alloc, (element, distinct))?),
         })
@@ -212,7 +207,7 @@ impl Type {
         ensures { IfOk result (λ t. t ≡ type.fixed element count) }
     {
         let _ = &element.shape;
-        let distinct = names_are_distinct(&element);
+        let distinct = has_distinct_names(&element);
         Ok(Type {
             shape: Shape::FixedLengthList(Rc::new(alloc, (element, count, distinct))?),
         })
@@ -223,7 +218,7 @@ impl Type {
         ensures { IfOk result (λ t. t ≡ type.option some) }
     {
         let _ = &some.shape;
-        let distinct = names_are_distinct(&some);
+        let distinct = has_distinct_names(&some);
         Ok(Type {
             shape: Shape::Option(Rc::new(alloc, (some, distinct))?),
         })
@@ -234,9 +229,7 @@ impl Type {
     pub fn result(alloc: Global, ok: Option<Type>, err: Option<Type>) -> Result<Type, AllocError>
         ensures { IfOk result (λ t. t ≡ type.result (maybe_type ok) (maybe_type err)) }
     {
-        payload_is_own(&ok);
-        payload_is_own(&err);
-        let distinct = payload_is_distinct(&ok) && payload_is_distinct(&err);
+        let distinct = payload_is_distinct(&ok) & payload_is_distinct(&err);
         Ok(Type {
             shape: Shape::Result(Rc::new(alloc, (ok, err, distinct))?),
         })
@@ -250,8 +243,11 @@ impl Type {
         if types.is_empty() {
             return Ok(None);
         }
-        are_own(&types);
-        let distinct = types_are_distinct(&types);
+        let mut distinct = true;
+        for ty in &types {
+            is_representable(ty);
+            distinct &= has_distinct_names(ty);
+        }
         Ok(Some(Type {
             shape: Shape::Tuple(Rc::new(alloc, (types, distinct))?),
         }))
@@ -266,13 +262,15 @@ impl Type {
             return Ok(None);
         }
         let mut owned = Vec::new(alloc);
+        let mut distinct = true;
         for (name, ty) in fields {
             let _ = &ty.shape;
+            distinct &= has_distinct_names(&ty);
             let name = String::from_str(alloc, name)?;
             owned.push((name, ty))?;
         }
         let places = first_places(alloc, &owned)?;
-        let distinct = fields_are_distinct(&owned, &places);
+        let distinct = are_distinct(&owned, &places) & distinct;
         Ok(Some(Type {
             shape: Shape::Record(Rc::new(alloc, (owned, places, distinct))?),
         }))
@@ -291,13 +289,14 @@ impl Type {
             return Ok(None);
         }
         let mut owned = Vec::new(alloc);
+        let mut distinct = true;
         for (name, payload) in cases {
-            payload_is_own(&payload);
+            distinct &= payload_is_distinct(&payload);
             let name = String::from_str(alloc, name)?;
             owned.push((name, payload))?;
         }
         let places = first_places(alloc, &owned)?;
-        let distinct = cases_are_distinct(&owned, &places);
+        let distinct = are_distinct(&owned, &places) & distinct;
         Ok(Some(Type {
             shape: Shape::Variant(Rc::new(alloc, (owned, places, distinct))?),
         }))
@@ -338,49 +337,28 @@ impl Type {
     pub fn map(alloc: Global, key: Type, value: Type) -> Result<Option<Type>, AllocError>
         ensures { IfOk result (λ r. r ≡ map_type key value) }
     {
-        if !key.is_simple() {
+        let Shape::Simple(_) = &key.shape else {
             return Ok(None);
-        }
+        };
         let _ = &value.shape;
-        let distinct = names_are_distinct(&value);
+        let distinct = has_distinct_names(&value);
         Ok(Some(Type {
             shape: Shape::Map(Rc::new(alloc, (key, value, distinct))?),
         }))
     }
-
-    // Whether values of the type are one token.
-    pub(crate) fn is_simple(&self) -> bool
-        ensures { IsTrue result ↔ IsSimple self.now }
-    {
-        match &self.shape {
-            Shape::Simple(_) => true,
-            Shape::F32
-            | Shape::F64
-            | Shape::List(_)
-            | Shape::FixedLengthList(_)
-            | Shape::Record(_)
-            | Shape::Tuple(_)
-            | Shape::Variant(_)
-            | Shape::Enum(_)
-            | Shape::Option(_)
-            | Shape::Result(_)
-            | Shape::Flags(_)
-            | Shape::Map(_) => false,
-        }
-    }
 }
 
-// Does nothing at run time: each of the types has a tree of a type.
-fn are_own(types: &Vec<Type>)
-    ensures { AllOf IsRepresentable types.now.items }
-{}
-
-// Says nothing at run time: the payload's type, where there is one, has a tree of a type.
-fn payload_is_own(payload: &Option<Type>)
-    ensures { every_maybe can_be_built (maybe_type payload.now) ≡ true }
+// Whether no name stands twice within a payload's type, where there is one. It has a tree of a type.
+fn payload_is_distinct(payload: &Option<Type>) -> bool
+    ensures distinct { IsTrue result ↔ EachNamesOfMaybe AreDistinct (maybe_type payload.now) }
+    ensures own { every_maybe can_be_built (maybe_type payload.now) ≡ true }
 {
-    if let Some(ty) = payload {
-        let _ = &ty.shape;
+    match payload {
+        Some(ty) => {
+            is_representable(ty);
+            has_distinct_names(ty)
+        }
+        None => true,
     }
 }
 

@@ -1,12 +1,16 @@
 -- The type of a function is read exactly where tokens spell it.
-use Rattle.std.proofs.Common.{◌≡◌, ℕ, ◌≤◌, true, false, List, [], ◌∷◌, Option, Some, None, Result, Ok, Err, IfOk, refl, sym, ap, subst, ◌∙◌, length, codes}
+use Rattle.std.proofs.Common.{◌≡◌, ℕ, ◌≤◌, true, false, List, [], ◌∷◌, Option, Some, None, String, Bor, map, refl, ap, subst, ◌∙◌, length, codes}
 use Rattle.wave_wasm.specs.Names.{AreDistinct}
 use Rattle.wave_wasm.specs.Types.{TypeTree, Fields, no_fields, field, fields_of, field_names}
 use Rattle.wave_wasm.specs.TypeText.{kind_word}
 use Rattle.wave_lex.specs.Labels.{IsLabel}
 use Rattle.wave_lex.specs.Tokens.{label}
 use Rattle.wave_lex.proofs.RegularShapes.Derivatives.{matches_into}
-use Rattle.wave_type.specs.FunctionType.{FunctionType}
+use Rattle.std.specs.declared.alloc.Global.{Global}
+use Rattle.wave_wasm.specs.Borrowed.{named}
+use Rattle.wave_type.specs.TypeModel.{by_bytes}
+use Rattle.wave_type.specs.Private.FunctionType.{named_function}
+use Rattle.wave_type.specs.FunctionType.{FunctionType, function_of}
 use Rattle.wave_type.specs.FunctionSpelling.{SpellsParts, SpellsResults, SpellsFunction}
 use Rattle.wave_type.specs.TypeSpelling.{Tokens, Spells, SpellsFields}
 use Rattle.wave_type.specs.Private.TypeReading.{after, Reads, type_read}
@@ -85,7 +89,6 @@ type_is_no_paren T ts r h = let w = head_word T ts r h in ap (after (codes "("))
 pub function_sound : (n : ℕ) (ts r : Tokens) (f : FunctionType) → function_read (type_read n) ts ≡ Some (f, r) → length r ≡ 0 → SpellsFunction f ts
 function_sound n ts r f e none = function_back (type_read n) (read_sound n) ts (f, r) e (none_left r none)
 
--- what holds of the one value holds of what was made, which is it
-pub ok_more : {A E : Type 0} (P : A → Type 0) (g : A) (r : Result A E) → IfOk r (λ f. f ≡ g) → P g → IfOk r P
-ok_more P g (Ok f) e h = subst P (sym e) h
-ok_more P g (Err x) e h = tt
+-- the type of a function of names and types that were read
+pub made_of : (ps rs : List (String Global × TypeTree)) (params results : List (Bor (List ℕ) × TypeTree)) (f : FunctionType) → f ≡ function_of ps rs → map by_bytes ps ≡ named params → map by_bytes rs ≡ named results → f ≡ named_function params results
+made_of ps rs params results f is p r = is ∙ λ i. record { params = p i; results = r i }

@@ -1,6 +1,6 @@
 -- What the reader's functions say of what is refused: one step, and then the rest.
 use Rattle.std.proofs.Common.{◌≡◌, ℕ, zero, suc, ◌<◌, Bool, true, false, List, [], ◌∷◌, ◌++◌, inl, inr, Option, Some, None, Result, Ok, Err, refl, sym, ap, subst, ◌∙◌, arith, length, codes}
-use Rattle.std.specs.Prelude.{MatchBool, if◌then◌else◌}
+use Rattle.std.specs.Prelude.{MatchBool, ok_or, if◌then◌else◌}
 use Rattle.wave_wasm.specs.Names.{is_one_of}
 use Rattle.wave_wasm.specs.Types.{TypeTree, no_type, a_type, maybe_type}
 use Rattle.wave_wasm.specs.Types as type
@@ -8,9 +8,9 @@ use Rattle.wave_type.specs.declared.error.TypeErrorKind.{TypeErrorKind}
 use Rattle.wave_type.specs.declared.error.TypeErrorKind.TheVariants.{DuplicateName}
 use Rattle.wave_type.specs.TypeConstructors.{tuple_type, record_type, variant_type, enum_type, flags_type}
 use Rattle.wave_type.specs.TypeSpelling.{Tokens}
-use Rattle.wave_type.specs.TypeWords.{onward}
+use Rattle.wave_type.specs.TypeWords.{onward, name_of_token}
 use Rattle.wave_type.specs.TypeFaults.{Expectation, mark_expected, refused}
-use Rattle.wave_type.specs.Private.TypeReading.{after, closed, or_else, with, parts, name_at, new_name, names_read, Reads, types_read, fields_read, cases_read, fixed_behind, list_read, err_behind, payloads_read, payload_read, case_part, field_part, type_read}
+use Rattle.wave_type.specs.Private.TypeReading.{first_of, after, closed, or_else, with, built, parts, name_at, new_name, names_read, Reads, types_read, fields_read, cases_read, err_behind, payloads_read, payload_read, case_part, field_part, type_read}
 use Rattle.wave_type.specs.Private.TypeTokens.{misplaced, name_fault, Fails, IsRefused, GoesOn, RefusesName, Answers}
 use Rattle.wave_type.proofs.TypeFaults.TokenSteps.{mark_fails, fails_onward}
 use Rattle.wave_type.proofs.TypeReading.Sound.{onward_back, or_back, with_back, after_back, new_back, read_sound}
@@ -48,6 +48,16 @@ module _ {A B : Type 0} (view : A → B) where
   answers_onward (Ok a) ts m r read more expected behind same run h = same ∙ h
   answers_onward (Err kind) ts m r read more expected behind same run h = fails_onward expected behind ts m r kind run h
 
+-- what is made of what was read is the answer, where it is made
+pub answers_built : (o : Option TypeTree) (fault : TypeErrorKind) (result : Result TypeTree TypeErrorKind) (ts r : Tokens) (read : Option (TypeTree × Tokens)) (expected : List Expectation → List Expectation) → result ≡ ok_or o fault → (o ≡ None → ⊥) → read ≡ built o r → Answers (λ T. T) result ts r read expected
+answers_built None fault result ts r read expected e some is = absurd (some refl)
+answers_built (Some T) fault result ts r read expected e some is = subst (λ z. Answers (λ T. T) z ts r read expected) (sym e) is
+
+-- parts after an opening mark, and what is made of them
+pub form_read : {A : Type 0} (opened : Option Tokens) (parts : Tokens → Option (A × Tokens)) (make : A → Option TypeTree) (m r : Tokens) (a : A) (o : Option TypeTree) → opened ≡ Some m → parts m ≡ Some (a, r) → o ≡ make a → onward opened (λ m. onward (parts m) (λ p. built (make p.0) p.1)) ≡ built o r
+form_read opened parts make m r a o mark is made =
+    ap (λ z. onward z (λ m. onward (parts m) (λ p. built (make p.0) p.1))) mark ∙ (ap (λ z. onward z (λ p. built (make p.0) p.1)) is ∙ ap (λ z. built z r) (sym made))
+
 pub after_less : (mark : List ℕ) (ts r : Tokens) → after mark ts ≡ Some r → length r < length ts
 after_less mark ts r e = omega (arith, ap length (after_back mark ts r e))
 
@@ -69,17 +79,15 @@ payload_by_less n ts r (Some m) p h e =
 pub payload_less : (n : ℕ) (ts r : Tokens) (p : Option TypeTree) → payload_read (type_read n) ts (after (codes "(") ts) ≡ Some (p, r) → length r < suc (length ts)
 payload_less n ts r p e = payload_by_less n ts r (after (codes "(") ts) p refl e
 
+-- the name that the next token is
+pub name_found : (ts : Tokens) (token name : List ℕ) → Some token ≡ first_of ts → Some name ≡ name_of_token token → name_at ts ≡ Some name
+name_found [] token name first is = absurd (cc)
+name_found (t ∷ ts) token name first is = ap (λ o. onward o name_of_token) (sym first) ∙ sym is
+
 -- a name that was taken before
 pub repeated : (names : List (List ℕ)) (ts : Tokens) (name : List ℕ) → name_at ts ≡ Some name → is_one_of names name ≡ true → RefusesName names ts DuplicateName ts
 repeated names [] name e h = absurd (cc)
 repeated names (t ∷ ts) name e h = inr (refl, ap (name_fault names) e ∙ ap (λ b. if b then Some DuplicateName else None) h)
-
--- what follows the comma after the element type of a list
-pub list_goes_on : (read : Reads) (ts m l k : Tokens) (E : TypeTree) → after (codes "<") ts ≡ Some m → read m ≡ Some (E, l) → GoesOn (codes ">") l k → list_read read ts ≡ fixed_behind E k
-list_goes_on read ts m l k E mark is g =
-    ap (λ o. onward o (λ m. onward (read m) (λ a. or_else (with (type.list a.0) (closed (codes ">") a.1)) (onward (after (codes ",") a.1) (fixed_behind a.0))))) mark
-    ∙ (ap (λ o. onward o (λ a. or_else (with (type.list a.0) (closed (codes ">") a.1)) (onward (after (codes ",") a.1) (fixed_behind a.0)))) is
-    ∙ (ap (λ o. or_else (with (type.list E) o) (onward (after (codes ",") l) (fixed_behind E))) g.unclosed ∙ ap (λ o. onward o (fixed_behind E)) g.comma))
 
 -- what follows the comma after the type of `ok`
 pub ok_goes_on : (read : Reads) (ts l k : Tokens) (T : TypeTree) → after (codes "_") ts ≡ None → read ts ≡ Some (T, l) → GoesOn (codes ">") l k → payloads_read read ts (after (codes "_") ts) ≡ err_behind read (Some T) k

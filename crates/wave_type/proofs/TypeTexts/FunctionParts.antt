@@ -1,5 +1,5 @@
 -- The names and types of parameters or results, as they are kept.
-use Rattle.std.proofs.Common.{◌≡◌, ℕ, ◌≤◌, Bool, true, false, ◌&&◌, List, [], ◌∷◌, map, take, length, String, refl, sym, ap, ◌∙◌}
+use Rattle.std.proofs.Common.{◌≡◌, ℕ, ◌≤◌, Bool, true, false, ◌&&◌, List, [], ◌∷◌, map, take, length, String, string_bytes, refl, sym, ap, ◌∙◌}
 use Rattle.std.specs.String.{string_eq}
 use Rattle.std.specs.Cmp.Lexicographic.{pointwise}
 use Rattle.std.specs.declared.alloc.Global.{Global}
@@ -40,3 +40,10 @@ lines (p ∷ ps) = ap (λ texts. field_line p ∷ texts) (lines ps)
 -- all parts, at the end of a loop
 pub all_parts : (xs ps : List (String Global × TypeTree)) (i : ℕ) → xs ≡ ps → length xs ≤ i → joined (map field_line (take i xs)) ≡ joined (typed_names (names_of (map by_bytes ps)) (types_of (map by_bytes ps)))
 all_parts xs ps i same h = all_joined field_line xs ps i same h ∙ ap joined (lines ps)
+
+-- the names, as they are kept
+pub kept_names : (ps : List (String Global × TypeTree)) → map (λ p. string_bytes p.0) ps ≡ names_of (map by_bytes ps)
+kept_names [] = refl
+kept_names (p ∷ ps) = ap (λ names. string_bytes p.0 ∷ names) (kept_names ps)
+
+pub ruleset kept = (kept_names)

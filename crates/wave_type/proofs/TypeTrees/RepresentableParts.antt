@@ -1,6 +1,7 @@
 -- Types made of parts that are trees of `Type`.
-use Rattle.std.proofs.Common.{◌≡◌, ℕ, Bool, true, false, ◌==◌, List, [], ◌∷◌, map, length, String, Option, refl, sym, ap, ◌∙◌, Bor}
+use Rattle.std.proofs.Common.{◌≡◌, ℕ, Bool, true, false, ◌==◌, List, [], ◌∷◌, ◌++◌, map, length, String, string_bytes, Option, refl, sym, ap, ◌∙◌, Bor}
 use Rattle.std.proofs.lemmas.Bool.{false≢true}
+use Rattle.std.proofs.lemmas.List.{map-append}
 use Rattle.std.specs.Cmp.Derive.{both_true}
 use Rattle.std.specs.declared.alloc.Global.{Global}
 use Rattle.wave_wasm.specs.Lists.{AllOf}
@@ -23,6 +24,11 @@ fields_own (f ∷ fs) h = both_true h.0 (fields_own fs h.1)
 cases_own : (cs : List (String Global × Option TypeTree)) → AllOf (λ c. IsOwnPayload c.1) cs → every_case can_be_built (cases_of (map by_bytes cs)) ≡ true
 cases_own [] h = refl
 cases_own (c ∷ cs) h = both_true h.0 (cases_own cs h.1)
+
+-- one more part is kept under the bytes of its name
+pub names_pushed : {A : Type 0} (owned more : List (String Global × A)) (given : List (Bor (List ℕ) × A)) (name : String Global) (text : Bor (List ℕ)) (x : A) → map by_bytes owned ≡ named given → string_bytes name ≡ text.now → more ≡ owned ++ ((name, x) ∷ []) → map by_bytes more ≡ named (given ++ ((text, x) ∷ []))
+names_pushed owned more given name text x same spelled is =
+    ap (map by_bytes) is ∙ (map-append by_bytes owned ((name, x) ∷ []) ∙ ((λ i. same i ++ ((spelled i, x) ∷ [])) ∙ sym (map-append _ given ((text, x) ∷ []))))
 
 -- some fields of types of `Type` make a record of `Type`
 pub record_own : (owned : List (String Global × TypeTree)) (given : List (Bor (List ℕ) × TypeTree)) → map by_bytes owned ≡ named given → (length given ≡ 0 → ⊥) → AllOf (λ f. IsRepresentable f.1) owned → IsRepresentable (record_type (fields_of (map by_bytes owned)))

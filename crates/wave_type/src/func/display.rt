@@ -1,13 +1,13 @@
 //! The text of the type of a function.
 ghost use Rattle.std.specs.Prelude.{map};
 ghost use Rattle.std.specs.Fmt.{WritesOnOk};
-ghost use Rattle.wave_wasm.specs.Commas.{joined};
-ghost use Rattle.wave_wasm.specs.TypeText.{typed_names, function_results_text};
+ghost use Rattle.wave_wasm.specs.TypeText.{function_results_text};
 ghost use Rattle.wave_type.specs.TypeModel.{by_bytes};
-ghost use Rattle.wave_type.specs.FunctionType.{names_of, types_of, result_names};
+ghost use Rattle.wave_type.specs.FunctionType.{types_of, result_names};
 
 use super::{FuncType, is_one_unnamed};
 use crate::ty::Type;
+use crate::ty::display::write_fields;
 use std::fmt;
 
 impl fmt::Display for FuncType {
@@ -19,7 +19,7 @@ impl fmt::Display for FuncType {
 
     fn fmt<W: fmt::Write>(&self, f: &mut fmt::Formatter<W>) -> fmt::Result {
         write!(f, "func(")?;
-        write_parts(f, &self.params)?;
+        write_fields(f, &self.params)?;
         write!(f, ")")?;
         write_results(f, &self.results)
     }
@@ -41,20 +41,6 @@ fn write_results<W: fmt::Write>(
         return write!(f, "{}", results[0].1);
     }
     write!(f, "(")?;
-    write_parts(f, results)?;
+    write_fields(f, results)?;
     write!(f, ")")
-}
-
-// Each type after its name, joined by commas.
-fn write_parts<W: fmt::Write>(f: &mut fmt::Formatter<W>, parts: &Vec<(String, Type)>) -> fmt::Result
-    ensures { let ps = map by_bytes parts.now.items in
-        WritesOnOk W.write_str_gives f.old result (joined (typed_names (names_of ps) (types_of ps))) f.new }
-{
-    let mut separator = "";
-    for part in parts.iter() {
-        write!(f, "{separator}")?;
-        write!(f, "{}: {}", part.0.as_str(), part.1)?;
-        separator = ", ";
-    }
-    Ok(())
 }

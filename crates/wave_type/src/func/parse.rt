@@ -2,7 +2,6 @@
 ghost use Rattle.std.specs.Prelude.{◌≡◌, ◌≤◌, IfOk, IfErr, ◌∷◌, ◌++◌, [], map, codes};
 ghost use Rattle.wave_lex.specs.Errors.{LiesInText};
 ghost use Rattle.wave_wasm.specs.Borrowed.{named};
-ghost use Rattle.wave_type.specs.declared.error.TypeErrorKind.TheVariants.{OutOfMemory};
 ghost use Rattle.wave_type.specs.FunctionSpelling.{SpellsFunction, IsFunctionOf, IsNoFunction, levels_of_function};
 ghost use Rattle.wave_type.specs.Private.FunctionType.{named_function};
 ghost use Rattle.wave_type.specs.DistinctLabels.{FunctionHasDistinctLabels};
@@ -63,7 +62,12 @@ fn whole_function(
     if reader.count() > 0 {
         return Err(TypeErrorKind::UnexpectedToken);
     }
-    built(alloc, params, results)
+    let params = owned_parts(alloc, params)?;
+    let results = owned_parts(alloc, results)?;
+    match FuncType::new(alloc, params, results) {
+        Ok(function) => Ok(function),
+        Err(_) => Err(TypeErrorKind::OutOfMemory),
+    }
 }
 
 /// Takes the parameters and the results of a function.
@@ -129,19 +133,6 @@ fn result_parts<'text>(
     let mut results = Vec::new(alloc);
     results.push(("", ty))?;
     Ok(results)
-}
-
-/// The type of a function of these parameters and results, which have names.
-fn built(alloc: Global, params: Parts<'_>, results: Parts<'_>) -> Result<FuncType, TypeErrorKind>
-    ensures built { IfOk result (λ f. f ≡ named_function params.entry.items results.entry.items) }
-    ensures memory { IfErr result (λ kind. kind ≡ OutOfMemory) }
-{
-    let params = owned_parts(alloc, params)?;
-    let results = owned_parts(alloc, results)?;
-    match FuncType::new(alloc, params, results) {
-        Ok(function) => Ok(function),
-        Err(_) => Err(TypeErrorKind::OutOfMemory),
-    }
 }
 
 /// The names and types, with the names as texts of their own.

@@ -1,14 +1,16 @@
 //! What the type of a function answers about itself.
 ghost use Rattle.std.specs.Prelude.{◌≡◌, IfOk, map};
-ghost use Rattle.wave_wasm.specs.Borrowed.{texts, shown_all};
+ghost use Rattle.wave_wasm.specs.Borrowed.{shown_all};
 ghost use Rattle.wave_type.specs.TypeModel.{by_bytes};
-ghost use Rattle.wave_type.specs.FunctionType.{names_of, types_of};
+ghost use Rattle.wave_type.specs.FunctionType.{types_of};
 
 use super::{FuncType, is_one_unnamed};
 use crate::ty::Type;
+use crate::ty::index::borrowed_names;
 use std::alloc::{AllocError, Global};
 use wave_wasm::wasm::WasmFunc;
 
+#[tactic(auto, using(crate::proofs::TypeTexts::FunctionParts::kept))]
 impl WasmFunc for FuncType {
     ghost use Rattle.wave_type.specs.FunctionType.{func_of};
 
@@ -45,15 +47,4 @@ fn borrowed_types(alloc: Global, parts: &Vec<(String, Type)>) -> Result<Vec<&Typ
         types.push(&part.1)?;
     }
     Ok(types)
-}
-
-// The names, in their order.
-fn borrowed_names(alloc: Global, parts: &Vec<(String, Type)>) -> Result<Vec<&str>, AllocError>
-    ensures { IfOk result (λ v. texts v.items ≡ names_of (map by_bytes parts.now.items)) }
-{
-    let mut names = Vec::new(alloc);
-    for part in parts {
-        names.push(part.0.as_str())?;
-    }
-    Ok(names)
 }

@@ -1,6 +1,6 @@
 //! Any type as a `Type`.
-ghost use Rattle.std.specs.Prelude.{◌≡◌, IfOk};
-ghost use Rattle.wave_wasm.specs.Types.{kind_of};
+ghost use Rattle.std.specs.Prelude.{◌≡◌, ◌≢◌, None, IfOk};
+ghost use Rattle.wave_wasm.specs.Types.{kind_of, list_part};
 ghost use Rattle.wave_wasm.specs.Borrowed.{shown};
 ghost use Rattle.wave_type.specs.TypeConversion.{converted_type};
 ghost use Rattle.wave_type.specs.Private.TypeConversion.{converted_payload};
@@ -19,16 +19,34 @@ impl Type {
     {
         let kind = ty.kind();
         match kind {
-            WasmTypeKind::List => convert_list(alloc, ty),
-            WasmTypeKind::FixedLengthList => convert_fixed_length_list(alloc, ty),
+            WasmTypeKind::List | WasmTypeKind::FixedLengthList => convert_list(alloc, ty),
             WasmTypeKind::Record => convert_record(alloc, ty),
             WasmTypeKind::Tuple => convert_tuple(alloc, ty),
             WasmTypeKind::Variant => convert_variant(alloc, ty),
             WasmTypeKind::Enum => Type::enum_ty(alloc, &ty.enum_cases(alloc)?),
-            WasmTypeKind::Option => convert_option(alloc, ty),
+            WasmTypeKind::Option => {
+                let Some(payload) = ty.option_some_type() else {
+                    unreachable!()
+                };
+                let Some(payload) = Type::from_wasm_type(alloc, payload)? else {
+                    return Ok(None);
+                };
+                Ok(Some(Type::option(alloc, payload)?))
+            }
             WasmTypeKind::Result => convert_result(alloc, ty),
             WasmTypeKind::Flags => Type::flags(alloc, &ty.flags_names(alloc)?),
-            WasmTypeKind::Map => convert_map(alloc, ty),
+            WasmTypeKind::Map => {
+                let Some((key, value)) = ty.map_key_value_types() else {
+                    unreachable!()
+                };
+                let Some(key) = Type::from_wasm_type(alloc, key)? else {
+                    return Ok(None);
+                };
+                let Some(value) = Type::from_wasm_type(alloc, value)? else {
+                    return Ok(None);
+                };
+                Type::map(alloc, key, value)
+            }
             _ => Ok(Type::simple(kind)),
         }
     }
@@ -36,7 +54,7 @@ impl Type {
 
 #[cycle(conversion)]
 fn convert_list<T: WasmType>(alloc: Global, ty: &T) -> Result<Option<Type>, AllocError>
-    requires { kind_of (T.tree ty.now) ≡ WasmTypeKind.List }
+    requires { list_part (T.tree ty.now) ≢ None }
     ensures { IfOk result (λ r. r ≡ converted_type (T.tree ty.now)) }
 {
     let Some(element) = ty.list_element_type() else {
@@ -45,52 +63,10 @@ fn convert_list<T: WasmType>(alloc: Global, ty: &T) -> Result<Option<Type>, Allo
     let Some(element) = Type::from_wasm_type(alloc, element)? else {
         return Ok(None);
     };
-    Ok(Some(Type::list(alloc, element)?))
-}
-
-#[cycle(conversion)]
-fn convert_fixed_length_list<T: WasmType>(alloc: Global, ty: &T) -> Result<Option<Type>, AllocError>
-    requires { kind_of (T.tree ty.now) ≡ WasmTypeKind.FixedLengthList }
-    ensures { IfOk result (λ r. r ≡ converted_type (T.tree ty.now)) }
-{
-    let (Some(element), Some(length)) = (ty.list_element_type(), ty.list_length()) else {
-        unreachable!()
-    };
-    let Some(element) = Type::from_wasm_type(alloc, element)? else {
-        return Ok(None);
-    };
-    Ok(Some(Type::fixed_length_list(alloc, element, length)?))
-}
-
-#[cycle(conversion)]
-fn convert_option<T: WasmType>(alloc: Global, ty: &T) -> Result<Option<Type>, AllocError>
-    requires { kind_of (T.tree ty.now) ≡ WasmTypeKind.Option }
-    ensures { IfOk result (λ r. r ≡ converted_type (T.tree ty.now)) }
-{
-    let Some(payload) = ty.option_some_type() else {
-        unreachable!()
-    };
-    let Some(payload) = Type::from_wasm_type(alloc, payload)? else {
-        return Ok(None);
-    };
-    Ok(Some(Type::option(alloc, payload)?))
-}
-
-#[cycle(conversion)]
-fn convert_map<T: WasmType>(alloc: Global, ty: &T) -> Result<Option<Type>, AllocError>
-    requires { kind_of (T.tree ty.now) ≡ WasmTypeKind.Map }
-    ensures { IfOk result (λ r. r ≡ converted_type (T.tree ty.now)) }
-{
-    let Some((key, value)) = ty.map_key_value_types() else {
-        unreachable!()
-    };
-    let Some(key) = Type::from_wasm_type(alloc, key)? else {
-        return Ok(None);
-    };
-    let Some(value) = Type::from_wasm_type(alloc, value)? else {
-        return Ok(None);
-    };
-    Type::map(alloc, key, value)
+    match ty.list_length() {
+        None => Ok(Some(Type::list(alloc, element)?)),
+        Some(length) => Ok(Some(Type::fixed_length_list(alloc, element, length)?)),
+    }
 }
 
 #[cycle(conversion)]

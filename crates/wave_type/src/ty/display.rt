@@ -1,41 +1,18 @@
 //! The text of a type.
 ghost use Rattle.std.specs.Prelude.{map, string_bytes, ◌++◌, Some};
 ghost use Rattle.std.specs.Fmt.{WritesOnOk, DisplaysOnOk};
-ghost use Rattle.wave_wasm.specs.Types.{types_of, fields_of, cases_of, maybe_type, simple_kind};
-ghost use Rattle.wave_wasm.specs.Commas.{joined, behind_name};
-ghost use Rattle.wave_wasm.specs.TypeText.{kind_word, type_text, type_texts, field_texts, case_texts, payload_text, maybe_text, result_text};
-ghost use Rattle.wave_type.specs.TypeModel.{by_bytes, simple_of};
+ghost use Rattle.wave_wasm.specs.Types.{types_of, fields_of, cases_of, maybe_type};
+ghost use Rattle.wave_wasm.specs.Commas.{joined};
+ghost use Rattle.wave_wasm.specs.TypeText.{type_text, type_texts, field_texts, case_texts, payload_text, maybe_text, result_text, typed_names};
+ghost use Rattle.wave_type.specs.FunctionType as function;
+ghost use Rattle.wave_type.specs.FunctionType.{names_of};
+ghost use Rattle.wave_type.specs.TypeModel.{by_bytes};
 ghost use Rattle.wave_lex.specs.Labels.{HasLabels};
 ghost use Rattle.wave_type.specs.TypeTexts.{TypeTextTells};
 
-use super::{Shape, SimpleType, Type};
+use super::{Shape, Type};
 use std::fmt::{self, Display};
-
-impl fmt::Display for SimpleType {
-    ghost use Rattle.std.specs.Prelude.{Some};
-    ghost use Rattle.wave_wasm.specs.Types.{simple_kind};
-    ghost use Rattle.wave_wasm.specs.TypeText.{kind_word};
-    ghost use Rattle.wave_type.specs.TypeModel.{simple_of};
-
-    ghost output = { λ s. Some (kind_word (simple_kind (simple_of s))) };
-
-    fn fmt<W: fmt::Write>(&self, f: &mut fmt::Formatter<W>) -> fmt::Result {
-        let word = match self {
-            SimpleType::Bool => "bool",
-            SimpleType::S8 => "s8",
-            SimpleType::S16 => "s16",
-            SimpleType::S32 => "s32",
-            SimpleType::S64 => "s64",
-            SimpleType::U8 => "u8",
-            SimpleType::U16 => "u16",
-            SimpleType::U32 => "u32",
-            SimpleType::U64 => "u64",
-            SimpleType::Char => "char",
-            SimpleType::String => "string",
-        };
-        write!(f, "{word}")
-    }
-}
+use wave_wasm::wasm::WasmType;
 
 impl fmt::Display for Type {
     ghost use Rattle.std.specs.Prelude.{Some};
@@ -58,9 +35,7 @@ fn write_type<W: fmt::Write>(f: &mut fmt::Formatter<W>, ty: &Type) -> fmt::Resul
     ensures { WritesOnOk W.write_str_gives f.old result (type_text ty.now) f.new }
 {
     match &ty.shape {
-        Shape::Simple(simple) => write!(f, "{simple}"),
-        Shape::F32 => write!(f, "f32"),
-        Shape::F64 => write!(f, "f64"),
+        Shape::Simple(_) | Shape::F32 | Shape::F64 => write!(f, "{}", ty.kind()),
         Shape::List(element) => {
             write!(f, "list<")?;
             write_type(f, &element.0)?;
@@ -126,30 +101,24 @@ fn write_types<W: fmt::Write>(f: &mut fmt::Formatter<W>, types: &Vec<Type>) -> f
     Ok(())
 }
 
-// The fields, with commas between.
+// The fields, or parameters or results that have names, with commas between: `name: type`.
 #[cycle(text)]
-fn write_fields<W: fmt::Write>(
+pub(crate) fn write_fields<W: fmt::Write>(
     f: &mut fmt::Formatter<W>,
     fields: &Vec<(String, Type)>,
 ) -> fmt::Result
-    ensures { WritesOnOk W.write_str_gives f.old result (joined (field_texts (fields_of (map by_bytes fields.now.items)))) f.new }
+    ensures fields { WritesOnOk W.write_str_gives f.old result (joined (field_texts (fields_of (map by_bytes fields.now.items)))) f.new }
+    ensures parts { let ps = map by_bytes fields.now.items in
+        WritesOnOk W.write_str_gives f.old result (joined (typed_names (names_of ps) (function.types_of ps))) f.new }
 {
     let mut separator = "";
     for field in fields.iter() {
         write!(f, "{separator}")?;
-        write_field(f, field)?;
+        write!(f, "{}: ", field.0.as_str())?;
+        write_type(f, &field.1)?;
         separator = ", ";
     }
     Ok(())
-}
-
-// A field: `name: type`.
-#[cycle(text)]
-fn write_field<W: fmt::Write>(f: &mut fmt::Formatter<W>, field: &(String, Type)) -> fmt::Result
-    ensures { WritesOnOk W.write_str_gives f.old result (behind_name (string_bytes field.now.0) (type_text field.now.1)) f.new }
-{
-    write!(f, "{}: ", field.0.as_str())?;
-    write_type(f, &field.1)
 }
 
 // The cases, with commas between.

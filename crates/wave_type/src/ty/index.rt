@@ -1,6 +1,7 @@
 //! Where each name of a type stands first.
 ghost use Rattle.std.specs.Prelude.{◌≡◌, ◌↔◌, IsTrue, IfOk, map};
 ghost use Rattle.std.specs.BTreeMap.{get_by_text};
+ghost use Rattle.wave_wasm.specs.Borrowed.{texts};
 ghost use Rattle.wave_wasm.specs.Names.{AreDistinct};
 ghost use Rattle.wave_type.specs.Private.NameIndex.{AreFirstPlaces};
 
@@ -8,7 +9,7 @@ use std::alloc::{AllocError, Global};
 use std::collections::BTreeMap;
 
 // What has a name: a name alone, or a part after its name.
-pub(super) trait Named {
+pub(crate) trait Named {
     ghost use Rattle.std.specs.Prelude.{◌≡◌, ℕ, List};
 
     ghost name_of: { Self → List ℕ };
@@ -35,6 +36,20 @@ impl<A> Named for (String, A) {
     fn name(&self) -> &str {
         self.0.as_str()
     }
+}
+
+// The names as texts, in their order.
+pub(crate) fn borrowed_names<N: Named>(
+    alloc: Global,
+    items: &Vec<N>,
+) -> Result<Vec<&str>, AllocError>
+    ensures { IfOk result (λ v. texts v.items ≡ map N.name_of items.now.items) }
+{
+    let mut names = Vec::with_capacity(alloc, items.len())?;
+    for item in items {
+        names.push(item.name())?;
+    }
+    Ok(names)
 }
 
 // Where each of the names stands first.

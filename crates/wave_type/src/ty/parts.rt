@@ -1,8 +1,9 @@
 //! What a type answers about itself.
-ghost use Rattle.std.specs.Prelude.{◌≡◌, IfOk, map, string_bytes};
-ghost use Rattle.wave_wasm.specs.Borrowed.{texts, shown_all, shown_fields, shown_cases};
+ghost use Rattle.std.specs.Prelude.{◌≡◌, IfOk, map};
+ghost use Rattle.wave_wasm.specs.Borrowed.{shown_all, shown_fields, shown_cases};
 ghost use Rattle.wave_type.specs.TypeModel.{by_bytes};
 
+use super::index::borrowed_names;
 use super::places::{enum_place, flag_place, variant_case, variant_place};
 use super::{Shape, SimpleType, Type};
 use std::alloc::{AllocError, Global};
@@ -129,17 +130,6 @@ impl WasmType for Type {
     fn flag_place(&self, _alloc: Global, name: &str) -> Result<Option<usize>, AllocError> {
         Ok(flag_place(self, name))
     }
-}
-
-// The names as texts, in their order.
-fn borrowed_names(alloc: Global, names: &Vec<String>) -> Result<Vec<&str>, AllocError>
-    ensures { IfOk result (λ v. texts v.items ≡ map string_bytes names.now.items) }
-{
-    let mut answer = Vec::with_capacity(alloc, names.len())?;
-    for name in names {
-        answer.push(name.as_str())?;
-    }
-    Ok(answer)
 }
 
 // The fields by their names and types, in their order.

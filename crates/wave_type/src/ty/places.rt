@@ -6,8 +6,7 @@ ghost use Rattle.wave_wasm.specs.Types.{IsRepresentable, HasDistinctNames, types
 ghost use Rattle.wave_wasm.specs.Borrowed.{shown_case};
 ghost use Rattle.wave_type.specs.TypeModel.{by_bytes, tuple_part, record_part};
 
-use super::distinct::names_are_distinct;
-use super::index::first_place;
+use super::index::{are_distinct, first_place};
 use super::{Shape, Type};
 
 /// Says nothing at run time: the tree of each type is one that a type can have.
@@ -65,11 +64,23 @@ pub fn flag_place(ty: &Type, name: &str) -> Option<usize>
 }
 
 /// Whether within each record, variant, enum and flags of the type no name stands twice. It
-/// takes one step.
+/// takes one step: a type with parts keeps it.
 pub fn has_distinct_names(ty: &Type) -> bool
     ensures { IsTrue result ↔ HasDistinctNames ty.now }
 {
-    names_are_distinct(ty)
+    match &ty.shape {
+        Shape::Simple(_) | Shape::F32 | Shape::F64 => true,
+        Shape::List(element) => element.1,
+        Shape::FixedLengthList(parts) => parts.2,
+        Shape::Record(fields) => fields.2,
+        Shape::Tuple(types) => types.1,
+        Shape::Variant(cases) => cases.2,
+        Shape::Enum(names) => are_distinct(&names.0, &names.1),
+        Shape::Option(some) => some.1,
+        Shape::Result(payloads) => payloads.2,
+        Shape::Flags(names) => are_distinct(&names.0, &names.1),
+        Shape::Map(types) => types.2,
+    }
 }
 
 /// Where the first case of this name stands in a variant, counted from zero; none where the type

@@ -12,15 +12,6 @@ decreases-Type::from_wasm_type g l = 3 * depth (g.T.WasmType.tree l.ty.now) + 2
 abbrev pub decreases-conversion::convert_list : goal.decreases-conversion::convert_list
 decreases-conversion::convert_list g l = 3 * depth (g.T.WasmType.tree l.ty.now) + 1
 
-abbrev pub decreases-conversion::convert_fixed_length_list : goal.decreases-conversion::convert_fixed_length_list
-decreases-conversion::convert_fixed_length_list g l = 3 * depth (g.T.WasmType.tree l.ty.now) + 1
-
-abbrev pub decreases-conversion::convert_option : goal.decreases-conversion::convert_option
-decreases-conversion::convert_option g l = 3 * depth (g.T.WasmType.tree l.ty.now) + 1
-
-abbrev pub decreases-conversion::convert_map : goal.decreases-conversion::convert_map
-decreases-conversion::convert_map g l = 3 * depth (g.T.WasmType.tree l.ty.now) + 1
-
 abbrev pub decreases-conversion::convert_result : goal.decreases-conversion::convert_result
 decreases-conversion::convert_result g l = 3 * depth (g.T.WasmType.tree l.ty.now) + 1
 

@@ -1,13 +1,17 @@
 use Rattle.std.proofs.Common.{rules, ◌≡◌, ◌-◌, ℕ, List, ◌∷◌, ◌++◌, Some, None, inr, sym, ap, ◌∙◌, codes}
-use Rattle.wave_wasm.specs.Borrowed.{named}
+use Rattle.wave_wasm.specs.Borrowed.{texts, named}
+use Rattle.wave_wasm.specs.Types.{TypeTree}
+use Rattle.wave_wasm.specs.declared.wasm.WasmTypeKind.TheVariants as kinds
 use Rattle.wave_type.specs.Private.TypeTokens.{GoesOn}
-use Rattle.wave_type.specs.Private.TypeReading.{after, part_names, list_read, fixed_behind, payloads_read, err_behind, kind_read, type_read}
-use Rattle.wave_type.specs.TypeFaults.{no_more, a_length, err_type, Expectation, mark_expected, type_expected, ok_expected, part_expected, close_expected, expected_behind, refused}
+use Rattle.wave_type.specs.declared.error.TypeErrorKind.TheVariants.{UnexpectedEnd}
+use Rattle.wave_type.specs.TypeConstructors.{tuple_type, record_type, variant_type, enum_type, flags_type}
+use Rattle.wave_type.specs.Private.TypeReading.{after, part_names, names_read, types_read, fields_read, cases_read, payloads_read, err_behind, kind_read, type_read}
+use Rattle.wave_type.specs.TypeFaults.{no_more, a_length, err_type, Expectation, type_expected, ok_expected, part_expected, close_expected, expected_behind, refused}
 use Rattle.wave_type.specs.TypeSpelling.{Tokens}
-use Rattle.wave_type.proofs.TypeFaults.TokenSteps.{fails_onward, fails_before, mark_runs, kind_runs, key_runs, err_is_type, ok_is_type, field_fails, case_fails, comma_runs, payload_runs}
+use Rattle.wave_type.proofs.TypeFaults.TokenSteps.{fails_onward, fails_before, mark_runs, kind_runs, key_runs, count_runs, err_is_type, ok_is_type, field_fails, case_fails, comma_runs, payload_runs}
 use Rattle.wave_type.proofs.TypeReading.PartSteps.{named_more, has_part_names, level_less}
 use Rattle.wave_type.proofs.TypeReading.PartLoops.{part_fails, end_fails, all_read, more_left, type_fails, type_next, colon_fails, field_type_fails, field_next, payload_fails, case_next}
-use Rattle.wave_type.proofs.TypeReading.ReaderSteps.{goes_so, answers_err, answers_onward, mark_refused, list_goes_on, ok_goes_on, types_are_some, fields_are_some, cases_are_some}
+use Rattle.wave_type.proofs.TypeReading.ReaderSteps.{goes_so, answers_err, answers_onward, mark_refused, ok_goes_on, answers_built, form_read, types_are_some, fields_are_some, cases_are_some, enum_is_some, flags_are_some}
 use Rattle.wave_type.proofs.TypeFaults.SpelledIsTaken.{read_runs}
 use Rattle.wave_type.proofs.reader.Reader.+types.Goals as goal
 
@@ -138,12 +142,20 @@ cases-loop-part-preserved t c =
 pub list-returns-in_err-ends : goal.list-returns-in_err-ends
 list-returns-in_err-ends t c = answers_err _ _ c.in_err-ends.field-0.0 _ _ _ _ (search rules) (inr (λ expectations. mark_runs (codes "<") c.args.self.now c.expect.new.self _ c.in_ok-expect.ensures.taken ∙ (read_runs c.args.levels c.expect.new.self c.ty.new.self c.in_ok-element.element c.in_ok-element.ensures _ ∙ c.in_err-ends.ensures.refused a_length expectations)))
 
-pub list-returns : goal.list-returns
-list-returns t c =
-    let n = c.args.levels in
-    let rest = λ (expectations : List Expectation). close_expected (codes ">") a_length ∷ expectations in
-    let more : GoesOn (codes ">") c.ty.new.self c.ends.new.self = goes_so (codes ">") c.ty.new.self c.ends.new.self c.in_ok-ends.field-0 c.in_ok-ends.ensures.taken c.if-branch.false in
-    answers_onward (λ ty. ty) c.fixed.result c.args.self.now c.ends.new.self c.fixed.new.self (list_read (type_read n) c.args.self.now) (fixed_behind c.in_ok-element.element c.ends.new.self) (λ expectations. mark_expected (codes "<") ∷ type_expected n ∷ rest expectations) (λ expectations. part_expected (codes ">") a_length ∷ expectations) (list_goes_on (type_read n) c.args.self.now c.expect.new.self c.ty.new.self c.ends.new.self c.in_ok-element.element c.in_ok-expect.ensures.taken c.in_ok-element.ensures more) (λ expectations. mark_runs (codes "<") c.args.self.now c.expect.new.self (type_expected n ∷ rest expectations) c.in_ok-expect.ensures.taken ∙ (read_runs n c.expect.new.self c.ty.new.self c.in_ok-element.element c.in_ok-element.ensures (rest expectations) ∙ comma_runs (codes ">") a_length c.ty.new.self c.ends.new.self expectations more)) c.fixed.ensures
+-- after the element type of a list and a comma
+list_runs : (n : ℕ) (ts m l k : Tokens) (E : TypeTree) (expectations : List Expectation) → after (codes "<") ts ≡ Some m → type_read n m ≡ Some (E, l) → GoesOn (codes ">") l k → refused ts (expected_behind n kinds.List ++ expectations) ≡ refused k (part_expected (codes ">") a_length ∷ expectations)
+list_runs n ts m l k E expectations mark read more =
+    mark_runs (codes "<") ts m _ mark ∙ (read_runs n m l E read _ ∙ comma_runs (codes ">") a_length l k expectations more)
+
+pub list-returns-in_err-count : goal.list-returns-in_err-count
+list-returns-in_err-count t c =
+    let more = goes_so (codes ">") c.ty.new.self c.ends.new.self c.in_ok-ends.field-0 c.in_ok-ends.ensures.taken c.if-branch.false in
+    answers_err _ _ c.in_err-count.field-0.0 _ _ _ _ (search rules) (inr (λ expectations. list_runs c.args.levels c.args.self.now c.expect.new.self c.ty.new.self c.ends.new.self c.in_ok-element.element expectations c.in_ok-expect.ensures.taken c.in_ok-element.ensures more ∙ c.in_err-count.ensures.refused (codes ">") expectations))
+
+pub list-returns-in_err-close : goal.list-returns-in_err-close
+list-returns-in_err-close t c =
+    let more = goes_so (codes ">") c.ty.new.self c.ends.new.self c.in_ok-ends.field-0 c.in_ok-ends.ensures.taken c.if-branch.false in
+    answers_err _ _ c.in_err-close.field-0.0 _ _ _ _ (search rules) (inr (λ expectations. list_runs c.args.levels c.args.self.now c.expect.new.self c.ty.new.self c.ends.new.self c.in_ok-element.element expectations c.in_ok-expect.ensures.taken c.in_ok-element.ensures more ∙ (count_runs (codes ">") c.ends.new.self c.length.new.self c.in_ok-count.count expectations c.in_ok-count.ensures.taken ∙ c.in_err-close.ensures.refused expectations)))
 
 pub option-returns-in_err-close : goal.option-returns-in_err-close
 option-returns-in_err-close t c = answers_err _ _ c.in_err-close.field-0.0 _ _ _ _ (search rules) (inr (λ expectations. mark_runs (codes "<") c.args.self.now c.expect.new.self _ c.in_ok-expect.ensures.taken ∙ (read_runs c.args.levels c.expect.new.self c.ty.new.self c.in_ok-some.some c.in_ok-some.ensures _ ∙ c.in_err-close.ensures.refused expectations)))
@@ -178,11 +190,49 @@ payloads-returns t c =
     let read : type_read n old ≡ Some (c.in_ok-ok.ok, m) = ap (type_read n) (sym c.if-takes.ensures.1) ∙ c.in_ok-ok.ensures in
     answers_onward (λ ty. ty) c.err-2.result old k c.err-2.new.self (payloads_read (type_read n) old (after (codes "_") old)) (err_behind (type_read n) (Some c.in_ok-ok.ok) k) (λ expectations. ok_expected n ∷ expectations) (λ expectations. type_expected n ∷ close_expected (codes ">") no_more ∷ expectations) (ok_goes_on (type_read n) old m k c.in_ok-ok.ok c.if-takes.ensures.0 read more) (λ expectations. ok_is_type n old expectations c.if-takes.ensures.0 ∙ (read_runs n old m c.in_ok-ok.ok read (rest expectations) ∙ (comma_runs (codes ">") (err_type n) m k expectations more ∙ err_is_type n (codes ">") k expectations))) c.err-2.ensures
 
-pub tuple-returns-in-None : goal.tuple-returns-in-None
-tuple-returns-in-None t c = absurd (types_are_some (type_read c.args.levels) c.expect.new.self c.types.new.self c.in_ok-types.types.items c.in_ok-types.ensures (sym c.in_ok-ty.ensures ∙ c.in-None.is))
+-- ---- forms of parts
 
-pub record-returns-in-None : goal.record-returns-in-None
-record-returns-in-None t c = absurd (fields_are_some (type_read c.args.levels) (codes "}") c.expect.new.self c.fields.new.self (named c.in_ok-fields.fields.items) c.in_ok-fields.ensures (sym c.in_ok-ty.ensures ∙ c.in-None.is))
+pub of_kind-returns-in_ok-tuple-in-Tuple : goal.of_kind-returns-in_ok-tuple-in-Tuple
+of_kind-returns-in_ok-tuple-in-Tuple t c =
+    let n = c.args.levels in
+    let parts = c.in_ok-types-in-Tuple.types.items in
+    let read = c.in_ok-types-in-Tuple.ensures in
+    let made = c.in_ok-tuple-in-Tuple.ensures in
+    let form = form_read (after (codes "<") c.args.self.now) (types_read (type_read n)) tuple_type c.expect.new.self c.types.new.self parts c.in_ok-tuple-in-Tuple.field-0 c.in_ok-expect-in-Tuple.ensures.taken read made in
+    rw c.in-Tuple.is (answers_built c.in_ok-tuple-in-Tuple.field-0 UnexpectedEnd c.ok_or.result c.args.self.now c.types.new.self _ _ c.ok_or.ensures.value (λ none. types_are_some (type_read n) c.expect.new.self c.types.new.self parts read (sym made ∙ none)) form)
 
-pub variant-returns-in-None : goal.variant-returns-in-None
-variant-returns-in-None t c = absurd (cases_are_some (type_read c.args.levels) c.expect.new.self c.cases.new.self (named c.in_ok-cases.cases.items) c.in_ok-cases.ensures (sym c.in_ok-ty.ensures ∙ c.in-None.is))
+pub of_kind-returns-in_ok-record-in-Record : goal.of_kind-returns-in_ok-record-in-Record
+of_kind-returns-in_ok-record-in-Record t c =
+    let n = c.args.levels in
+    let parts = named c.in_ok-fields-in-Record.fields.items in
+    let read = c.in_ok-fields-in-Record.ensures in
+    let made = c.in_ok-record-in-Record.ensures in
+    let form = form_read (after (codes "{") c.args.self.now) (fields_read (type_read n) (codes "}")) record_type c.expect-in-Record.new.self c.fields.new.self parts c.in_ok-record-in-Record.field-0 c.in_ok-expect-in-Record.ensures.taken read made in
+    rw c.in-Record.is (answers_built c.in_ok-record-in-Record.field-0 UnexpectedEnd c.ok_or-in-Record.result c.args.self.now c.fields.new.self _ _ c.ok_or-in-Record.ensures.value (λ none. fields_are_some (type_read n) (codes "}") c.expect-in-Record.new.self c.fields.new.self parts read (sym made ∙ none)) form)
+
+pub of_kind-returns-in_ok-variant-in-Variant : goal.of_kind-returns-in_ok-variant-in-Variant
+of_kind-returns-in_ok-variant-in-Variant t c =
+    let n = c.args.levels in
+    let parts = named c.in_ok-cases-in-Variant.cases.items in
+    let read = c.in_ok-cases-in-Variant.ensures in
+    let made = c.in_ok-variant-in-Variant.ensures in
+    let form = form_read (after (codes "{") c.args.self.now) (cases_read (type_read n)) variant_type c.expect-in-Variant.new.self c.cases.new.self parts c.in_ok-variant-in-Variant.field-0 c.in_ok-expect-in-Variant.ensures.taken read made in
+    rw c.in-Variant.is (answers_built c.in_ok-variant-in-Variant.field-0 UnexpectedEnd c.ok_or-in-Variant.result c.args.self.now c.cases.new.self _ _ c.ok_or-in-Variant.ensures.value (λ none. cases_are_some (type_read n) c.expect-in-Variant.new.self c.cases.new.self parts read (sym made ∙ none)) form)
+
+pub of_kind-returns-in_ok-enum_ty-in-Enum : goal.of_kind-returns-in_ok-enum_ty-in-Enum
+of_kind-returns-in_ok-enum_ty-in-Enum t c =
+    let n = c.args.levels in
+    let parts = texts c.in_ok-names-in-Enum.names.items in
+    let read = c.in_ok-names-in-Enum.ensures in
+    let made = c.in_ok-enum_ty-in-Enum.ensures ∙ ap (λ l. enum_type (texts l)) c.as_slice.ensures.value in
+    let form = form_read (after (codes "{") c.args.self.now) (names_read (codes "}")) enum_type c.expect-in-Enum.new.self c.names.new.self parts c.in_ok-enum_ty-in-Enum.field-0 c.in_ok-expect-in-Enum.ensures.taken read made in
+    rw c.in-Enum.is (answers_built c.in_ok-enum_ty-in-Enum.field-0 UnexpectedEnd c.ok_or-in-Enum.result c.args.self.now c.names.new.self _ _ c.ok_or-in-Enum.ensures.value (λ none. enum_is_some (codes "}") c.expect-in-Enum.new.self c.names.new.self parts read (sym made ∙ none)) form)
+
+pub of_kind-returns-in_ok-flags-in-Flags : goal.of_kind-returns-in_ok-flags-in-Flags
+of_kind-returns-in_ok-flags-in-Flags t c =
+    let n = c.args.levels in
+    let parts = texts c.in_ok-names-in-Flags.names.items in
+    let read = c.in_ok-names-in-Flags.ensures in
+    let made = c.in_ok-flags-in-Flags.ensures ∙ ap (λ l. flags_type (texts l)) c.as_slice-in-Flags.ensures.value in
+    let form = form_read (after (codes "{") c.args.self.now) (names_read (codes "}")) flags_type c.expect-in-Flags.new.self c.names-in-Flags.new.self parts c.in_ok-flags-in-Flags.field-0 c.in_ok-expect-in-Flags.ensures.taken read made in
+    rw c.in-Flags.is (answers_built c.in_ok-flags-in-Flags.field-0 UnexpectedEnd c.ok_or-in-Flags.result c.args.self.now c.names-in-Flags.new.self _ _ c.ok_or-in-Flags.ensures.value (λ none. flags_are_some (codes "}") c.expect-in-Flags.new.self c.names-in-Flags.new.self parts read (sym made ∙ none)) form)

@@ -38,15 +38,6 @@ decreases-map l = 8 * l.levels + 5
 abbrev pub decreases-result : goal.decreases-result
 decreases-result l = 8 * l.levels + 5
 
-abbrev pub decreases-tuple : goal.decreases-tuple
-decreases-tuple l = 8 * l.levels + 5
-
-abbrev pub decreases-record : goal.decreases-record
-decreases-record l = 8 * l.levels + 5
-
-abbrev pub decreases-variant : goal.decreases-variant
-decreases-variant l = 8 * l.levels + 5
-
 abbrev pub decreases-of_kind : goal.decreases-of_kind
 decreases-of_kind l = 8 * l.levels + 7
 

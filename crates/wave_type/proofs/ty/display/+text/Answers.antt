@@ -9,6 +9,7 @@ use Rattle.wave_wasm.specs.TypeText.{type_text, type_texts, field_texts, case_te
 use Rattle.wave_type.specs.TypeModel.{by_bytes}
 use Rattle.wave_wasm.proofs.Displays.JoinedTexts.{separator_more}
 use Rattle.wave_type.proofs.TypeTexts.JoinedTexts.{turn_written, field_line, case_line, all_types, all_fields, all_cases, pair_text, fixed_text}
+use Rattle.wave_type.proofs.TypeTexts.FunctionParts.{all_parts}
 use Rattle.wave_type.proofs.TypeTrees.Equality.{type_at, field_at, case_at}
 use Rattle.wave_type.proofs.ty.display.+text.Goals as goal
 
@@ -24,17 +25,28 @@ pub write_types-returns : goal.write_types-returns
 write_types-returns g t c = λ p ok.
     has_written_of_eq _ _ _ _ _ (all_types _ _ c.loop-ty.ty-index c.deref-ty-items.ensures.value c.loop-ty-test.false) (c.loop-ty.invariant.1 p)
 
-pub write_fields-write_field-requires : goal.write_fields-write_field-requires
-write_fields-write_field-requires g t c κs within = search (rules, field_at)
+pub write_fields-write_type-requires : goal.write_fields-write_type-requires
+write_fields-write_type-requires g t c κs within = search (rules, field_at)
 
 pub write_fields-loop-field-preserved : goal.write_fields-loop-field-preserved
 write_fields-loop-field-preserved g t c =
-    let next = turn_written g.W.Write.write_str_gives field_line c.deref-field-items.result.now c.loop-field.field-index c.loop-field.separator.now c.field-item.result c.loop-field-test.true c.field-item.is c.loop-field.invariant.0 in
-    (separator_more field_line c.deref-field-items.result.now c.loop-field.field-index c.field-item.result c.loop-field-test.true, λ p. next _ c.loop-field.f c.write.new.self c.write_field.new.f (c.loop-field.invariant.1 p) (search rules) (search rules))
+    let took = g.W.Write.write_str_gives in
+    let field = c.field-item.result in
+    let next = turn_written took field_line c.deref-field-items.result.now c.loop-field.field-index c.loop-field.separator.now field c.loop-field-test.true c.field-item.is c.loop-field.invariant.0 in (
+      separator_more field_line c.deref-field-items.result.now c.loop-field.field-index field c.loop-field-test.true,
+      λ p.
+          let name_written : HasWritten took c.write.new.self (string_bytes field.0 ++ codes ": ") c.write-in-loop-field.new.self = search rules in
+          let type_written : HasWritten took c.write-in-loop-field.new.self (type_text field.1) c.write_type.new.f = search rules in
+          next _ c.loop-field.f c.write.new.self c.write_type.new.f (c.loop-field.invariant.1 p) (search rules) (put_two took _ _ _ _ _ _ name_written type_written (append_assoc (string_bytes field.0) (codes ": ") (type_text field.1))),
+    )
 
-pub write_fields-returns : goal.write_fields-returns
-write_fields-returns g t c = λ p ok.
+pub write_fields-returns-clause-fields : goal.write_fields-returns-clause-fields
+write_fields-returns-clause-fields g t c = λ p ok.
     has_written_of_eq _ _ _ _ _ (all_fields _ _ c.loop-field.field-index c.deref-field-items.ensures.value c.loop-field-test.false) (c.loop-field.invariant.1 p)
+
+pub write_fields-returns-clause-parts : goal.write_fields-returns-clause-parts
+write_fields-returns-clause-parts g t c = λ p ok.
+    has_written_of_eq _ _ _ _ _ (all_parts _ _ c.loop-field.field-index c.deref-field-items.ensures.value c.loop-field-test.false) (c.loop-field.invariant.1 p)
 
 pub write_cases-write_case-requires : goal.write_cases-write_case-requires
 write_cases-write_case-requires g t c κs within = search (rules, case_at)
@@ -51,9 +63,9 @@ write_cases-returns g t c = λ p ok.
 pub write_type-returns-in_ok-write_type-in-List : goal.write_type-returns-in_ok-write_type-in-List
 write_type-returns-in_ok-write_type-in-List g t c = λ p ok.
     let took = g.W.Write.write_str_gives in
-    let first : HasWritten took c.args.f.now (codes "list<") c.write-in-List.new.self = c.in_ok-write-in-List.ensures.writes p (refl {a = true}) in
-    let second : HasWritten took c.write-in-List.new.self (type_text c.deref.result.now.0) c.write_type.new.f = c.in_ok-write_type-in-List.ensures first.plain (refl {a = true}) in
-    let third : HasWritten took c.write_type.new.f (codes ">") c.write-in-List-2.new.self = c.write-in-List-2.ensures.writes second.plain ok in
+    let first : HasWritten took c.args.f.now (codes "list<") c.write.new.self = c.in_ok-write-in-List.ensures.writes p (refl {a = true}) in
+    let second : HasWritten took c.write.new.self (type_text c.deref.result.now.0) c.write_type.new.f = c.in_ok-write_type-in-List.ensures first.plain (refl {a = true}) in
+    let third : HasWritten took c.write_type.new.f (codes ">") c.write-in-List.new.self = c.write-in-List.ensures.writes second.plain ok in
     put_three took _ _ _ _ _ _ _ _ first second third (search rules)
 
 pub write_type-returns-in_ok-write_type-in-Option : goal.write_type-returns-in_ok-write_type-in-Option
@@ -85,7 +97,7 @@ pub write_type-returns-in_ok-write_fields-in-Record : goal.write_type-returns-in
 write_type-returns-in_ok-write_fields-in-Record g t c = λ p ok.
     let took = g.W.Write.write_str_gives in
     let first : HasWritten took c.args.f.now (codes "record { ") c.write-in-Record.new.self = c.in_ok-write-in-Record.ensures.writes p (refl {a = true}) in
-    let second : HasWritten took c.write-in-Record.new.self (joined (field_texts (fields_of (map by_bytes c.deref-in-Record.result.now.0.items)))) c.write_fields.new.f = c.in_ok-write_fields-in-Record.ensures first.plain (refl {a = true}) in
+    let second : HasWritten took c.write-in-Record.new.self (joined (field_texts (fields_of (map by_bytes c.deref-in-Record.result.now.0.items)))) c.write_fields.new.f = c.in_ok-write_fields-in-Record.ensures.fields first.plain (refl {a = true}) in
     let third : HasWritten took c.write_fields.new.f (codes " }") c.write-in-Record-2.new.self = c.write-in-Record-2.ensures.writes second.plain ok in
     put_three took _ _ _ _ _ _ _ _ first second third (search rules)
 
@@ -149,13 +161,6 @@ write_result-returns-in_ok-write_type-in-Some-Some-2 g t c = λ p ok.
     let fifth : HasWritten took c.write_type-in-Some-Some-2.new.f (codes ">") c.write-in-Some-Some-3.new.self = c.write-in-Some-Some-3.ensures.writes fourth.plain ok in
     let same : codes "result<" ++ ((type_text c.in-Some-Some.ok ++ (codes ", " ++ type_text c.in-Some-Some.err)) ++ codes ">") ≡ result_text (maybe_text (maybe_type c.args.ok.now)) (maybe_text (maybe_type c.args.err.now)) = search rules in
     put_five took _ _ _ _ _ _ _ _ _ _ _ _ first second third fourth fifth (pair_text (codes "result<") (type_text c.in-Some-Some.ok) (type_text c.in-Some-Some.err) _ same)
-
-pub write_field-returns : goal.write_field-returns
-write_field-returns g t c = λ p ok.
-    let took = g.W.Write.write_str_gives in
-    let first : HasWritten took c.args.f.now (string_bytes c.args.field.now.0 ++ codes ": ") c.write.new.self = search rules in
-    let second : HasWritten took c.write.new.self (type_text c.args.field.now.1) c.write_type.new.f = c.write_type.ensures first.plain ok in
-    put_two took _ _ _ _ _ _ first second (append_assoc (string_bytes c.args.field.now.0) (codes ": ") (type_text c.args.field.now.1))
 
 pub write_case-returns-in_ok-write_type-in-Some : goal.write_case-returns-in_ok-write_type-in-Some
 write_case-returns-in_ok-write_type-in-Some g t c = λ p ok.

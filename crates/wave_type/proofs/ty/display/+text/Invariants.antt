@@ -17,9 +17,6 @@ decreases-write_types g l = 4 * depth_of_types (types_of l.types.now.items) + 3
 abbrev pub decreases-write_fields : goal.decreases-write_fields
 decreases-write_fields g l = 4 * depth_of_fields (fields_of (map by_bytes l.fields.now.items)) + 3
 
-abbrev pub decreases-write_field : goal.decreases-write_field
-decreases-write_field g l = 4 * depth l.field.now.1 + 2
-
 abbrev pub decreases-write_cases : goal.decreases-write_cases
 decreases-write_cases g l = 4 * depth_of_cases (cases_of (map by_bytes l.cases.now.items)) + 3
 
