@@ -5,11 +5,10 @@ ghost use Rattle.wave_wasm.specs.Names.{AreAllOf, AreDistinct, found_in};
 ghost use Rattle.wave_wasm.specs.Borrowed.{texts};
 ghost use Rattle.wave_wasm.specs.ValueErrors.{unknown_case};
 ghost use Rattle.wave_grammar.specs.FaultOrder.{Order};
-ghost use Rattle.wave_grammar.specs.NodeTree.{NodeTree, node, no_nodes, children_of};
-ghost use Rattle.wave_grammar.specs.declared.form.NodeType.TheVariants as node_type;
+ghost use Rattle.wave_grammar.specs.NodeTree.{NodeTree, place_of, children_of};
 ghost use Rattle.wave_grammar.specs.NodeFlags.{AreFlags, names_at};
 ghost use Rattle.wave_leaf.specs.Reading.{IsReadAs, IsOfType};
-ghost use Rattle.wave_read.specs.Private.NamedFlags.{flag_names, IsReadOrReported, IsReported, ReportsCause, ReportsUnknown, IsReadOfFlags};
+ghost use Rattle.wave_read.specs.Private.NamedFlags.{flag_names, IsReadOrReported, ReportsCause, ReportsUnknown};
 
 use std::alloc::Global;
 use std::collections::BTreeMap;
@@ -19,7 +18,8 @@ use wave_lex::error::ParserErrorKind;
 use wave_lex::lex::Span;
 use wave_wasm::wasm::{WasmType, WasmTypeKind, WasmValue, WasmValueError};
 
-/// The value of the flags that stand here. A flag that the type doesn't name is `UnknownCase`.
+/// The value of these flags, whose node stands here, or of none, where `{}` does. A flag that the type doesn't
+/// name is `UnknownCase`.
 pub(crate) fn read_flags<V: WasmValue>(
     alloc: Global,
     ty: &V::Type,
@@ -27,22 +27,14 @@ pub(crate) fn read_flags<V: WasmValue>(
     flags: BTreeMap<&str, Span>,
 ) -> Result<V, ReadError>
     requires { kind_of (V.Type.tree ty.now) ≡ WasmTypeKind.Flags }
-    ensures read { IsReadOfFlags V.tree V.is_of V.is_full (V.Type.tree ty.now) span flags.entry result }
+    ensures read { (o w : Order) (source : List ℕ) (n : NodeTree) → AreFlags n → place_of n ≡ span
+        → names_at source (children_of n) ≡ flag_names flags.entry → IsReadAs V.tree V.is_of V.is_full o w (V.Type.tree ty.now) source n result }
     ensures typed { IsOfType V.is_of (V.Type.tree ty.now) result }
 {
-    reported(read_names(alloc, ty, flags), span)
-}
-
-/// The value of no flags, where `{}` stands here.
-pub(crate) fn read_no_flags<V: WasmValue>(
-    alloc: Global,
-    ty: &V::Type,
-    span: Span,
-) -> Result<V, ReadError>
-    requires { kind_of (V.Type.tree ty.now) ≡ WasmTypeKind.Flags }
-    ensures { (o w : Order) (source : List ℕ) → IsReadAs V.tree V.is_of V.is_full o w (V.Type.tree ty.now) source (node node_type.EmptySet span no_nodes) result }
-{
-    reported(read_names(alloc, ty, BTreeMap::new(alloc)), span)
+    match read_names(alloc, ty, flags) {
+        Ok(val) => Ok(val),
+        Err(fault) => Err(fault.report(span)),
+    }
 }
 
 /// The value of the flags of these names.
@@ -98,15 +90,5 @@ fn unknown(alloc: Global, name: &str) -> Fault
     match String::from_str(alloc, name) {
         Ok(name) => caused(alloc, WasmValueError::UnknownCase(name)),
         Err(_) => Fault::Whole(Reason::Plain(ParserErrorKind::OutOfMemory)),
-    }
-}
-
-/// What was read, or its fault as one of the whole value, which stands here.
-fn reported<V>(read: Result<V, Fault>, span: Span) -> Result<V, ReadError>
-    ensures { IsReported read span result }
-{
-    match read {
-        Ok(val) => Ok(val),
-        Err(fault) => Err(fault.report(span)),
     }
 }

@@ -72,26 +72,8 @@ fn read_directly<V: WasmValue>(leaf: &Leaf<'_>, alloc: Global, ty: &V::Type) -> 
     }
 }
 
-/// The value of these flags at the type.
-pub(crate) fn flags_at<V: WasmValue>(
-    alloc: Global,
-    ty: &V::Type,
-    span: Span,
-    flags: BTreeMap<&str, Span>,
-) -> Result<V, ReadError>
-    ensures { IsReadOfFlags V.tree V.is_of V.is_full (V.Type.tree ty.now) span flags.entry result }
-{
-    match flat_payload(ty, NodeType::Flags) {
-        Some(payload) => {
-            let built = flags_directly::<V>(alloc, payload, span.start..span.end, flags);
-            wrap(alloc, ty, span, built)
-        }
-        None => flags_directly(alloc, ty, span, flags),
-    }
-}
-
 /// The value of these flags at the type, which is none of a flat payload.
-fn flags_directly<V: WasmValue>(
+pub(crate) fn flags_at<V: WasmValue>(
     alloc: Global,
     ty: &V::Type,
     span: Span,

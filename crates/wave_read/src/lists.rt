@@ -26,11 +26,11 @@ pub struct Items<'ty, T, V> {
     /// The type of the list.
     ty: &'ty T,
     /// The type of its items.
-    element: &'ty T,
+    pub(crate) element: &'ty T,
     /// The items that were read.
     items: Vec<V>,
     /// The refusal of the first item that was refused.
-    held: Option<ReadError>,
+    pub(crate) held: Option<ReadError>,
     /// The number of all items so far.
     count: usize,
 }
@@ -49,16 +49,6 @@ impl<'ty, V: WasmValue> Items<'ty, V::Type, V> {
             held: None,
             count: 0,
         }
-    }
-
-    /// The type of the item that comes next, where none was refused.
-    pub(crate) fn next(&self) -> Option<&'ty V::Type>
-        ensures { result ≡ element_expected self.now }
-    {
-        if self.held.is_some() {
-            return None;
-        }
-        Some(self.element)
     }
 
     /// Adds an item, which was read at the type that is expected.

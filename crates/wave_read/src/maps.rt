@@ -2,8 +2,6 @@
 ghost use Rattle.std.specs.Prelude.{ℕ, List, [], ◌≡◌, Ok, None, IfOk};
 ghost use Rattle.wave_wasm.specs.Types.{kind_of};
 ghost use Rattle.wave_grammar.specs.FaultOrder.{Order};
-ghost use Rattle.wave_grammar.specs.NodeTree.{node, no_nodes};
-ghost use Rattle.wave_leaf.specs.Reading.{IsReadAs};
 ghost use Rattle.wave_read.specs.MapParts.{AreEntries, value_type_expected};
 ghost use Rattle.wave_read.specs.Private.PartSteps.{AddsKey, AddsPart, FinishesAs, WereRead};
 
@@ -22,9 +20,9 @@ use wave_wasm::wasm::{WasmType, WasmTypeKind, WasmValue};
 pub struct Entries<'ty, T, V> {
     ty: &'ty T,
     key_type: &'ty T,
-    value_type: &'ty T,
+    pub(crate) value_type: &'ty T,
     entries: Vec<(V, V)>,
-    key: Option<V>,
+    pub(crate) key: Option<V>,
 }
 
 impl<'ty, V: WasmValue> Entries<'ty, V::Type, V> {
@@ -41,16 +39,6 @@ impl<'ty, V: WasmValue> Entries<'ty, V::Type, V> {
             entries: Vec::new(alloc),
             key: None,
         }
-    }
-
-    /// The type of the value that comes next, after a key.
-    pub(crate) fn next(&self) -> Option<&'ty V::Type>
-        ensures { result ≡ value_type_expected self.now }
-    {
-        if self.key.is_none() {
-            return None;
-        }
-        Some(self.value_type)
     }
 
     /// Adds a key, which is of this type and text; or what is wrong with the map.
@@ -96,16 +84,4 @@ impl<'ty, V: WasmValue> Entries<'ty, V::Type, V> {
         };
         or_error_at(alloc, span, V::make_map_unchecked(alloc, ty, &mut entries))
     }
-}
-
-/// The map of `{}`, which stands here.
-pub(crate) fn read_no_entries<V: WasmValue>(
-    alloc: Global,
-    ty: &V::Type,
-    span: Span,
-) -> Result<V, ReadError>
-    requires { kind_of (V.Type.tree ty.now) ≡ WasmTypeKind.Map }
-    ensures { (o w : Order) (source : List ℕ) → IsReadAs V.tree V.is_of V.is_full o w (V.Type.tree ty.now) source (node NodeType.EmptySet span no_nodes) result }
-{
-    or_error_at(alloc, span, V::make_map(alloc, ty, Vec::new(alloc)))
 }

@@ -22,7 +22,7 @@ pub struct SomePayload<'ty, T, V> {
     /// The type of the option.
     ty: &'ty T,
     /// The type of the payload.
-    expected: &'ty T,
+    pub(crate) expected: &'ty T,
     /// The payload or its refusal, once it was read.
     built: Option<Result<V, ReadError>>,
 }
@@ -38,13 +38,6 @@ impl<'ty, V: WasmValue> SomePayload<'ty, V::Type, V> {
             expected: ty.option_some_type().unwrap(),
             built: None,
         }
-    }
-
-    /// The type of the payload.
-    pub(crate) fn next(&self) -> Option<&'ty V::Type>
-        ensures { result ≡ some_expected self.now }
-    {
-        Some(self.expected)
     }
 
     /// The payload was read, or refused.

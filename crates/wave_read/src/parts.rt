@@ -20,18 +20,19 @@ ghost use Rattle.wave_leaf.specs.declared.fault.Fault.TheVariants as fault;
 ghost use Rattle.wave_lex.specs.declared.error.ParserErrorKind.TheVariants as why;
 ghost use Rattle.wave_grammar.specs.declared.form.NodeType.TheVariants as node_type;
 
-use crate::flags::read_no_flags;
+use crate::flags::read_flags;
 use crate::lists::Items;
-use crate::maps::{Entries, read_no_entries};
+use crate::maps::Entries;
 use crate::options::SomePayload;
 use crate::records::Fields;
 use crate::results::ResultPayload;
 use crate::tuples::TupleItems;
 use crate::variants::CasePayload;
 use std::alloc::{AllocError, Global};
+use std::collections::BTreeMap;
 use wave_grammar::form::NodeType;
 use wave_leaf::error::{ReadError, Reason};
-use wave_leaf::fault::Fault;
+use wave_leaf::fault::{Fault, or_error_at};
 use wave_leaf::leaf::Leaf;
 use wave_leaf::simple::refuse_form;
 use wave_lex::error::ParserErrorKind;
@@ -76,9 +77,12 @@ impl<'ty, V: WasmValue> Partial<'ty, V::Type, V> {
             WasmTypeKind::Tuple => Partial::of_tuple(alloc, ty, of),
             WasmTypeKind::Record => Partial::of_record(alloc, ty, of),
             WasmTypeKind::Map => Partial::of_map(alloc, ty, of),
-            WasmTypeKind::Flags => Partial::of_flags(ty, of),
+            WasmTypeKind::Flags => match of {
+                NodeType::EmptySet => Partial::Empty(ty),
+                _ => Partial::refused(ParserErrorKind::InvalidType),
+            },
             WasmTypeKind::Variant => Partial::of_variant(ty, of),
-            WasmTypeKind::Enum => Partial::wrong_form(),
+            WasmTypeKind::Enum => Partial::refused(ParserErrorKind::InvalidType),
             WasmTypeKind::Option => Partial::of_option(ty, of),
             WasmTypeKind::Result => Partial::of_result(ty, of),
             _ => Partial::Simple(ty),
@@ -92,7 +96,7 @@ impl<'ty, V: WasmValue> Partial<'ty, V::Type, V> {
     {
         match of {
             NodeType::List => Partial::Items(Items::new(alloc, ty)),
-            _ => Partial::wrong_form(),
+            _ => Partial::refused(ParserErrorKind::InvalidType),
         }
     }
 
@@ -104,9 +108,9 @@ impl<'ty, V: WasmValue> Partial<'ty, V::Type, V> {
         match of {
             NodeType::Tuple => match TupleItems::new(alloc, ty) {
                 Ok(row) => Partial::TupleItems(row),
-                Err(error) => Partial::out_of_memory(error),
+                Err(_) => Partial::refused(ParserErrorKind::OutOfMemory),
             },
-            _ => Partial::wrong_form(),
+            _ => Partial::refused(ParserErrorKind::InvalidType),
         }
     }
 
@@ -118,9 +122,9 @@ impl<'ty, V: WasmValue> Partial<'ty, V::Type, V> {
         match of {
             NodeType::TupleSet => match Fields::new(alloc, ty) {
                 Ok(fields) => Partial::Fields(fields),
-                Err(error) => Partial::out_of_memory(error),
+                Err(_) => Partial::refused(ParserErrorKind::OutOfMemory),
             },
-            _ => Partial::wrong_form(),
+            _ => Partial::refused(ParserErrorKind::InvalidType),
         }
     }
 
@@ -132,18 +136,7 @@ impl<'ty, V: WasmValue> Partial<'ty, V::Type, V> {
         match of {
             NodeType::TupleSet => Partial::Entries(Entries::new(alloc, ty)),
             NodeType::EmptySet => Partial::Empty(ty),
-            _ => Partial::wrong_form(),
-        }
-    }
-
-    /// No flags.
-    fn of_flags(ty: &'ty V::Type, of: NodeType) -> Self
-        requires { kind_of (V.Type.tree ty.now) ≡ WasmTypeKind.Flags }
-        ensures { AreNoPartsYet V.Type.tree V.tree V.is_of V.is_full (V.Type.tree ty.now) of result }
-    {
-        match of {
-            NodeType::EmptySet => Partial::Empty(ty),
-            _ => Partial::wrong_form(),
+            _ => Partial::refused(ParserErrorKind::InvalidType),
         }
     }
 
@@ -154,7 +147,7 @@ impl<'ty, V: WasmValue> Partial<'ty, V::Type, V> {
     {
         match of {
             NodeType::VariantWithPayload => Partial::OfCase(CasePayload::new(ty)),
-            _ => Partial::wrong_form(),
+            _ => Partial::refused(ParserErrorKind::InvalidType),
         }
     }
 
@@ -166,7 +159,7 @@ impl<'ty, V: WasmValue> Partial<'ty, V::Type, V> {
     {
         match of {
             NodeType::OptionSome => Partial::OfSome(SomePayload::new(ty)),
-            _ => Partial::wrong_form(),
+            _ => Partial::refused(ParserErrorKind::InvalidType),
         }
     }
 
@@ -179,22 +172,15 @@ impl<'ty, V: WasmValue> Partial<'ty, V::Type, V> {
         match of {
             NodeType::ResultOk => Partial::OfResult(ResultPayload::new(ty, true)),
             NodeType::ResultErr => Partial::OfResult(ResultPayload::new(ty, false)),
-            _ => Partial::wrong_form(),
+            _ => Partial::refused(ParserErrorKind::InvalidType),
         }
     }
 
-    /// Parts of a value of a form that its type doesn't take.
-    fn wrong_form() -> Self
-        ensures { result ≡ parts.Faulty (fault.Whole (reason.Plain why.InvalidType)) }
+    /// Parts of a value that is refused for this alone, whatever they are.
+    fn refused(kind: ParserErrorKind) -> Self
+        ensures { result ≡ parts.Faulty (fault.Whole (reason.Plain kind)) }
     {
-        Partial::Faulty(Fault::Whole(Reason::Plain(ParserErrorKind::InvalidType)))
-    }
-
-    /// Parts of a value whose type could not be asked for lack of memory.
-    fn out_of_memory(error: AllocError) -> Self
-        ensures { result ≡ parts.Faulty (fault.Whole (reason.Plain why.OutOfMemory)) }
-    {
-        Partial::Faulty(Fault::Whole(Reason::Plain(ParserErrorKind::OutOfMemory)))
+        Partial::Faulty(Fault::Whole(Reason::Plain(kind)))
     }
 
     /// The type of the value that comes next, where one is expected.
@@ -202,13 +188,25 @@ impl<'ty, V: WasmValue> Partial<'ty, V::Type, V> {
         ensures { result ≡ next_expected self.now }
     {
         match self {
-            Partial::Items(items) => items.next(),
+            Partial::Items(items) => match items.held {
+                None => Some(items.element),
+                Some(_) => None,
+            },
             Partial::TupleItems(row) => row.next(),
-            Partial::OfSome(payload) => payload.next(),
-            Partial::OfResult(payload) => payload.next(),
-            Partial::OfCase(payload) => payload.next(),
-            Partial::Fields(fields) => fields.next(),
-            Partial::Entries(entries) => entries.next(),
+            Partial::OfSome(payload) => Some(payload.expected),
+            Partial::OfResult(payload) => payload.expected,
+            Partial::OfCase(payload) => match payload.case {
+                Some((_, ty)) => Some(ty),
+                None => None,
+            },
+            Partial::Fields(fields) => match fields.expected {
+                Some((_, ty)) => Some(ty),
+                None => None,
+            },
+            Partial::Entries(entries) => match entries.key {
+                Some(_) => Some(entries.value_type),
+                None => None,
+            },
             _ => None,
         }
     }
@@ -236,9 +234,8 @@ impl<'ty, V: WasmValue> Partial<'ty, V::Type, V> {
         Ok(())
     }
 
-    /// Adds the next value, which was read at the type that was expected. An item of a list, of which there
-    /// may be many, is added where this is called.
-    #[inline(always)]
+    /// Adds the next value, which was read at the type that was expected.
+    #[inline(never)]
     pub(crate) fn push_part(
         &mut self,
         alloc: Global,
@@ -252,7 +249,10 @@ impl<'ty, V: WasmValue> Partial<'ty, V::Type, V> {
     {
         match self {
             Partial::Items(items) => items.push_part(alloc, built),
-            _ => self.push_other_part(alloc, built),
+            _ => match built {
+                Ok(val) => self.push_value(alloc, val),
+                Err(error) => self.push_failed(alloc, error),
+            },
         }
     }
 
@@ -297,27 +297,7 @@ impl<'ty, V: WasmValue> Partial<'ty, V::Type, V> {
         }
     }
 
-    /// Adds a part of a value that is no list.
-    #[inline(never)]
-    fn push_other_part(
-        &mut self,
-        alloc: Global,
-        built: Result<V, ReadError>,
-    ) -> Result<(), AllocError>
-        requires { AreNoItems self.now }
-        ensures grown { IfOk result (λ _. (w : Order) (T : TypeTree) (source : List ℕ) (of : NodeType) (children : List NodeTree) (n : NodeTree)
-            → TakesPart of children → AreParts V.Type.tree V.tree V.is_of V.is_full w T source of children self.old
-            → IsReadWhereExpected V.tree V.is_of V.is_full w w (shown V.Type.tree (next_expected self.old)) source n built
-            → AreParts V.Type.tree V.tree V.is_of V.is_full w T source of (children ++ n ∷ []) self.new) }
-        ensures bare { IsBare self.old → (self.new ≡ self.old) × IsOk result }
-    {
-        match built {
-            Ok(val) => self.push_value(alloc, val),
-            Err(error) => self.push_failed(alloc, error),
-        }
-    }
-
-    /// The same for a part that was made.
+    /// Adds a part that was made to those of a value that is no list.
     #[inline(always)]
     fn push_value(&mut self, alloc: Global, val: V) -> Result<(), AllocError>
         requires { AreNoItems self.now }
@@ -408,8 +388,8 @@ fn read_empty<V: WasmValue>(alloc: Global, ty: &V::Type, span: Span) -> Result<V
         → IsReadAs V.tree V.is_of V.is_full o w (V.Type.tree ty.now) source (node node_type.EmptySet span no_nodes) result }
 {
     match ty.kind() {
-        WasmTypeKind::Flags => read_no_flags(alloc, ty, span),
-        WasmTypeKind::Map => read_no_entries(alloc, ty, span),
+        WasmTypeKind::Flags => read_flags(alloc, ty, span, BTreeMap::new(alloc)),
+        WasmTypeKind::Map => or_error_at(alloc, span, V::make_map(alloc, ty, Vec::new(alloc))),
         _ => Err(ReadError::new(ParserErrorKind::InvalidType, span)),
     }
 }

@@ -41,7 +41,7 @@ pub struct Fields<'ty, T, V> {
     /// The place after the field that was read last.
     behind: usize,
     /// The place and the type of the field whose key was taken.
-    expected: Option<(usize, &'ty T)>,
+    pub(crate) expected: Option<(usize, &'ty T)>,
     /// The names of the fields with their places, sorted, once a field stood elsewhere than after the
     /// last one. Any place that is taken from it is looked at.
     index: Option<Box<Vec<(&'ty str, usize)>>>,
@@ -156,16 +156,6 @@ impl<'ty, V: WasmValue> Fields<'ty, V::Type, V> {
             expected: None,
             index: None,
         })
-    }
-
-    /// The type of the value that comes next, after a key.
-    pub(crate) fn next(&self) -> Option<&'ty V::Type>
-        ensures { result ≡ type_expected self.now }
-    {
-        match self.expected {
-            Some((_, ty)) => Some(ty),
-            None => None,
-        }
     }
 
     /// Adds a key, which is of this type and text; or what is wrong with the record.

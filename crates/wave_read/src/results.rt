@@ -28,7 +28,7 @@ pub struct ResultPayload<'ty, T, V> {
     /// Whether it is `ok`.
     is_ok: bool,
     /// The type of the payload, where one is expected.
-    expected: Option<&'ty T>,
+    pub(crate) expected: Option<&'ty T>,
     /// The payload or its refusal, once it was read; where none is expected, whatever was made of it.
     built: Option<Result<V, ReadError>>,
 }
@@ -47,13 +47,6 @@ impl<'ty, V: WasmValue> ResultPayload<'ty, V::Type, V> {
             expected: if is_ok { ok } else { err },
             built: None,
         }
-    }
-
-    /// The type of the payload, where one is expected.
-    pub(crate) fn next(&self) -> Option<&'ty V::Type>
-        ensures { result ≡ result_expected self.now }
-    {
-        self.expected
     }
 
     /// The payload was read, or refused.

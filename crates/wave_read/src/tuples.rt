@@ -97,7 +97,8 @@ impl<'ty, V: WasmValue> TupleItems<'ty, V::Type, V> {
         if count == want {
             return None;
         }
-        Some(wrong_number(span, want, count))
+        let reason = Reason::TupleValues(ParserErrorKind::WasmValueError, want, count);
+        Some(ReadError::at(span, reason))
     }
 
     /// The tuple of these items, each of which was read at its type; it stands here.
@@ -105,30 +106,10 @@ impl<'ty, V: WasmValue> TupleItems<'ty, V::Type, V> {
         requires { WereRead IsRow V.Type.tree V.tree V.is_of V.is_full self }
         ensures { FinishesAs IsRow V.Type.tree V.tree V.is_of V.is_full NodeType.Tuple self.entry span result }
     {
-        let TupleItems {
-            ty,
-            types,
-            items,
-            count,
-        } = self;
-        let want = types.len();
-        if count != want {
-            return Err(wrong_number(span, want, count));
+        if let Some(error) = self.miscounted(span.start..span.end, self.count) {
+            return Err(error);
         }
-        let mut items = items;
+        let TupleItems { ty, mut items, .. } = self;
         or_error_at(alloc, span, V::make_tuple_unchecked(alloc, ty, &mut items))
     }
-}
-
-/// That a tuple, which stands here, has another number of items than its type.
-#[cold]
-#[inline(never)]
-fn wrong_number(span: Span, want: usize, got: usize) -> ReadError
-    ensures refusal { refusal_of result ≡ caused (causes.wrong_number want got) }
-    ensures span { result.span ≡ span }
-{
-    ReadError::at(
-        span,
-        Reason::TupleValues(ParserErrorKind::WasmValueError, want, got),
-    )
 }

@@ -92,10 +92,12 @@ impl<'ty, V: WasmValue> ValueBuilder<'ty, V> {
         ensures { (o w : Order) (source : List ℕ) → AreFlagsOf source flags.entry
             → IsReadSparing V.tree V.is_of V.is_full o w (shown V.Type.tree self.entry.expected) source (node node_type.Flags span (flag_nodes flags.entry)) result }
     {
-        match self.expected {
-            Some(expected) => flags_at(alloc, expected, span, flags),
-            None => Err(ReadError::new(ParserErrorKind::InvalidType, span)),
-        }
+        let Some(expected) = self.expected else {
+            return Err(ReadError::new(ParserErrorKind::InvalidType, span));
+        };
+        let (wrapper, ty) = wrapper_and_type(expected, NodeType::Flags);
+        let built = flags_at::<V>(alloc, ty, span.start..span.end, flags);
+        wrapped(alloc, wrapper, ty, span, built)
     }
 
     /// What is read of a node of flags that stands here, where no flags are expected.

@@ -28,7 +28,7 @@ pub struct CasePayload<'ty, T, V> {
     /// The type of the variant.
     ty: &'ty T,
     /// The name of the case and the type of its payload, once its label was read.
-    case: Option<(&'ty str, &'ty T)>,
+    pub(crate) case: Option<(&'ty str, &'ty T)>,
     /// The payload, once it was read.
     payload: Option<V>,
 }
@@ -43,16 +43,6 @@ impl<'ty, V: WasmValue> CasePayload<'ty, V::Type, V> {
             ty,
             case: None,
             payload: None,
-        }
-    }
-
-    /// The type of the payload, once the label was read.
-    pub(crate) fn next(&self) -> Option<&'ty V::Type>
-        ensures { result ≡ payload_expected self.now }
-    {
-        match self.case {
-            Some((_, payload)) => Some(payload),
-            None => None,
         }
     }
 

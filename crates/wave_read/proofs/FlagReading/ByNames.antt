@@ -25,7 +25,7 @@ use Rattle.wave_grammar.specs.TypedReading.{IsBuilt}
 use Rattle.wave_grammar.proofs.ByKind.Flags.{flags_is, flags_blame, flags_built, flags_of}
 use Rattle.wave_grammar.proofs.ErrorSpans.Nodes.{at_in, form_at, built_in}
 use Rattle.wave_grammar.specs.FlagParts.{AreFlagsOf, label_at, flag_nodes}
-use Rattle.wave_leaf.specs.Reading.{IsReadAs, IsOfType}
+use Rattle.wave_leaf.specs.Reading.{IsReadAs}
 use Rattle.wave_leaf.specs.declared.fault.Fault.{Fault}
 use Rattle.wave_leaf.specs.Faults.{Reports}
 use Rattle.wave_leaf.specs.FaultCauses.{IsFaultOf}
@@ -45,13 +45,7 @@ refuses : (names flags : List (List ℕ)) (source : List ℕ) (n : NodeTree) (e 
 refuses names flags source n e ok named (inl memory) = inl memory
 refuses names flags source n e ok named (inr first) = inr (inr (ok, subst (λ (fs : List (List ℕ)). IsFirstUnknown names fs n e) (sym named) first))
 
--- what was reported is of the type where it was read so; a fault is no value
-pub reported_typed : {V : Type 0} (of : V → TypeTree → Type 0) (T : TypeTree) (read : Result V Fault) (p : Range ℕ) (r : Result V Diagnostic) → IsReported read p r → IfOk read (λ v. HasDistinctNames T → of v T) → IsOfType of T r
-reported_typed {V} of T (Ok v) p (Ok w) same typed = subst (λ (x : V). HasDistinctNames T → of x T) (sym same) typed
-reported_typed of T (Err f) p (Err e) reported typed = tt
-reported_typed of T (Ok v) p (Err e) reported typed = absurd reported
-reported_typed of T (Err f) p (Ok w) reported typed = absurd reported
-
+-- a fault is no value
 pub no_value : {V : Type 0} (of : V → TypeTree → Type 0) (T : TypeTree) (P : Fault → Type 0) (read : Result V Fault) → IsErrAnd read P → IfOk read (λ v. HasDistinctNames T → of v T)
 no_value of T P (Ok v) refused = absurd refused
 no_value of T P (Err f) refused = tt

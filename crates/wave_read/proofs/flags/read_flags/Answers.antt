@@ -1,13 +1,14 @@
-use Rattle.std.proofs.Common.{inl, refl}
-use Rattle.wave_grammar.specs.NodeTree.{node}
-use Rattle.wave_grammar.specs.declared.form.NodeType.TheVariants as node_type
-use Rattle.wave_grammar.specs.FlagParts.{flag_nodes}
-use Rattle.wave_read.proofs.FlagReading.ByNames.{names_are, reported_typed}
+use Rattle.std.proofs.Common.{Ok, Err, refl, sym, subst}
+use Rattle.wave_grammar.specs.NodeTree.{place_of}
+use Rattle.wave_leaf.specs.Faults.{Reports}
+use Rattle.wave_read.specs.Private.NamedFlags.{IsReported}
 use Rattle.wave_read.proofs.flags.read_flags.Goals as goal
 
-pub returns-clause-read : goal.returns-clause-read
-returns-clause-read g c = λ o w source flags.
-    c.read_names.ensures.read source (node node_type.Flags c.args.span (flag_nodes c.args.flags)) (inl refl) (names_are source c.args.flags flags) o w c.reported.result c.reported.ensures
+pub returns-in-Ok-clause-read : goal.returns-in-Ok-clause-read
+returns-in-Ok-clause-read g c = λ o w source n flags place named.
+    c.read_names.ensures.read source n flags named o w (Ok c.in-Ok.val) (subst (λ r. IsReported r (place_of n) (Ok c.in-Ok.val)) (sym c.in-Ok.is) refl)
 
-pub returns-clause-typed : goal.returns-clause-typed
-returns-clause-typed g c = reported_typed g.V.WasmValue.is_of (g.V.Type.WasmType.tree c.args.ty.now) c.read_names.result c.args.span c.reported.result c.reported.ensures c.read_names.ensures.typed
+pub returns-in-Err-clause-read : goal.returns-in-Err-clause-read
+returns-in-Err-clause-read g c = λ o w source n flags place named.
+    c.read_names.ensures.read source n flags named o w (Err c.report.result)
+    (subst (λ r. IsReported r (place_of n) (Err c.report.result)) (sym c.in-Err.is) (subst (λ p. Reports c.in-Err.fault p c.report.result) (sym place) c.report.ensures))

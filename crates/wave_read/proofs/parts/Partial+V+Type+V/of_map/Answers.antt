@@ -13,5 +13,5 @@ returns-in-EmptySet g c =
     sound g.V.Type.WasmType.tree g.V.WasmValue.tree g.V.WasmValue.is_of g.V.WasmValue.is_full _ c.args.of _ (λ f e. cc) (λ w source parts. (c.in-EmptySet.is, refl, refl, subst TakesEmptySet (sym is) tt))
 
 pub returns-in_default : goal.returns-in_default
-returns-in_default g c = wrong g.V.Type.WasmType.tree g.V.WasmValue.tree g.V.WasmValue.is_of g.V.WasmValue.is_full _ c.args.of c.wrong_form.result c.wrong_form.ensures
+returns-in_default g c = wrong g.V.Type.WasmType.tree g.V.WasmValue.tree g.V.WasmValue.is_of g.V.WasmValue.is_full _ c.args.of c.refused.result c.refused.ensures
     (λ o w source n e parts is refused. other_form g.V.WasmValue.tree g.V.WasmValue.is_of g.V.WasmValue.is_full o w _ source n e c.requires (λ f. c.in_default.not-TupleSet (sym is ∙ f)) (λ f. c.in_default.not-EmptySet (sym is ∙ f)) refused)

@@ -10,5 +10,14 @@ returns-in-Items-clause-grown g c = where_ok _ _ c.push_part.result (λ done kep
 pub returns-in-Items-clause-bare : goal.returns-in-Items-clause-bare
 returns-in-Items-clause-bare g c = λ bare. absurd (rw c.in-Items.is at bare)
 
-pub push_other_part-requires : goal.push_other_part-requires
-push_other_part-requires g c = no_items c.args.self.now c.in_default.not-Items
+pub push_value-requires : goal.push_value-requires
+push_value-requires g c = no_items c.args.self.now c.in_default.not-Items
+
+pub push_failed-requires : goal.push_failed-requires
+push_failed-requires g c = no_items c.args.self.now c.in_default.not-Items
+
+pub returns-in-Ok-clause-grown : goal.returns-in-Ok-clause-grown
+returns-in-Ok-clause-grown g c = where_ok _ _ c.push_value.result (λ done kept. λ w T source of children n takes parts expected. kept w T source of children n takes parts (rw c.in-Ok.is at expected)) c.push_value.ensures.grown
+
+pub returns-in-Err-clause-grown : goal.returns-in-Err-clause-grown
+returns-in-Err-clause-grown g c = where_ok _ _ c.push_failed.result (λ done kept. λ w T source of children n takes parts expected. kept w T source of children n takes parts (rw c.in-Err.is at expected)) c.push_failed.ensures.grown
