@@ -20,6 +20,7 @@ ghost use Rattle.wave_node.specs.Private.NodeForms.{IsOfOneToken};
 use crate::ast::{Node, NodeType};
 use std::alloc::{AllocError, Global};
 use std::collections::BTreeMap;
+use wave_grammar::builder::Builder;
 use wave_grammar::label::label_name;
 use wave_leaf::error::ReadError;
 use wave_leaf::fault::or_error_at;
@@ -84,7 +85,7 @@ impl Node {
         requires form { IsOfOneToken self.now }
         ensures { IsReadSparing V.tree V.is_of V.is_full by_type by_type (shown V.Type.tree builder.entry.expected) src.now self.now result }
     {
-        builder.token(alloc, self.ty(), self.span(), self.slice(src))
+        builder.leaf(alloc, self.ty(), self.span(), self.slice(src))
     }
 
     /// What the builder makes of a node of flags. Their names are kept only where flags are expected.
@@ -103,7 +104,7 @@ impl Node {
             return Ok(built);
         }
         let flags = self.places_by_name(alloc, src)?;
-        Ok(builder.names(alloc, self.span(), flags))
+        builder.flags(alloc, self.span(), flags)
     }
 
     /// The places of the labels of a node of flags, by their names.
@@ -140,7 +141,7 @@ impl Node {
         ensures { IfOk result (IsReadSparing V.tree V.is_of V.is_full by_type by_type (shown V.Type.tree builder.entry.expected) src.now self.now) }
     {
         let ty = self.ty();
-        let mut parts = builder.begin(alloc, ty);
+        let mut parts = builder.parts(alloc, ty);
         let nodes = self.nodes();
         if let Some(error) = self.refused_at_once(&parts) {
             return Ok(Err(error));
@@ -149,13 +150,13 @@ impl Node {
             let node = &nodes[i];
             if self.takes_key(i) {
                 let key = node.leaf(src);
-                parts.push_key(alloc, key.ty, key.span, key.text)?;
+                builder.push_key(alloc, &mut parts, key.ty, key.span, key.text)?;
             } else {
-                let built = node.make(alloc, parts.next(), src)?;
-                parts.push_part(alloc, built)?;
+                let built = node.make(alloc, builder.part(&parts), src)?;
+                builder.push_part(alloc, &mut parts, built)?;
             }
         }
-        Ok(parts.finish(alloc, self.span()))
+        Ok(builder.finish(alloc, ty, self.span(), parts))
     }
 
     /// The refusal of a node that has parts before any of them is read: where the type takes no such form,

@@ -64,42 +64,6 @@ impl<'ty, V: WasmValue> ValueBuilder<'ty, V> {
         }
     }
 
-    /// What is read of a node of one token, of this text, which stands there in some source.
-    #[inline(always)]
-    pub fn token(self, alloc: Global, ty: NodeType, span: Span, text: &str) -> Result<V, ReadError>
-        requires one { IsOneToken ty }
-        requires text { (source : List ℕ) × (text.now ≡ slice source span) }
-        ensures { (o w : Order) (source : List ℕ) → IsOneToken ty → text.now ≡ slice source span
-            → IsReadSparing V.tree V.is_of V.is_full o w (shown V.Type.tree self.entry.expected) source (node ty span no_nodes) result }
-    {
-        let leaf = Leaf { ty, span, text };
-        match self.expected {
-            Some(expected) => match leaf.read_fast(alloc, expected) {
-                Some(val) => Ok(val),
-                None => read_leaf(&leaf, alloc, expected),
-            },
-            None => Err(ReadError::new(ParserErrorKind::InvalidType, leaf.span)),
-        }
-    }
-
-    /// What is read of a node of these flags.
-    pub fn names(
-        self,
-        alloc: Global,
-        span: Span,
-        flags: BTreeMap<&str, Span>,
-    ) -> Result<V, ReadError>
-        ensures { (o w : Order) (source : List ℕ) → AreFlagsOf source flags.entry
-            → IsReadSparing V.tree V.is_of V.is_full o w (shown V.Type.tree self.entry.expected) source (node node_type.Flags span (flag_nodes flags.entry)) result }
-    {
-        let Some(expected) = self.expected else {
-            return Err(ReadError::new(ParserErrorKind::InvalidType, span));
-        };
-        let (wrapper, ty) = wrapper_and_type(expected, NodeType::Flags);
-        let built = flags_at::<V>(alloc, ty, span.start..span.end, flags);
-        wrapped(alloc, wrapper, ty, span, built)
-    }
-
     /// What is read of a node of flags that stands here, where no flags are expected.
     pub fn no_flags(self, alloc: Global, span: Span) -> Option<Result<V, ReadError>>
         ensures read { IfSome result (λ built. (o w : Order) (source : List ℕ) (n : NodeTree) → type_of n ≡ node_type.Flags → place_of n ≡ span
@@ -118,20 +82,26 @@ impl<'ty, V: WasmValue> ValueBuilder<'ty, V> {
         Some(wrapped(alloc, wrapper, ty, span, built))
     }
 
-    /// No parts yet, of a node of this type, which has parts.
-    #[inline(always)]
-    pub fn begin(self, alloc: Global, ty: NodeType) -> Frame<'ty, V::Type, V>
-        ensures begun { (w : Order) (source : List ℕ) → IsOfParts ty
-            → AreKeptWhereExpected V.Type.tree V.tree V.is_of V.is_full w (shown V.Type.tree self.entry.expected) source ty [] result }
-        ensures rejected { (T : TypeTree) → shown V.Type.tree self.entry.expected ≡ Some T → AreRefusedAtOnce V.Type.tree V.tree V.is_of V.is_full T ty result.parts }
+    /// Adds the part of this token, which is read by the builder of the part.
+    #[inline(never)]
+    fn push_token(
+        self,
+        alloc: Global,
+        parts: &mut Frame<'ty, V::Type, V>,
+        leaf: &Leaf<'_>,
+    ) -> Result<(), AllocError>
+        requires { IsTokenOfSome leaf.now }
+        ensures kept { IfOk result (λ _. (w : Order) (expected : Option TypeTree) (source : List ℕ) (whole : NodeType) (children : List NodeTree)
+            → IsLeafIn source leaf.now → TakesPart whole children
+            → AreKeptWhereExpected V.Type.tree V.tree V.is_of V.is_full w expected source whole children parts.old
+            → AreKeptWhereExpected V.Type.tree V.tree V.is_of V.is_full w expected source whole (children ++ leaf_node leaf.now ∷ []) parts.new) }
+        ensures memory { IfErr result (λ _. (w : Order) (expected : Option TypeTree) (source : List ℕ) (whole : NodeType) (children : List NodeTree)
+            → AreKeptWhereExpected V.Type.tree V.tree V.is_of V.is_full w expected source whole children parts.old → TakesMemory expected) }
     {
-        match self.expected {
-            Some(expected) => Frame::new(alloc, expected, ty),
-            None => Frame {
-                wrapper: None,
-                parts: Partial::Faulty(Fault::Whole(Reason::Plain(ParserErrorKind::InvalidType))),
-            },
-        }
+        let built = self
+            .part(parts)
+            .leaf(alloc, leaf.ty, leaf.span.start..leaf.span.end, leaf.text);
+        self.push_part(alloc, parts, built)
     }
 }
 
@@ -193,110 +163,6 @@ impl<'ty, V: WasmValue> Frame<'ty, V::Type, V> {
             _ => None,
         }
     }
-
-    /// The builder of the part that comes next.
-    pub fn next(&self) -> ValueBuilder<'ty, V>
-        ensures { result.expected ≡ next_expected self.now.parts }
-    {
-        ValueBuilder {
-            expected: self.parts.next(),
-        }
-    }
-
-    /// Adds a key or the label of a case.
-    pub fn push_key(
-        &mut self,
-        alloc: Global,
-        ty: NodeType,
-        span: Span,
-        text: &str,
-    ) -> Result<(), AllocError>
-        ensures kept { IfOk result (λ _. (w : Order) (expected : Option TypeTree) (source : List ℕ) (whole : NodeType) (children : List NodeTree)
-            → text.now ≡ slice source span → TakesKey whole children
-            → AreKeptWhereExpected V.Type.tree V.tree V.is_of V.is_full w expected source whole children self.old
-            → AreKeptWhereExpected V.Type.tree V.tree V.is_of V.is_full w expected source whole (children ++ node ty span no_nodes ∷ []) self.new) }
-        ensures memory { IfErr result (λ _. (w : Order) (expected : Option TypeTree) (source : List ℕ) (whole : NodeType) (children : List NodeTree)
-            → AreKeptWhereExpected V.Type.tree V.tree V.is_of V.is_full w expected source whole children self.old → TakesMemory expected) }
-    {
-        self.parts.push_key(alloc, ty, span, text)
-    }
-
-    /// Adds a part, which was read by the builder of the next part.
-    #[inline(always)]
-    pub fn push_part(
-        &mut self,
-        alloc: Global,
-        built: Result<V, ReadError>,
-    ) -> Result<(), AllocError>
-        ensures kept { IfOk result (λ _. (w : Order) (expected : Option TypeTree) (source : List ℕ) (whole : NodeType) (children : List NodeTree) (n : NodeTree)
-            → TakesPart whole children → AreKeptWhereExpected V.Type.tree V.tree V.is_of V.is_full w expected source whole children self.old
-            → IsReadSparing V.tree V.is_of V.is_full w w (shown V.Type.tree (next_expected self.old.parts)) source n built
-            → AreKeptWhereExpected V.Type.tree V.tree V.is_of V.is_full w expected source whole (children ++ n ∷ []) self.new) }
-        ensures memory { IfErr result (λ _. (w : Order) (expected : Option TypeTree) (source : List ℕ) (whole : NodeType) (children : List NodeTree)
-            → AreKeptWhereExpected V.Type.tree V.tree V.is_of V.is_full w expected source whole children self.old → TakesMemory expected) }
-    {
-        self.parts.push_part(alloc, built)
-    }
-
-    /// Adds a part of one token, of this text, which stands there in some source.
-    #[inline(always)]
-    pub fn push_leaf(
-        &mut self,
-        alloc: Global,
-        ty: NodeType,
-        span: Span,
-        text: &str,
-    ) -> Result<(), AllocError>
-        requires one { IsOneToken ty }
-        requires text { (source : List ℕ) × (text.now ≡ slice source span) }
-        ensures kept { IfOk result (λ _. (w : Order) (expected : Option TypeTree) (source : List ℕ) (whole : NodeType) (children : List NodeTree)
-            → text.now ≡ slice source span → TakesPart whole children
-            → AreKeptWhereExpected V.Type.tree V.tree V.is_of V.is_full w expected source whole children self.old
-            → AreKeptWhereExpected V.Type.tree V.tree V.is_of V.is_full w expected source whole (children ++ node ty span no_nodes ∷ []) self.new) }
-        ensures memory { IfErr result (λ _. (w : Order) (expected : Option TypeTree) (source : List ℕ) (whole : NodeType) (children : List NodeTree)
-            → AreKeptWhereExpected V.Type.tree V.tree V.is_of V.is_full w expected source whole children self.old → TakesMemory expected) }
-    {
-        let leaf = Leaf { ty, span, text };
-        if self.parts.push_fast(alloc, &leaf)? {
-            return Ok(());
-        }
-        self.push_token(alloc, &leaf)
-    }
-
-    /// The same, by the builder of the part.
-    #[inline(never)]
-    fn push_token(&mut self, alloc: Global, leaf: &Leaf<'_>) -> Result<(), AllocError>
-        requires { IsTokenOfSome leaf.now }
-        ensures kept { IfOk result (λ _. (w : Order) (expected : Option TypeTree) (source : List ℕ) (whole : NodeType) (children : List NodeTree)
-            → IsLeafIn source leaf.now → TakesPart whole children
-            → AreKeptWhereExpected V.Type.tree V.tree V.is_of V.is_full w expected source whole children self.old
-            → AreKeptWhereExpected V.Type.tree V.tree V.is_of V.is_full w expected source whole (children ++ leaf_node leaf.now ∷ []) self.new) }
-        ensures memory { IfErr result (λ _. (w : Order) (expected : Option TypeTree) (source : List ℕ) (whole : NodeType) (children : List NodeTree)
-            → AreKeptWhereExpected V.Type.tree V.tree V.is_of V.is_full w expected source whole children self.old → TakesMemory expected) }
-    {
-        let built = self
-            .next()
-            .token(alloc, leaf.ty, leaf.span.start..leaf.span.end, leaf.text);
-        self.push_part(alloc, built)
-    }
-
-    /// What is read of a node that stands here and has these parts, which were read of a node's children.
-    pub fn finish(self, alloc: Global, span: Span) -> Result<V, ReadError>
-        requires { AreKeptOfSome V.Type.tree V.tree V.is_of V.is_full self }
-        ensures { (w : Order) (expected : Option TypeTree) (source : List ℕ) (ty : NodeType) (children : List NodeTree)
-            → AreKeptWhereExpected V.Type.tree V.tree V.is_of V.is_full w expected source ty children self.entry
-            → IsReadSparing V.tree V.is_of V.is_full in_text w expected source (node ty span (node_trees children)) result }
-    {
-        let Frame { wrapper: ty, parts } = self;
-        match ty {
-            Some(ty) => {
-                let place = span.start..span.end;
-                let built = parts.finish(alloc, span);
-                wrap(alloc, ty, place, built)
-            }
-            None => parts.finish(alloc, span),
-        }
-    }
 }
 
 impl<'ty, V: WasmValue> Builder for ValueBuilder<'ty, V> {
@@ -323,18 +189,42 @@ impl<'ty, V: WasmValue> Builder for ValueBuilder<'ty, V> {
         next_takes V.Type.tree V.tree V.is_of V.is_full in_text (shown V.Type.tree builder.expected) source ty children kept are takes };
 
     #[inline(always)]
-    fn leaf(self, alloc: Global, ty: NodeType, span: Span, text: &str) -> Result<V, ReadError> {
-        self.token(alloc, ty, span, text)
+    fn leaf(self, alloc: Global, ty: NodeType, span: Span, text: &str) -> Result<V, ReadError>
+        requires one { IsOneToken ty }
+        requires text { (source : List ℕ) × (text.now ≡ slice source span) }
+        ensures { (o w : Order) (source : List ℕ) → IsOneToken ty → text.now ≡ slice source span
+            → IsReadSparing V.tree V.is_of V.is_full o w (shown V.Type.tree self.entry.expected) source (node ty span no_nodes) result }
+    {
+        let leaf = Leaf { ty, span, text };
+        match self.expected {
+            Some(expected) => match leaf.read_fast(alloc, expected) {
+                Some(val) => Ok(val),
+                None => read_leaf(&leaf, alloc, expected),
+            },
+            None => Err(ReadError::new(ParserErrorKind::InvalidType, leaf.span)),
+        }
     }
 
     #[inline(always)]
-    fn parts(self, alloc: Global, ty: NodeType) -> Frame<'ty, V::Type, V> {
-        self.begin(alloc, ty)
+    fn parts(self, alloc: Global, ty: NodeType) -> Frame<'ty, V::Type, V>
+        ensures begun { (w : Order) (source : List ℕ) → IsOfParts ty
+            → AreKeptWhereExpected V.Type.tree V.tree V.is_of V.is_full w (shown V.Type.tree self.entry.expected) source ty [] result }
+        ensures rejected { (T : TypeTree) → shown V.Type.tree self.entry.expected ≡ Some T → AreRefusedAtOnce V.Type.tree V.tree V.is_of V.is_full T ty result.parts }
+    {
+        match self.expected {
+            Some(expected) => Frame::new(alloc, expected, ty),
+            None => Frame {
+                wrapper: None,
+                parts: Partial::Faulty(Fault::Whole(Reason::Plain(ParserErrorKind::InvalidType))),
+            },
+        }
     }
 
     #[inline(always)]
     fn part(self, parts: &Frame<'ty, V::Type, V>) -> Self {
-        parts.next()
+        ValueBuilder {
+            expected: parts.parts.next(),
+        }
     }
 
     #[inline(always)]
@@ -345,8 +235,15 @@ impl<'ty, V: WasmValue> Builder for ValueBuilder<'ty, V> {
         ty: NodeType,
         span: Span,
         text: &str,
-    ) -> Result<(), AllocError> {
-        parts.push_key(alloc, ty, span, text)
+    ) -> Result<(), AllocError>
+        ensures kept { IfOk result (λ _. (w : Order) (expected : Option TypeTree) (source : List ℕ) (whole : NodeType) (children : List NodeTree)
+            → text.now ≡ slice source span → TakesKey whole children
+            → AreKeptWhereExpected V.Type.tree V.tree V.is_of V.is_full w expected source whole children parts.old
+            → AreKeptWhereExpected V.Type.tree V.tree V.is_of V.is_full w expected source whole (children ++ node ty span no_nodes ∷ []) parts.new) }
+        ensures memory { IfErr result (λ _. (w : Order) (expected : Option TypeTree) (source : List ℕ) (whole : NodeType) (children : List NodeTree)
+            → AreKeptWhereExpected V.Type.tree V.tree V.is_of V.is_full w expected source whole children parts.old → TakesMemory expected) }
+    {
+        parts.parts.push_key(alloc, ty, span, text)
     }
 
     #[inline(always)]
@@ -355,8 +252,15 @@ impl<'ty, V: WasmValue> Builder for ValueBuilder<'ty, V> {
         alloc: Global,
         parts: &mut Frame<'ty, V::Type, V>,
         built: Result<V, ReadError>,
-    ) -> Result<(), AllocError> {
-        parts.push_part(alloc, built)
+    ) -> Result<(), AllocError>
+        ensures kept { IfOk result (λ _. (w : Order) (expected : Option TypeTree) (source : List ℕ) (whole : NodeType) (children : List NodeTree) (n : NodeTree)
+            → TakesPart whole children → AreKeptWhereExpected V.Type.tree V.tree V.is_of V.is_full w expected source whole children parts.old
+            → IsReadSparing V.tree V.is_of V.is_full w w (shown V.Type.tree (next_expected parts.old.parts)) source n built
+            → AreKeptWhereExpected V.Type.tree V.tree V.is_of V.is_full w expected source whole (children ++ n ∷ []) parts.new) }
+        ensures memory { IfErr result (λ _. (w : Order) (expected : Option TypeTree) (source : List ℕ) (whole : NodeType) (children : List NodeTree)
+            → AreKeptWhereExpected V.Type.tree V.tree V.is_of V.is_full w expected source whole children parts.old → TakesMemory expected) }
+    {
+        parts.parts.push_part(alloc, built)
     }
 
     #[inline(always)]
@@ -368,7 +272,11 @@ impl<'ty, V: WasmValue> Builder for ValueBuilder<'ty, V> {
         span: Span,
         text: &str,
     ) -> Result<(), AllocError> {
-        parts.push_leaf(alloc, ty, span, text)
+        let leaf = Leaf { ty, span, text };
+        if parts.parts.push_fast(alloc, &leaf)? {
+            return Ok(());
+        }
+        self.push_token(alloc, parts, &leaf)
     }
 
     #[inline(always)]
@@ -378,8 +286,24 @@ impl<'ty, V: WasmValue> Builder for ValueBuilder<'ty, V> {
         ty: NodeType,
         span: Span,
         parts: Frame<'ty, V::Type, V>,
-    ) -> Result<V, ReadError> {
-        parts.finish(alloc, span)
+    ) -> Result<V, ReadError>
+        requires { AreKeptOfSome V.Type.tree V.tree V.is_of V.is_full parts }
+        ensures { (w : Order) (expected : Option TypeTree) (source : List ℕ) (of : NodeType) (children : List NodeTree)
+            → AreKeptWhereExpected V.Type.tree V.tree V.is_of V.is_full w expected source of children parts.entry
+            → IsReadSparing V.tree V.is_of V.is_full in_text w expected source (node of span (node_trees children)) result }
+    {
+        let Frame {
+            wrapper: whole,
+            parts,
+        } = parts;
+        match whole {
+            Some(whole) => {
+                let place = span.start..span.end;
+                let built = parts.finish(alloc, span);
+                wrap(alloc, whole, place, built)
+            }
+            None => parts.finish(alloc, span),
+        }
     }
 
     fn flags(
@@ -387,7 +311,15 @@ impl<'ty, V: WasmValue> Builder for ValueBuilder<'ty, V> {
         alloc: Global,
         span: Span,
         flags: BTreeMap<&str, Span>,
-    ) -> Result<Result<V, ReadError>, AllocError> {
-        Ok(self.names(alloc, span, flags))
+    ) -> Result<Result<V, ReadError>, AllocError>
+        ensures { IfOk result (λ built. (o w : Order) (source : List ℕ) → AreFlagsOf source flags.entry
+            → IsReadSparing V.tree V.is_of V.is_full o w (shown V.Type.tree self.entry.expected) source (node node_type.Flags span (flag_nodes flags.entry)) built) }
+    {
+        let Some(expected) = self.expected else {
+            return Ok(Err(ReadError::new(ParserErrorKind::InvalidType, span)));
+        };
+        let (wrapper, ty) = wrapper_and_type(expected, NodeType::Flags);
+        let built = flags_at::<V>(alloc, ty, span.start..span.end, flags);
+        Ok(wrapped(alloc, wrapper, ty, span, built))
     }
 }

@@ -180,8 +180,8 @@ make_of_parts-returns-in-Some g t c =
     let form : IsOfParts (type_of c.args.self.now) = assumption in
     let parts : IsOfParts c.ty-ty.result = subst IsOfParts (sym c.ty-ty.ensures) form in
     c.in-Some.ensures.refused by_type (shown g.V.Type.WasmType.tree c.args.builder.expected) c.args.src.now form
-    (subst (λ (k : NodeType). AreKeptWhereExpected g.V.Type.WasmType.tree g.V.WasmValue.tree g.V.WasmValue.is_of g.V.WasmValue.is_full by_type (shown g.V.Type.WasmType.tree c.args.builder.expected) c.args.src.now k [] c.begin-parts.result) c.ty-ty.ensures (c.begin-parts.ensures.begun by_type c.args.src.now parts))
-    (λ T expected. subst (λ (k : NodeType). AreRefusedAtOnce g.V.Type.WasmType.tree g.V.WasmValue.tree g.V.WasmValue.is_of g.V.WasmValue.is_full T k c.begin-parts.result.parts) c.ty-ty.ensures (c.begin-parts.ensures.rejected T expected))
+    (subst (λ (k : NodeType). AreKeptWhereExpected g.V.Type.WasmType.tree g.V.WasmValue.tree g.V.WasmValue.is_of g.V.WasmValue.is_full by_type (shown g.V.Type.WasmType.tree c.args.builder.expected) c.args.src.now k [] c.parts-parts.result) c.ty-ty.ensures (c.parts-parts.ensures.begun by_type c.args.src.now parts))
+    (λ T expected. subst (λ (k : NodeType). AreRefusedAtOnce g.V.Type.WasmType.tree g.V.WasmValue.tree g.V.WasmValue.is_of g.V.WasmValue.is_full T k c.parts-parts.result.parts) c.ty-ty.ensures (c.parts-parts.ensures.rejected T expected))
 
 pub make-make_of_parts-requires : goal.make-make_of_parts-requires
 make-make_of_parts-requires g t c κs within =
@@ -227,13 +227,13 @@ make_of_parts-loop-i-preserved g t c =
           let key : IsKeyOf c.args.src.now c.index-nodes-i.result = key_child c.args.src.now c.args.self.now c.nodes-nodes.result.now c.loop-i.i c.index-nodes-i.result value c.nodes-nodes.ensures next c.loop-i-test.true c.index-nodes-i.is in
           let here : leaf_node w.leaf-key.result ≡ c.index-nodes-i.result = w.leaf-key.ensures.node ∙ sym (key_alone c.args.src.now c.index-nodes-i.result key) in
           subst (λ p. AreKeptWhereExpected g.V.Type.WasmType.tree g.V.WasmValue.tree g.V.WasmValue.is_of g.V.WasmValue.is_full by_type (shown g.V.Type.WasmType.tree c.args.builder.expected) c.args.src.now (type_of c.args.self.now) (take (c.loop-i.i + 1) (children_of c.args.self.now)) p) (sym w.parts-is)
-          (subst (λ (l : List NodeTree). AreKeptWhereExpected g.V.Type.WasmType.tree g.V.WasmValue.tree g.V.WasmValue.is_of g.V.WasmValue.is_full by_type (shown g.V.Type.WasmType.tree c.args.builder.expected) c.args.src.now (type_of c.args.self.now) l w.push_key.new.self) (ap (λ (x : NodeTree). take c.loop-i.i (children_of c.args.self.now) ++ x ∷ []) here ∙ more)
+          (subst (λ (l : List NodeTree). AreKeptWhereExpected g.V.Type.WasmType.tree g.V.WasmValue.tree g.V.WasmValue.is_of g.V.WasmValue.is_full by_type (shown g.V.Type.WasmType.tree c.args.builder.expected) c.args.src.now (type_of c.args.self.now) l w.push_key.new.parts) (ap (λ (x : NodeTree). take c.loop-i.i (children_of c.args.self.now) ++ x ∷ []) here ∙ more)
           (w.in_ok-push_key.ensures.kept by_type (shown g.V.Type.WasmType.tree c.args.builder.expected) c.args.src.now (type_of c.args.self.now) (take c.loop-i.i (children_of c.args.self.now)) w.leaf-key.ensures.text next c.loop-i.invariant))
       | make_of_parts-else-takes_key+in_ok-built+in_ok-push_part w ↦
           let next : TakesPart (type_of c.args.self.now) (take c.loop-i.i (children_of c.args.self.now)) = if_false _ c.takes_key.result reported w.if-takes_key.false in
-          let built = subst (λ (o : Option _). IsReadSparing g.V.WasmValue.tree g.V.WasmValue.is_of g.V.WasmValue.is_full by_type by_type (shown g.V.Type.WasmType.tree o) c.args.src.now c.index-nodes-i.result w.in_ok-built.built) w.next.ensures w.in_ok-built.ensures in
+          let built = subst (λ (o : Option _). IsReadSparing g.V.WasmValue.tree g.V.WasmValue.is_of g.V.WasmValue.is_full by_type by_type (shown g.V.Type.WasmType.tree o) c.args.src.now c.index-nodes-i.result w.in_ok-built.built) (ap (λ b. b.expected) w.part.ensures) w.in_ok-built.ensures in
           subst (λ p. AreKeptWhereExpected g.V.Type.WasmType.tree g.V.WasmValue.tree g.V.WasmValue.is_of g.V.WasmValue.is_full by_type (shown g.V.Type.WasmType.tree c.args.builder.expected) c.args.src.now (type_of c.args.self.now) (take (c.loop-i.i + 1) (children_of c.args.self.now)) p) (sym w.parts-is)
-          (subst (λ (l : List NodeTree). AreKeptWhereExpected g.V.Type.WasmType.tree g.V.WasmValue.tree g.V.WasmValue.is_of g.V.WasmValue.is_full by_type (shown g.V.Type.WasmType.tree c.args.builder.expected) c.args.src.now (type_of c.args.self.now) l w.push_part.new.self) more
+          (subst (λ (l : List NodeTree). AreKeptWhereExpected g.V.Type.WasmType.tree g.V.WasmValue.tree g.V.WasmValue.is_of g.V.WasmValue.is_full by_type (shown g.V.Type.WasmType.tree c.args.builder.expected) c.args.src.now (type_of c.args.self.now) l w.push_part.new.parts) more
           (w.in_ok-push_part.ensures.kept by_type (shown g.V.Type.WasmType.tree c.args.builder.expected) c.args.src.now (type_of c.args.self.now) (take c.loop-i.i (children_of c.args.self.now)) c.index-nodes-i.result next c.loop-i.invariant built))
     ]
 
@@ -251,6 +251,6 @@ make_of_parts-returns g t c =
     (c.finish.ensures by_type (shown g.V.Type.WasmType.tree c.args.builder.expected) c.args.src.now (type_of c.args.self.now) (children_of c.args.self.now) all) in
     read_by_type g.V.WasmValue.tree g.V.WasmValue.is_of g.V.WasmValue.is_full by_type (shown g.V.Type.WasmType.tree c.args.builder.expected) c.args.src.now c.args.self.now c.finish.result no_record
     (λ T expected.
-    let begun = subst (λ (o : Option TypeTree). AreKeptWhereExpected g.V.Type.WasmType.tree g.V.WasmValue.tree g.V.WasmValue.is_of g.V.WasmValue.is_full by_type o c.args.src.now c.ty-ty.result [] c.begin-parts.result) expected (c.begin-parts.ensures.begun by_type c.args.src.now parts) in
-    c.in_default.ensures.counted by_type T c.args.src.now form (subst (λ (k : NodeType). AreKeptWhereExpected g.V.Type.WasmType.tree g.V.WasmValue.tree g.V.WasmValue.is_of g.V.WasmValue.is_full by_type (Some T) c.args.src.now k [] c.begin-parts.result) c.ty-ty.ensures begun)
-    (subst (λ (k : NodeType). AreRefusedAtOnce g.V.Type.WasmType.tree g.V.WasmValue.tree g.V.WasmValue.is_of g.V.WasmValue.is_full T k c.begin-parts.result.parts) c.ty-ty.ensures (c.begin-parts.ensures.rejected T expected))) read
+    let begun = subst (λ (o : Option TypeTree). AreKeptWhereExpected g.V.Type.WasmType.tree g.V.WasmValue.tree g.V.WasmValue.is_of g.V.WasmValue.is_full by_type o c.args.src.now c.ty-ty.result [] c.parts-parts.result) expected (c.parts-parts.ensures.begun by_type c.args.src.now parts) in
+    c.in_default.ensures.counted by_type T c.args.src.now form (subst (λ (k : NodeType). AreKeptWhereExpected g.V.Type.WasmType.tree g.V.WasmValue.tree g.V.WasmValue.is_of g.V.WasmValue.is_full by_type (Some T) c.args.src.now k [] c.parts-parts.result) c.ty-ty.ensures begun)
+    (subst (λ (k : NodeType). AreRefusedAtOnce g.V.Type.WasmType.tree g.V.WasmValue.tree g.V.WasmValue.is_of g.V.WasmValue.is_full T k c.parts-parts.result.parts) c.ty-ty.ensures (c.parts-parts.ensures.rejected T expected))) read
