@@ -4,7 +4,7 @@ use Rattle.std.specs.List.{filter, list_any}
 use Rattle.std.specs.declared.ops.Range.{Range}
 use Rattle.wave_lex.specs.declared.lex.Token as lex
 use Rattle.wave_lex.specs.declared.lex.Token.TheVariants.{BraceOpen, BraceClose, ParenOpen, ParenClose, BracketOpen, BracketClose}
-use Rattle.wave_lex.specs.declared.lex.Token.TheVariants.{Colon, Comma, Number, LabelOrKeyword}
+use Rattle.wave_lex.specs.declared.lex.Token.TheVariants.{Colon, Comma, Number, LabelOrKeyword, Char, String, MultilineString}
 use Rattle.wave_lex.specs.Errors.{class_name}
 use Rattle.wave_lex.specs.Tokenization.{Lexed, NextIs, IsToken, span}
 use Rattle.wave_lex.specs.FunctionName.{IsName}
@@ -87,6 +87,15 @@ pub record IsExpectedFrom (first : Lexed) (at : ℕ) (Follows : List Token → l
   pub classes : (c : lex.Token) → Contains e.classes.items c ↔ Follows (map (token_at first.source) before) c
   pub end : IsTrue e.may_end ↔ AreWhole (map (token_at first.source) before)
   pub open_there : e.open_brackets.items ≡ open_brackets before
+
+-- all classes of tokens, in the order of the variants of `Token`
+abbrev pub every_class : List lex.Token
+every_class = BraceOpen ∷ BraceClose ∷ ParenOpen ∷ ParenClose ∷ BracketOpen ∷ BracketClose ∷ Colon ∷ Comma ∷ Number ∷ LabelOrKeyword ∷ Char ∷ String ∷ MultilineString ∷ []
+
+-- some of the classes, each once, in that order
+pub record AreInOrder (classes : List lex.Token) : Type 0 where
+  pub test : lex.Token → Bool
+  pub those : classes ≡ filter test every_class
 
 -- at this place of the source this is what may stand, as the tokens before begin a value within n levels
 abbrev pub IsExpected : List ℕ → ℕ → ℕ → Expected → Type 0

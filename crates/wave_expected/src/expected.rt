@@ -1,7 +1,7 @@
 //! What may stand at a place of a text: in place of a token that is refused, or at the end.
 ghost use Rattle.std.specs.Prelude.{◌≡◌, ◌↔◌, ◌≤◌, ◌<◌, ◌+◌, ℕ, Some, Ok, IfOk, IsTrue, MatchOption, Contains};
 ghost use Rattle.wave_lex.specs.Tokenization.{Lexed, NextIs};
-ghost use Rattle.wave_expected.specs.Expected.{IsExpected, IsExpectedFrom, MayFollow, AreAValue, open_after};
+ghost use Rattle.wave_expected.specs.Expected.{IsExpected, IsExpectedFrom, MayFollow, AreAValue, AreInOrder, open_after};
 
 use crate::expected::automaton::Automaton;
 pub use crate::expected::call::expected_in_call_at;
@@ -74,7 +74,8 @@ fn expected_from(
     levels: u32,
 ) -> Result<Expected, AllocError>
     requires { first.now.end ≤ at }
-    ensures { IfOk result (IsExpectedFrom first.now at (MayFollow levels) (AreAValue levels)) }
+    ensures expected { IfOk result (IsExpectedFrom first.now at (MayFollow levels) (AreAValue levels)) }
+    ensures order { IfOk result (λ e. AreInOrder e.classes.items) }
 {
     let mut lexer = first.clone();
     let mut automaton = Automaton::new(alloc, levels);
@@ -98,13 +99,15 @@ fn expected_from(
 /// value within those levels; so none is named where those tokens begin no such value. Which label
 /// may stand there isn't reported: as a flag one that wasn't read before, and where a value is expected any but
 /// a keyword that begins a payload past the last level.
+/// The classes stand each once, in the order of the variants of `Token`.
 pub fn expected_at(
     alloc: Global,
     source: &str,
     at: usize,
     levels: u32,
 ) -> Result<Expected, AllocError>
-    ensures { IfOk result (IsExpected source.now at levels) }
+    ensures expected { IfOk result (IsExpected source.now at levels) }
+    ensures order { IfOk result (λ e. AreInOrder e.classes.items) }
 {
     expected_from(alloc, &Lexer::new(source), at, levels)
 }

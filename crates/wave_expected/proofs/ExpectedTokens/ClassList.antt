@@ -1,70 +1,73 @@
--- The classes that pass a test, in a list.
+-- The classes that pass a test, in their order.
 use Rattle.std.proofs.Common.{ℕ, ◌≡◌, ◌<◌, ◌≤◌, ◌+◌, inl, inr, List, [], ◌∷◌, ◌++◌, length, take, get_or, Bool, true, false, refl, sym, ap, subst, ◌∙◌, arith}
-use Rattle.std.specs.Prelude.{◌⊎◌, if◌then◌else◌, Contains}
-use Rattle.std.proofs.lemmas.List.{take_more, take_all}
-use Rattle.std.proofs.lemmas.List.Elements.{Contains-append_left, Contains-push, Contains-push_cases}
+use Rattle.std.specs.Prelude.{◌⊎◌, ◌↔◌, cond, Contains}
+use Rattle.std.specs.List.{filter}
+use Rattle.std.proofs.lemmas.List.{take_all, append-nil}
+use Rattle.std.proofs.lemmas.List.Elements.{All-contains, filter_passes, filter_more, Contains-append_left, Contains-append_right, Contains-append_cases, Contains-push_cases}
 use Rattle.wave_lex.specs.declared.lex.Token as lex
 use Rattle.wave_lex.specs.declared.lex.Token.TheVariants.{BraceOpen, BraceClose, ParenOpen, ParenClose, BracketOpen, BracketClose}
 use Rattle.wave_lex.specs.declared.lex.Token.TheVariants.{Colon, Comma, Number, LabelOrKeyword, Char, String, MultilineString}
-use Rattle.wave_expected.specs.Private.Prefixes.{added}
+use Rattle.wave_expected.specs.Expected.{every_class}
 
--- those of the classes that pass the test were taken, and no others
-pub record ArePassing (test : lex.Token → Bool) (all taken : List lex.Token) : Type 0 where
-  pub pass : (c : lex.Token) → Contains taken c → test c ≡ true
-  pub whole : (c : lex.Token) → Contains all c → test c ≡ true → Contains taken c
+-- ---- one more class
 
--- nothing is in no list
+-- those that pass, with one more class
+more : (test : lex.Token → Bool) (all : List lex.Token) (i : ℕ) (d : lex.Token) (b : Bool) → i < length all → test (get_or all i d) ≡ b →
+    filter test (take (i + 1) all) ≡ filter test (take i all) ++ cond b (get_or all i d ∷ []) []
+more test all i d b l e = filter_more test all i d l ∙ ap (λ z. filter test (take i all) ++ cond z (get_or all i d ∷ []) []) e
+
+-- it is left out
+pub class_left : (test : lex.Token → Bool) (all taken : List lex.Token) (i : ℕ) (d : lex.Token) → i < length all → test (get_or all i d) ≡ false → taken ≡ filter test (take i all) → taken ≡ filter test (take (i + 1) all)
+class_left test all taken i d l e h = h ∙ (sym (append-nil (filter test (take i all))) ∙ sym (more test all i d false l e))
+
+-- it is added
+pub class_added : (test : lex.Token → Bool) (all taken new : List lex.Token) (i : ℕ) (d : lex.Token) → i < length all → test (get_or all i d) ≡ true → taken ≡ filter test (take i all) → new ≡ taken ++ get_or all i d ∷ [] →
+    new ≡ filter test (take (i + 1) all)
+class_added test all taken new i d l e h push = push ∙ (ap (λ z. z ++ get_or all i d ∷ []) h ∙ sym (more test all i d true l e))
+
+-- all are tried
+pub all_tried : (test : lex.Token → Bool) (all taken : List lex.Token) (i : ℕ) → length all ≤ i → taken ≡ filter test (take i all) → taken ≡ filter test all
+all_tried test all taken i l h = h ∙ ap (filter test) (take_all i all l)
+
+-- ---- which classes are kept
+
 none_contained : (c : lex.Token) → Contains [] c → ⊥
 none_contained c (k, l, e) = omega arith
 
-pub none_pass : (test : lex.Token → Bool) (taken : List lex.Token) → taken ≡ [] → ArePassing test [] taken
-none_pass test taken e = record { pass = λ c h. absurd (none_contained c (subst (λ z. Contains z c) e h)); whole = λ c h k. absurd (none_contained c h) }
-
--- one more
-one_more : (test : lex.Token → Bool) (all taken : List lex.Token) (x : lex.Token) (b : Bool) → test x ≡ b → ArePassing test all taken → ArePassing test (all ++ x ∷ []) (if b then taken ++ x ∷ [] else taken)
-one_more test all taken x true e h = record {
-  pass = λ c k. passes c (Contains-push_cases taken x c k);
-  whole = λ c k t. holds c t (Contains-push_cases all x c k);
-}
+kept : (test : lex.Token → Bool) (c : lex.Token) → test c ≡ true → (xs : List lex.Token) → Contains xs c → Contains (filter test xs) c
+kept test c t [] h = absurd (none_contained c h)
+kept test c t (x ∷ xs) h = by (λ k. kept test c t xs k) (Contains-append_cases (x ∷ []) xs c h)
   where
-    passes : (c : lex.Token) → Contains taken c ⊎ (x ≡ c) → test c ≡ true
-    passes c (inl k) = h.pass c k
-    passes c (inr k) = subst (λ z. test z ≡ true) k e
+    first : Contains [] c ⊎ (x ≡ c) → Contains (x ∷ []) c → Contains (filter test (x ∷ xs)) c
+    first (inl k) one = absurd (none_contained c k)
+    first (inr e) one = subst (λ b. Contains (cond b (x ∷ filter test xs) (filter test xs)) c) (sym (ap test e ∙ t)) (Contains-append_left (x ∷ []) (filter test xs) c one)
 
-    holds : (c : lex.Token) → test c ≡ true → Contains all c ⊎ (x ≡ c) → Contains (taken ++ x ∷ []) c
-    holds c t (inl k) = Contains-append_left taken (x ∷ []) c (h.whole c k t)
-    holds c t (inr k) = subst (λ z. Contains (taken ++ x ∷ []) z) k (Contains-push taken x)
-one_more test all taken x false e h = record {
-  pass = h.pass;
-  whole = λ c k t. holds c t (Contains-push_cases all x c k);
-}
-  where
-    holds : (c : lex.Token) → test c ≡ true → Contains all c ⊎ (x ≡ c) → Contains taken c
-    holds c t (inl k) = h.whole c k t
-    holds c t (inr k) = let w : true ≡ false = sym (ap test k ∙ t) ∙ e in cc
+    later : (b : Bool) → Contains (filter test xs) c → Contains (cond b (x ∷ filter test xs) (filter test xs)) c
+    later true k = Contains-append_right (x ∷ []) (filter test xs) c k
+    later false k = k
 
-pub next_passes : (test : lex.Token → Bool) (all taken new : List lex.Token) (i : ℕ) (d : lex.Token) → i < length all → ArePassing test (take i all) taken → new ≡ added test (get_or all i d) taken → ArePassing test (take (i + 1) all) new
-next_passes test all taken new i d l h e = subst (ArePassing test (take (i + 1) all)) (sym e) (subst (λ z. ArePassing test z (added test (get_or all i d) taken)) (sym (take_more all i d l)) (one_more test (take i all) taken (get_or all i d) (test (get_or all i d)) refl h))
+    by : (Contains xs c → Contains (filter test xs) c) → Contains (x ∷ []) c ⊎ Contains xs c → Contains (filter test (x ∷ xs)) c
+    by others (inl one) = first (Contains-push_cases [] x c one) one
+    by others (inr k) = later (test x) (others k)
 
--- all classes
-abbrev pub each : List lex.Token
-each = BraceOpen ∷ BraceClose ∷ ParenOpen ∷ ParenClose ∷ BracketOpen ∷ BracketClose ∷ Colon ∷ Comma ∷ Number ∷ LabelOrKeyword ∷ Char ∷ String ∷ MultilineString ∷ []
+pub every_contains : (c : lex.Token) → Contains every_class c
+every_contains BraceOpen = (0, omega arith, refl)
+every_contains BraceClose = (1, omega arith, refl)
+every_contains ParenOpen = (2, omega arith, refl)
+every_contains ParenClose = (3, omega arith, refl)
+every_contains BracketOpen = (4, omega arith, refl)
+every_contains BracketClose = (5, omega arith, refl)
+every_contains Colon = (6, omega arith, refl)
+every_contains Comma = (7, omega arith, refl)
+every_contains Number = (8, omega arith, refl)
+every_contains LabelOrKeyword = (9, omega arith, refl)
+every_contains Char = (10, omega arith, refl)
+every_contains String = (11, omega arith, refl)
+every_contains MultilineString = (12, omega arith, refl)
 
-each_contains : (c : lex.Token) → Contains each c
-each_contains BraceOpen = (0, omega arith, refl)
-each_contains BraceClose = (1, omega arith, refl)
-each_contains ParenOpen = (2, omega arith, refl)
-each_contains ParenClose = (3, omega arith, refl)
-each_contains BracketOpen = (4, omega arith, refl)
-each_contains BracketClose = (5, omega arith, refl)
-each_contains Colon = (6, omega arith, refl)
-each_contains Comma = (7, omega arith, refl)
-each_contains Number = (8, omega arith, refl)
-each_contains LabelOrKeyword = (9, omega arith, refl)
-each_contains Char = (10, omega arith, refl)
-each_contains String = (11, omega arith, refl)
-each_contains MultilineString = (12, omega arith, refl)
-
--- the classes that were taken are those that pass
-pub passing : (test : lex.Token → Bool) (taken : List lex.Token) (i : ℕ) → 13 ≤ i → ArePassing test (take i each) taken → (c : lex.Token) → (Contains taken c → test c ≡ true) × (test c ≡ true → Contains taken c)
-passing test taken i l h c = (h.pass c, h.whole c (subst (λ z. Contains z c) (sym (take_all i each l)) (each_contains c)))
+-- those that pass are in the list, and no others
+pub those_pass : (test : lex.Token → Bool) (all : List lex.Token) → ((c : lex.Token) → Contains all c) → (taken : List lex.Token) → taken ≡ filter test all → (c : lex.Token) → Contains taken c ↔ (test c ≡ true)
+those_pass test all each taken h c = (
+  λ k. All-contains (λ x. test x ≡ true) (filter test all) c (filter_passes test all) (subst (λ z. Contains z c) h k),
+  λ t. subst (λ z. Contains z c) (sym h) (kept test c t all (each c)),
+)

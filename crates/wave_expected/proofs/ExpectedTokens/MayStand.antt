@@ -1,5 +1,5 @@
 -- Which classes of tokens may stand next.
-use Rattle.std.proofs.Common.{ℕ, zero, suc, ◌≡◌, ◌≢◌, ◌<◌, ◌+◌, ◌-◌, inl, inr, List, [], ◌∷◌, ◌++◌, length, replicate, Option, Some, None, true, false, refl, sym, ap, subst, ◌∙◌, arith, rules, length-append}
+use Rattle.std.proofs.Common.{ℕ, zero, suc, ◌≡◌, ◌≢◌, ◌<◌, ◌+◌, ◌-◌, inl, inr, List, [], ◌∷◌, length, replicate, Bool, true, false, refl, sym, ap, subst, ◌∙◌, arith, rules, length-append}
 use Rattle.std.proofs.lemmas.List.{append-nil, length-replicate, take_all}
 use Rattle.std.proofs.lemmas.Slice.Eq.{bytes_eq-Decides}
 use Rattle.std.specs.Prelude.{◌↔◌, ◌||◌, nat_lt, if◌then◌else◌, codes, bytes_eq}
@@ -16,24 +16,28 @@ use Rattle.wave_lex.proofs.LongestPrefix.ByComputing.{prefix_here}
 use Rattle.wave_lex.proofs.RegularShapes.LabelWords.{labels_are_words, label_tokens_are_labels}
 use Rattle.wave_grammar.specs.Token.{Token, label}
 use Rattle.wave_grammar.specs.LeafTokens.{name_of}
-use Rattle.wave_grammar.specs.Tree.{Takes}
+use Rattle.wave_grammar.specs.Tree.{Takes, leaf_word, none_word, some_word, ok_word, err_word, case_word}
 use Rattle.wave_grammar.specs.ParserPosition.{token_of}
 use Rattle.wave_grammar.specs.PrefixLaws.{EndsBefore}
 use Rattle.wave_grammar.specs.PrefixAutomaton as expectation
 use Rattle.wave_grammar.specs.PrefixAutomaton.{Expectation, StackSymbol, Step, step, reads, unexpected, Shifts, level_step, behind_step}
 use Rattle.wave_grammar.proofs.Automaton.RefusedKinds.{repeated_there}
-use Rattle.wave_grammar.proofs.Automaton.Prefixes.{leads_split, level_there}
+use Rattle.wave_grammar.proofs.Automaton.Prefixes.{level_there}
+use Rattle.wave_grammar.specs.declared.form.NodeType.{NodeType}
+use Rattle.wave_grammar.specs.declared.form.NodeType.TheVariants as node
 use Rattle.wave_expected.specs.declared.expected.moves.State.{State}
 use Rattle.wave_expected.specs.declared.expected.moves.State.TheVariants as known
 use Rattle.wave_expected.specs.declared.expected.moves.Form.{Form}
-use Rattle.wave_expected.specs.declared.expected.moves.Change.TheVariants as change
 use Rattle.wave_expected.specs.declared.expected.moves.Move.{Move}
-use Rattle.wave_tree.specs.ValueStarts.{IsValueStart}
-use Rattle.wave_expected.specs.Private.Moves.{stay, sample_start, value_move, closes, closed, closed_empty, next_move, goes_on_after, may_stand, expected_of, symbol_of, innermost, stack_of, IsRepeated, IsMove}
+use Rattle.wave_expected.specs.declared.expected.moves.Move.TheVariants.{To, Open, Close, Refused}
+use Rattle.wave_tree.specs.declared.role.ValueStart.{ValueStart}
+use Rattle.wave_tree.specs.declared.role.ValueStart.TheVariants as starts
+use Rattle.wave_tree.specs.ValueStarts.{IsValueStart, IsAlone, IsLabelWord}
+use Rattle.wave_expected.specs.Private.Moves.{value_move, next_move, goes_on, going_on, move_at, expected_of, symbol_of, innermost, stack_of}
 use Rattle.wave_expected.specs.Private.Prefixes.{Names, IsAfter, MayEnd}
 use Rattle.wave_expected.specs.Expected.{MayFollow, AreAValue}
-use Rattle.wave_expected.proofs.ExpectedTokens.Moves.{move_is_step}
-use Rattle.wave_expected.proofs.ExpectedTokens.ViablePrefixes.{GoesOn, goes_on_there, goes_on_only, viable_leads, then_viable, viable_then, value_ends, ends_value}
+use Rattle.wave_expected.proofs.ExpectedTokens.Moves.{IsRepeated, IsMove, move_is_step}
+use Rattle.wave_expected.proofs.ExpectedTokens.ViablePrefixes.{GoesOn, goes_on_there, goes_on_only, begins_viable, then_viable, viable_then, value_ends, ends_value}
 
 -- ---- a label that was not read before
 
@@ -111,6 +115,18 @@ sample_is_token d Char = (prefix_here (shape Char) (codes "'a'") 3 refl refl ref
 sample_is_token d String = (prefix_here (shape String) (codes "\"a\"") 3 refl refl refl, λ e. absurd (omega arith))
 sample_is_token d MultilineString = (prefix_here (shape MultilineString) (codes "\"\"\"\n\"\"\"") 7 refl refl refl, tt)
 
+-- what a value begins with whose first token is of this class; of a label, that of a case
+abbrev pub sample_start : lex.Token → ValueStart
+sample_start Number = starts.Alone node.Number
+sample_start Char = starts.Alone node.Char
+sample_start String = starts.Alone node.String
+sample_start MultilineString = starts.Alone node.MultilineString
+sample_start LabelOrKeyword = starts.Label node.Label node.VariantWithPayload
+sample_start ParenOpen = starts.Paren
+sample_start BracketOpen = starts.Bracket
+sample_start BraceOpen = starts.Brace
+sample_start _ = starts.Nothing
+
 -- a text begins a value as any of its class does, unless it is a label
 pub begins_so : (c : lex.Token) (text : List ℕ) → c ≢ LabelOrKeyword → IsValueStart c text (sample_start c)
 begins_so BraceOpen text apart = refl
@@ -144,13 +160,17 @@ sample_begins d MultilineString = refl
 
 -- ---- what may stand
 
+-- a token of this class, as the sample, is read where d is expected within s, and a value goes on after it
+abbrev Stands : ℕ → Expectation → List StackSymbol → lex.Token → Type 0
+Stands n d s c = goes_on (next_move (expected_of d) (innermost s) (n - length s) c (sample_start c)) (n - length s) ≡ true
+
 -- the sample is no flag that was read
-not_again : (d : Expectation) (x : State) (c : lex.Token) → c ≡ LabelOrKeyword → IsRepeated x (sample d c) d → ⊥
-not_again d known.BehindFlag c e (names, was, found) =
+not_again : (d : Expectation) (m : Move) (c : lex.Token) → c ≡ LabelOrKeyword → IsRepeated m (sample d c) d → ⊥
+not_again d (To known.BehindFlag) c e (names, was, found) =
     let none : is_one_of names (name_of (fresh d)) ≡ false = subst (λ z. is_one_of z (name_of (fresh d)) ≡ false) (ap flags_of was) (fresh_is_none d) in
     let there : is_one_of names (name_of (fresh d)) ≡ true = subst (λ z. is_one_of names (name_of (sample d z)) ≡ true) e found in
     let w : false ≡ true = sym none ∙ there in cc
-not_again d x c e h = absurd h
+not_again d m c e h = absurd h
 
 -- only a label repeats a flag
 repeats_label : (n : ℕ) (tokens : List Token) (d : Expectation) (s : List StackSymbol) (c : lex.Token) (text : List ℕ) → Shifts n expectation.value [] tokens d s → step n d s (token_of c text) ≡ expectation.repeated_flag → c ≡ LabelOrKeyword
@@ -171,26 +191,20 @@ repeats_label n tokens d s c text led e = let (before, texts, word, start, same,
     class_is String x y w = cc
     class_is MultilineString x y w = cc
 
--- where the answer of a move is yes the token is read, and the value goes on
-yes_there : (n : ℕ) (m : Option Move) (text : List ℕ) (d : Expectation) (s : List StackSymbol) (x : Step) → IsMove m text d s x → goes_on_after m (n - length s) ≡ true → ((y : State) → x ≡ expectation.repeated_flag → IsRepeated y text d → ⊥) →
+-- where a value goes on after a move the token is read
+yes_there : (n : ℕ) (m : Move) (text : List ℕ) (d : Expectation) (s : List StackSymbol) (x : Step) → IsMove m text d s x → goes_on m (n - length s) ≡ true → (x ≡ expectation.repeated_flag → IsRepeated m text d → ⊥) →
     (e : Expectation) × (r : List StackSymbol) × (x ≡ reads e r) × GoesOn n e r
-yes_there n None text d s x move stands never = let w : false ≡ true = stands in cc
-yes_there n (Some m) text d s (expectation.reads e r) move stands never = (e, r, refl, goes_on_there n m.state m.change text d s e r move stands)
-yes_there n (Some m) text d s expectation.repeated_flag move stands never = absurd (never m.state refl move)
-yes_there n (Some m) text d s x move stands never = absurd move
-
--- and only there
-there_yes : (n : ℕ) (m : Option Move) (text : List ℕ) (d : Expectation) (s : List StackSymbol) (e : Expectation) (r : List StackSymbol) → IsMove m text d s (reads e r) → GoesOn n e r → goes_on_after m (n - length s) ≡ true
-there_yes n None text d s e r move goes = absurd move
-there_yes n (Some m) text d s e r move goes = goes_on_only n m.state m.change text d s e r move goes
+yes_there n m text d s (expectation.reads e r) move stands never = (e, r, refl, goes_on_there n m text d s e r move stands)
+yes_there n m text d s expectation.repeated_flag move stands never = absurd (never refl move)
+yes_there n m text d s x move stands never = let w : false ≡ true = subst (λ z. goes_on z (n - length s) ≡ true) move stands in cc
 
 -- a class that may stand, after tokens that lead somewhere, has a token that goes on with them
-stands_follows : (n : ℕ) (tokens : List Token) (d : Expectation) (s : List StackSymbol) (c : lex.Token) → Shifts n expectation.value [] tokens d s → may_stand (expected_of d) (innermost s) (n - length s) c ≡ true → MayFollow n tokens c
+stands_follows : (n : ℕ) (tokens : List Token) (d : Expectation) (s : List StackSymbol) (c : lex.Token) → Shifts n expectation.value [] tokens d s → Stands n d s c → MayFollow n tokens c
 stands_follows n tokens d s c led stands =
     let t = token_of c (sample d c) in
+    let m = next_move (expected_of d) (innermost s) (n - length s) c (sample_start c) in
     let move = move_is_step n d s c (sample d c) (sample_start c) (sample_begins d c) in
-    let (e, r, h, goes) = yes_there n (next_move (expected_of d) (innermost s) (n - length s) c (sample_start c)) (sample d c) d s (step n d s t) move stands
-    (λ y again. not_again d y c (repeats_label n tokens d s c (sample d c) led again)) in
+    let (e, r, h, goes) = yes_there n m (sample d c) d s (step n d s t) move stands (λ again. not_again d m c (repeats_label n tokens d s c (sample d c) led again)) in
     (sample d c, sample_is_token d c, then_viable n tokens d e s r t led h goes)
 
 -- ---- a label that stands there
@@ -202,13 +216,6 @@ no_label_closes (expectation.tuple ∷ s) text = refl
 no_label_closes (expectation.list ∷ s) text = refl
 no_label_closes (expectation.payload ∷ s) text = refl
 no_label_closes (expectation.entries ∷ s) text = refl
-
-label_closes_none : (s : List StackSymbol) → closes (innermost s) LabelOrKeyword ≡ false
-label_closes_none [] = refl
-label_closes_none (expectation.tuple ∷ s) = refl
-label_closes_none (expectation.list ∷ s) = refl
-label_closes_none (expectation.payload ∷ s) = refl
-label_closes_none (expectation.entries ∷ s) = refl
 
 -- no label stands after a value
 pub no_label_behind : (s : List StackSymbol) (text : List ℕ) (e : Expectation) (r : List StackSymbol) → behind_step s (label text) ≡ reads e r → ⊥
@@ -223,22 +230,29 @@ some_left : (n k : ℕ) → k < n → nat_lt 0 (n - k) ≡ true
 some_left n k h = grind arith
 
 -- a label where a value is expected
-value_label : (n : ℕ) (s : List StackSymbol) (text : List ℕ) (e : Expectation) (r : List StackSymbol) → level_step n s (label text) ≡ reads e r → goes_on_after (value_move (n - length s) (sample_start LabelOrKeyword)) (n - length s) ≡ true
-value_label n s text e r h =
-    ap (λ b. goes_on_after (if b then stay known.BehindLabel else None) (n - length s)) (some_left n (length s) (level_there n s (label text) e r h).0)
+value_label : (n : ℕ) (s : List StackSymbol) (text : List ℕ) (e : Expectation) (r : List StackSymbol) → level_step n s (label text) ≡ reads e r → goes_on (value_move (n - length s) (sample_start LabelOrKeyword)) (n - length s) ≡ true
+value_label n s text e r h = ap (λ b. goes_on (if b then To known.BehindLabel else Refused) (n - length s)) (some_left n (length s) (level_there n s (label text) e r h).0)
 
 -- the same at an item
-item_label : (n : ℕ) (s : List StackSymbol) (text : List ℕ) (close : Step) (code : Option Move) (e : Expectation) (r : List StackSymbol) → if expectation.closes s (label text) then close else level_step n s (label text) ≡ reads e r →
-    goes_on_after (if closes (innermost s) LabelOrKeyword then code else value_move (n - length s) (sample_start LabelOrKeyword)) (n - length s) ≡ true
-item_label n s text close code e r h =
-    let there : level_step n s (label text) ≡ reads e r = subst (λ b. if b then close else level_step n s (label text) ≡ reads e r) (no_label_closes s text) h in
-    ap (λ b. goes_on_after (if b then code else value_move (n - length s) (sample_start LabelOrKeyword)) (n - length s)) (label_closes_none s) ∙ value_label n s text e r there
+first_label : (n : ℕ) (s : List StackSymbol) (text : List ℕ) (e : Expectation) (r : List StackSymbol) → step n expectation.first_item s (label text) ≡ reads e r → Stands n expectation.first_item s LabelOrKeyword
+first_label n [] text e r h = value_label n [] text e r h
+first_label n (expectation.tuple ∷ s) text e r h = value_label n (expectation.tuple ∷ s) text e r h
+first_label n (expectation.list ∷ s) text e r h = value_label n (expectation.list ∷ s) text e r h
+first_label n (expectation.payload ∷ s) text e r h = value_label n (expectation.payload ∷ s) text e r h
+first_label n (expectation.entries ∷ s) text e r h = value_label n (expectation.entries ∷ s) text e r h
+
+next_label : (n : ℕ) (s : List StackSymbol) (text : List ℕ) (e : Expectation) (r : List StackSymbol) → step n expectation.next_item s (label text) ≡ reads e r → Stands n expectation.next_item s LabelOrKeyword
+next_label n [] text e r h = value_label n [] text e r h
+next_label n (expectation.tuple ∷ s) text e r h = value_label n (expectation.tuple ∷ s) text e r h
+next_label n (expectation.list ∷ s) text e r h = value_label n (expectation.list ∷ s) text e r h
+next_label n (expectation.payload ∷ s) text e r h = value_label n (expectation.payload ∷ s) text e r h
+next_label n (expectation.entries ∷ s) text e r h = value_label n (expectation.entries ∷ s) text e r h
 
 -- where any label is read, the class may stand
-label_stands : (n : ℕ) (d : Expectation) (s : List StackSymbol) (text : List ℕ) (e : Expectation) (r : List StackSymbol) → step n d s (label text) ≡ reads e r → GoesOn n e r → may_stand (expected_of d) (innermost s) (n - length s) LabelOrKeyword ≡ true
+label_stands : (n : ℕ) (d : Expectation) (s : List StackSymbol) (text : List ℕ) (e : Expectation) (r : List StackSymbol) → step n d s (label text) ≡ reads e r → GoesOn n e r → Stands n d s LabelOrKeyword
 label_stands n expectation.value s text e r h goes = value_label n s text e r h
-label_stands n expectation.first_item s text e r h goes = item_label n s text (expectation.closed_empty s) (closed_empty (innermost s)) e r h
-label_stands n expectation.next_item s text e r h goes = item_label n s text (expectation.closed s) (closed (innermost s)) e r h
+label_stands n expectation.first_item s text e r h goes = first_label n s text e r h
+label_stands n expectation.next_item s text e r h goes = next_label n s text e r h
 label_stands n expectation.behind_value s text e r h goes = absurd (no_label_behind s text e r h)
 label_stands n expectation.behind_label s text e r h goes = absurd (no_label_behind s text e r h)
 label_stands n expectation.paren s text e r h goes = let w : unexpected ≡ reads e r = h in cc
@@ -249,46 +263,126 @@ label_stands n expectation.key s text e r h goes =
     let w : reads expectation.behind_key s ≡ reads e r = h in
     let states : e ≡ expectation.behind_key = cc in
     let forms : r ≡ s = cc in
-    goes_on_only n known.BehindKey change.Stay text expectation.key s e r (states, forms) goes
+    goes_on_only n (To known.BehindKey) text expectation.key s e r (states, forms) goes
 label_stands n expectation.behind_key s text e r h goes = let w : unexpected ≡ reads e r = h in cc
 label_stands n (expectation.flag names) s text e r h goes = refl
 label_stands n (expectation.behind_flag names) s text e r h goes = let w : unexpected ≡ reads e r = h in cc
 
 -- a class other than that of labels, of which a token is read, may stand
-other_stands : (n : ℕ) (d : Expectation) (s : List StackSymbol) (c : lex.Token) (text : List ℕ) (e : Expectation) (r : List StackSymbol) → c ≢ LabelOrKeyword → step n d s (token_of c text) ≡ reads e r → GoesOn n e r → may_stand (expected_of d) (innermost s) (n - length s) c ≡ true
+other_stands : (n : ℕ) (d : Expectation) (s : List StackSymbol) (c : lex.Token) (text : List ℕ) (e : Expectation) (r : List StackSymbol) → c ≢ LabelOrKeyword → step n d s (token_of c text) ≡ reads e r → GoesOn n e r → Stands n d s c
 other_stands n d s c text e r apart h goes =
-    there_yes n (next_move (expected_of d) (innermost s) (n - length s) c (sample_start c)) text d s e r
-    (subst (IsMove (next_move (expected_of d) (innermost s) (n - length s) c (sample_start c)) text d s) h (move_is_step n d s c text (sample_start c) (begins_so c text apart))) goes
+    let m = next_move (expected_of d) (innermost s) (n - length s) c (sample_start c) in
+    goes_on_only n m text d s e r (subst (IsMove m text d s) h (move_is_step n d s c text (sample_start c) (begins_so c text apart))) goes
 
 -- a class of which a token goes on with tokens that lead somewhere may stand
-follows_stands : (n : ℕ) (tokens : List Token) (d : Expectation) (s : List StackSymbol) (c : lex.Token) → Shifts n expectation.value [] tokens d s → MayFollow n tokens c → may_stand (expected_of d) (innermost s) (n - length s) c ≡ true
+follows_stands : (n : ℕ) (tokens : List Token) (d : Expectation) (s : List StackSymbol) (c : lex.Token) → Shifts n expectation.value [] tokens d s → MayFollow n tokens c → Stands n d s c
 follows_stands n tokens d s c led (text, is, viable) = let (e, r, h, goes) = viable_then n tokens d s (token_of c text) led viable in which c h goes
   where
-    which : {e : Expectation} {r : List StackSymbol} → (k : lex.Token) → step n d s (token_of k text) ≡ reads e r → GoesOn n e r → may_stand (expected_of d) (innermost s) (n - length s) k ≡ true
+    which : {e : Expectation} {r : List StackSymbol} → (k : lex.Token) → step n d s (token_of k text) ≡ reads e r → GoesOn n e r → Stands n d s k
     which {e} {r} LabelOrKeyword h goes = label_stands n d s text e r h goes
     which {e} {r} k h goes = other_stands n d s k text e r (λ w. cc) h goes
 
 -- ---- where the code stands
 
--- nothing stands after tokens that lead nowhere
-none_follows : (n : ℕ) (tokens : List Token) (c : lex.Token) → ((e : Expectation) (r : List StackSymbol) → Shifts n expectation.value [] tokens e r → ⊥) → MayFollow n tokens c → ⊥
-none_follows n tokens c never (text, is, viable) =
-    let (d, s, led, goes) = viable_leads n (tokens ++ token_of c text ∷ []) viable in
-    let (f, q, one, more) = leads_split n expectation.value d [] s tokens (token_of c text ∷ []) led in
-    never f q one
+-- the token is read
+abbrev pub is_read : Move → Bool
+is_read Refused = false
+is_read _ = true
+
+-- a class that may stand, by the code's steps
+abbrev pub may_stand : State → List Form → ℕ → lex.Token → Bool
+may_stand d fs n c = is_read (move_at d (stack_of fs) n c (sample_start c))
+
+read_goes : (m : Move) (left : ℕ) → is_read (going_on m left) ≡ goes_on m left
+read_goes m left = by m
+  where
+    kept : (b : Bool) (k : Move) → is_read k ≡ true → is_read (if b then k else Refused) ≡ b
+    kept true k h = h
+    kept false k h = refl
+
+    by : (k : Move) → is_read (going_on k left) ≡ goes_on k left
+    by (To x) = kept (goes_on (To x) left) (To x) refl
+    by (Open f x) = kept (goes_on (Open f x) left) (Open f x) refl
+    by (Close x) = kept (goes_on (Close x) left) (Close x) refl
+    by Refused = refl
 
 -- a class may stand by the code exactly where one of its tokens goes on with the tokens
-pub may_follow : (n : ℕ) (tokens : List Token) (d : State) (fs : List Form) (ns : Names) (c : lex.Token) → IsAfter n tokens d fs ns → (may_stand d (innermost (stack_of fs)) (n - length (stack_of fs)) c ≡ true) ↔ MayFollow n tokens c
+pub may_follow : (n : ℕ) (tokens : List Token) (d : State) (fs : List Form) (ns : Names) (c : lex.Token) → IsAfter n tokens d fs ns → (may_stand d fs n c ≡ true) ↔ MayFollow n tokens c
 may_follow n tokens d fs ns c (inl led) = (
-  λ stands. stands_follows n tokens led.expected_there led.open_there c led.leads
-      (subst (λ z. may_stand (expected_of led.expected_there) (innermost z) (n - length z) c ≡ true) led.forms (subst (λ z. may_stand z (innermost (stack_of fs)) (n - length (stack_of fs)) c ≡ true) led.state stands)),
-  λ follows. subst (λ z. may_stand z (innermost (stack_of fs)) (n - length (stack_of fs)) c ≡ true) (sym led.state)
-      (subst (λ z. may_stand (expected_of led.expected_there) (innermost z) (n - length z) c ≡ true) (sym led.forms) (follows_stands n tokens led.expected_there led.open_there c led.leads follows)),
+  λ stands. stands_follows n tokens d' s c led.leads (sym (read_goes m (n - length s)) ∙ (sym same ∙ stands)),
+  λ follows. same ∙ (read_goes m (n - length s) ∙ follows_stands n tokens d' s c led.leads follows),
 )
+  where
+    d' : Expectation
+    d' = led.expected_there
+
+    s : List StackSymbol
+    s = led.open_there
+
+    m : Move
+    m = next_move (expected_of d') (innermost s) (n - length s) c (sample_start c)
+
+    same : may_stand d fs n c ≡ is_read (move_at (expected_of d') s n c (sample_start c))
+    same = ap (λ z. is_read (move_at z (stack_of fs) n c (sample_start c))) led.state ∙ ap (λ z. is_read (move_at (expected_of d') z n c (sample_start c))) led.forms
 may_follow n tokens d fs ns c (inr (nothing, never)) = (
-  λ stands. let w : false ≡ true = subst (λ z. may_stand z (innermost (stack_of fs)) (n - length (stack_of fs)) c ≡ true) nothing stands in cc,
-  λ follows. absurd (none_follows n tokens c never follows),
+  λ stands. let w : false ≡ true = subst (λ z. may_stand z fs n c ≡ true) nothing stands in cc,
+  λ follows. let (text, is, viable) = follows in absurd (never (begins_viable n tokens (token_of c text) viable)),
 )
+
+-- ---- the label `a`
+
+-- it is no keyword
+no_keyword : (ty : NodeType) → IsAlone LabelOrKeyword (codes "a") ty → ⊥
+no_keyword node.BoolTrue h = let w : case_word ≡ leaf_word = h.0 in cc
+no_keyword node.BoolFalse h = let w : case_word ≡ leaf_word = h.0 in cc
+no_keyword node.Number h = let w : case_word ≡ leaf_word = h.0 in cc
+no_keyword node.OptionNone h = let w : case_word ≡ none_word = h in cc
+no_keyword ty h = h
+
+-- but a case
+is_case : (alone with : NodeType) → IsLabelWord alone with (codes "a") → starts.Label alone with ≡ sample_start LabelOrKeyword
+is_case node.ResultOk node.ResultOk h = let w : case_word ≡ ok_word = h in cc
+is_case node.ResultErr node.ResultErr h = let w : case_word ≡ err_word = h in cc
+is_case node.Label node.VariantWithPayload h = refl
+is_case alone with h = absurd h
+
+-- with this text a token of any class begins a value as the sample does
+pub begins_as_sample : (c : lex.Token) (start : ValueStart) → IsValueStart c (codes "a") start → start ≡ sample_start c
+begins_as_sample Number (starts.Alone ty) h = ap starts.Alone h
+begins_as_sample Char (starts.Alone ty) h = ap starts.Alone h
+begins_as_sample String (starts.Alone ty) h = ap starts.Alone h
+begins_as_sample MultilineString (starts.Alone ty) h = ap starts.Alone h
+begins_as_sample LabelOrKeyword (starts.Alone ty) h = absurd (no_keyword ty h)
+begins_as_sample c (starts.Alone ty) h = absurd h
+begins_as_sample c starts.Some h = let w : case_word ≡ some_word = h.1 in cc
+begins_as_sample c (starts.Label alone with) h = is_case alone with h.1 ∙ sym (ap sample_start h.0)
+begins_as_sample c starts.Paren h = sym (ap sample_start h)
+begins_as_sample c starts.Bracket h = sym (ap sample_start h)
+begins_as_sample c starts.Brace h = sym (ap sample_start h)
+begins_as_sample BraceClose starts.Nothing h = refl
+begins_as_sample ParenClose starts.Nothing h = refl
+begins_as_sample BracketClose starts.Nothing h = refl
+begins_as_sample Colon starts.Nothing h = refl
+begins_as_sample Comma starts.Nothing h = refl
+begins_as_sample c starts.Nothing h = absurd h
+
+-- the answer to the sample says whether the class may stand
+answered : (d : State) (fs : List Form) (n : ℕ) (c : lex.Token) (m : Move) → ((start : ValueStart) × IsValueStart c (codes "a") start × (m ≡ move_at d (stack_of fs) n c start)) → may_stand d fs n c ≡ is_read m
+answered d fs n c m (start, begins, is) = sym (ap is_read is ∙ ap (λ z. is_read (move_at d (stack_of fs) n c z)) (begins_as_sample c start begins))
+
+-- it may not where it is refused
+pub left_out : (d : State) (fs : List Form) (n : ℕ) (c : lex.Token) (m : Move) → ((start : ValueStart) × IsValueStart c (codes "a") start × (m ≡ move_at d (stack_of fs) n c start)) → m ≡ Refused → may_stand d fs n c ≡ false
+left_out d fs n c m answer refused = answered d fs n c m answer ∙ ap is_read refused
+
+-- it may where it isn't
+pub let_in : (d : State) (fs : List Form) (n : ℕ) (c : lex.Token) (m : Move) → ((start : ValueStart) × IsValueStart c (codes "a") start × (m ≡ move_at d (stack_of fs) n c start)) → (m ≡ Refused → ⊥) → may_stand d fs n c ≡ true
+let_in d fs n c m answer read = answered d fs n c m answer ∙ is_read_there m read
+  where
+    is_read_there : (k : Move) → (k ≡ Refused → ⊥) → is_read k ≡ true
+    is_read_there (To x) apart = refl
+    is_read_there (Open f x) apart = refl
+    is_read_there (Close x) apart = refl
+    is_read_there Refused apart = absurd (apart refl)
 
 -- ---- the end
 
@@ -316,5 +410,5 @@ may_end n tokens d fs ns (inl led) = (
 )
 may_end n tokens d fs ns (inr (nothing, never)) = (
   λ stands. absurd (subst (λ z. MayEnd z fs) nothing stands),
-  λ value. let (t, h) = value in let (e, r, led, goes) = viable_leads n tokens ([], t, subst (λ z. Takes n z t []) (sym (append-nil tokens)) h) in absurd (never e r led),
+  λ value. let (t, h) = value in absurd (never ([], t, subst (λ z. Takes n z t []) (sym (append-nil tokens)) h)),
 )

@@ -1,5 +1,5 @@
 -- The tokens before a place, and the brackets that are open after them.
-use Rattle.std.proofs.Common.{ℕ, ◌≡◌, ◌<◌, ◌≤◌, ◌-◌, inl, inr, List, [], ◌∷◌, ◌++◌, length, take, true, Some, None, Ok, Err, refl, sym, ap, subst, ◌∙◌, arith}
+use Rattle.std.proofs.Common.{ℕ, ◌≡◌, ◌<◌, ◌≤◌, ◌-◌, inl, inr, List, [], ◌∷◌, ◌++◌, length, take, Some, None, Ok, Err, refl, sym, ap, subst, ◌∙◌, arith}
 use Rattle.std.specs.Prelude.{◌⊎◌, ◌↔◌, fold, map, slice_range, Contains, IsTrue}
 use Rattle.std.proofs.lemmas.List.{map-append}
 use Rattle.std.specs.declared.ops.Range.{Range}
@@ -11,10 +11,9 @@ use Rattle.wave_expected.specs.declared.expected.automaton.Automaton.{Automaton}
 use Rattle.wave_grammar.specs.Token.{Token}
 use Rattle.wave_grammar.specs.ParserPosition.{token_of}
 use Rattle.wave_expected.specs.declared.expected.Expected.{Expected}
-use Rattle.wave_expected.specs.Private.Moves.{innermost, stack_of, may_stand}
 use Rattle.wave_expected.specs.Private.Prefixes.{IsAfter, MayEnd}
 use Rattle.wave_expected.specs.Expected.{Placed, token_at, TakesPlaced, but_last, open_after, open_brackets, MayFollow, AreAValue, IsExpectedFrom}
-use Rattle.wave_expected.proofs.ExpectedTokens.MayStand.{may_follow, may_end}
+use Rattle.wave_expected.proofs.ExpectedTokens.MayStand.{may_end}
 
 -- what is left after the last was taken
 but_last-take : (xs : List (Range ℕ)) → take (length xs - 1) xs ≡ but_last xs
@@ -91,17 +90,14 @@ read_more first at n l m a b old new c place text h next before is_place is_new 
 
 -- all were read
 pub is_expected : (first : Lexed) (at n : ℕ) (l : Lexed) (a : Automaton) (spans : List (Range ℕ)) (e : Expected) → IsReadTo first at n l a spans → ((c : lex.Token) (next : Lexed) → NextIs l next (Some (Ok c)) → at < next.end) →
-    ((c : lex.Token) → Contains e.classes.items c ↔ (may_stand a.state (innermost (stack_of a.forms.items)) (a.levels - length (stack_of a.forms.items)) c ≡ true)) → (IsTrue e.may_end ↔ MayEnd a.state a.forms.items) → e.open_brackets.items ≡ spans →
+    ((tokens : List Token) → IsAfter a.levels tokens a.state a.forms.items a.names → (c : lex.Token) → Contains e.classes.items c ↔ MayFollow a.levels tokens c) → (IsTrue e.may_end ↔ MayEnd a.state a.forms.items) → e.open_brackets.items ≡ spans →
     IsExpectedFrom first at (MayFollow n) (AreAValue n) e
 is_expected first at n l a spans e h all classes ends brackets =
     let tokens = map (token_at first.source) h.tokens in
     record {
       before = h.tokens;
       stand = record { last = l; taken = h.taken; before = h.before; all = all };
-      classes = λ c.
-          let stands = subst (λ k. Contains e.classes.items c ↔ (may_stand a.state (innermost (stack_of a.forms.items)) (k - length (stack_of a.forms.items)) c ≡ true)) h.levels (classes c) in
-          let follows = may_follow n tokens a.state a.forms.items a.names c h.after in
-          ((λ x. follows.0 (stands.0 x)), (λ x. stands.1 (follows.1 x)));
+      classes = subst (λ k. (c : lex.Token) → Contains e.classes.items c ↔ MayFollow k tokens c) h.levels (classes tokens (subst (λ k. IsAfter k tokens a.state a.forms.items a.names) (sym h.levels) h.after));
       end = let is = may_end n tokens a.state a.forms.items a.names h.after in ((λ x. is.0 (ends.0 x)), (λ x. ends.1 (is.1 x)));
       open_there = brackets ∙ h.spans_are;
     }

@@ -16,16 +16,16 @@ use Rattle.wave_grammar.specs.LeafTokens.{name_of}
 use Rattle.wave_grammar.specs.Tree.{word_of}
 use Rattle.wave_grammar.specs.ParserPosition.{Place, TakesTokens, token_of, text_at}
 use Rattle.wave_grammar.specs.PrefixAutomaton as expectation
-use Rattle.wave_grammar.specs.PrefixAutomaton.{Expectation, StackSymbol, Step, step, reads, unexpected, too_deep, level_step, value_step, behind_step, Shifts}
+use Rattle.wave_grammar.specs.PrefixAutomaton.{Expectation, StackSymbol, Step, step, reads, unexpected, too_deep, level_step, value_step}
 use Rattle.wave_grammar.specs.SyntaxErrors.{StandsAt}
 use Rattle.wave_tree.specs.ParserState.{start_of}
 use Rattle.wave_expected.specs.declared.expected.moves.Move.{Move}
-use Rattle.wave_expected.specs.Private.Moves.{sample_start, next_move, expected_of, innermost, IsMove}
+use Rattle.wave_expected.specs.Private.Moves.{next_move, expected_of, innermost}
 use Rattle.wave_expected.specs.Expected.{Placed, token_at, TakesPlaced, IsViable}
 use Rattle.wave_expected.specs.ExpectedLaws.{IsOfItem, ReadTokensStandBefore, UnexpectedMayNotFollow}
-use Rattle.wave_expected.proofs.ExpectedTokens.Moves.{move_is_step}
+use Rattle.wave_expected.proofs.ExpectedTokens.Moves.{LeadsBy, IsMove, move_is_step}
 use Rattle.wave_expected.proofs.ExpectedTokens.ViablePrefixes.{viable_then}
-use Rattle.wave_expected.proofs.ExpectedTokens.MayStand.{begins_so, no_label_closes, no_label_behind}
+use Rattle.wave_expected.proofs.ExpectedTokens.MayStand.{sample_start, begins_so, no_label_closes, no_label_behind}
 use Rattle.wave_expected.proofs.ExpectedTokens.PlacedTokens.{no_token, no_token_at_end}
 
 -- ---- the tokens before a place
@@ -170,9 +170,8 @@ label_unexpected n (expectation.flag names) s text other e r h k = label_flag (i
 label_unexpected n (expectation.behind_flag names) s text other e r h k = let w : unexpected ≡ reads e r = k in cc
 
 -- by a move that is none nothing is read
-by_move : (m : Option Move) (text other : List ℕ) (d : Expectation) (s : List StackSymbol) (e : Expectation) (r : List StackSymbol) → IsMove m text d s unexpected → IsMove m other d s (reads e r) → ⊥
-by_move None text other d s e r h k = k
-by_move (Some m) text other d s e r h k = h
+by_move : (m : Move) (text other : List ℕ) (d : Expectation) (s : List StackSymbol) (e : Expectation) (r : List StackSymbol) → IsMove m text d s unexpected → IsMove m other d s (reads e r) → ⊥
+by_move m text other d s e r h k = subst (λ z. LeadsBy z other d s e r) h k
 
 -- where a token is unexpected that is no label, no other of its class is read
 other_class : (n : ℕ) (d : Expectation) (s : List StackSymbol) (c : lex.Token) (text other : List ℕ) (e : Expectation) (r : List StackSymbol) → c ≢ LabelOrKeyword → step n d s (token_of c text) ≡ unexpected → step n d s (token_of c other) ≡ reads e r → ⊥

@@ -1,23 +1,23 @@
 -- The prefixes of the tokens of a value, and which token goes on with one.
 use Rattle.std.proofs.Common.{ℕ, ◌≡◌, ◌<◌, ◌+◌, ◌-◌, List, [], ◌∷◌, ◌++◌, length, Bool, true, false, refl, sym, subst, ◌∙◌, arith}
-use Rattle.std.proofs.lemmas.List.{append-nil}
+use Rattle.std.proofs.lemmas.List.{append-nil, append_assoc}
 use Rattle.std.specs.Prelude.{nat_lt, if◌then◌else◌, codes}
 use Rattle.wave_grammar.specs.Token.{Token, brace_close, paren_open, paren_close, bracket_close, colon, number}
 use Rattle.wave_grammar.specs.LeafTokens.{name_of}
 use Rattle.wave_grammar.specs.Tree.{Takes}
 use Rattle.wave_grammar.specs.PrefixLaws.{EndsBefore}
 use Rattle.wave_grammar.specs.PrefixAutomaton as expectation
-use Rattle.wave_grammar.specs.PrefixAutomaton.{Expectation, StackSymbol, Step, value, first_item, behind_value, behind_label, empty_tuple, unexpected, reads, step, Shifts, closes, is_paren, is_colon, level_step, behind_step}
+use Rattle.wave_grammar.specs.PrefixAutomaton.{Expectation, StackSymbol, Step, value, first_item, behind_value, behind_label, empty_tuple, unexpected, reads, step, Shifts, closes, is_paren, is_colon, level_step}
 use Rattle.wave_grammar.proofs.Automaton.Sound.{leads_join, close_of, close_reads, level_open, trees_are_accepted}
 use Rattle.wave_grammar.proofs.Automaton.Complete.{led_is_tree}
 use Rattle.wave_grammar.proofs.Automaton.Prefixes.{leads_split, leads_one, level_there}
-use Rattle.wave_expected.specs.declared.expected.moves.State.{State}
 use Rattle.wave_expected.specs.declared.expected.moves.State.TheVariants as known
-use Rattle.wave_expected.specs.declared.expected.moves.Change.{Change}
-use Rattle.wave_expected.specs.declared.expected.moves.Change.TheVariants as change
 use Rattle.wave_expected.specs.declared.expected.moves.Form.TheVariants as form
-use Rattle.wave_expected.specs.Private.Moves.{symbol_of, IsInItems, LeadsBy, goes_on}
+use Rattle.wave_expected.specs.declared.expected.moves.Move.{Move}
+use Rattle.wave_expected.specs.declared.expected.moves.Move.TheVariants.{To, Open, Close}
+use Rattle.wave_expected.specs.Private.Moves.{goes_on}
 use Rattle.wave_expected.specs.Expected.{IsViable, AreAValue}
+use Rattle.wave_expected.proofs.ExpectedTokens.Moves.{IsInItems, LeadsBy}
 
 -- ---- how a value goes on
 
@@ -131,43 +131,37 @@ there : (n : ℕ) (d e : Expectation) (s r : List StackSymbol) → e ≡ d → r
 there n d e s r f g goes = subst (λ z. GoesOn n z r) (sym f) (subst (GoesOn n d) (sym g) goes)
 
 -- a value goes on after the move where the code says so
-pub goes_on_there : (n : ℕ) (x : State) (m : Change) (text : List ℕ) (d : Expectation) (s : List StackSymbol) (e : Expectation) (r : List StackSymbol) → LeadsBy x m text d s e r → goes_on x m (n - length s) ≡ true → GoesOn n e r
-goes_on_there n known.Value (change.Open f) text d s e r (h, k) b = there n value e (symbol_of f ∷ s) r h k (value_goes_on n (symbol_of f ∷ s) (let room = left_two n (length s) b in omega arith))
-goes_on_there n known.FirstItem (change.Open form.Tuple) text d s e r (h, k) b = there n first_item e (expectation.tuple ∷ s) r h k (tuple_goes_on n s (left_two n (length s) b))
-goes_on_there n known.FirstItem (change.Open form.List) text d s e r (h, k) b = there n first_item e (expectation.list ∷ s) r h k (with_token n first_item behind_value (expectation.list ∷ s) s bracket_close refl (closing n s))
-goes_on_there n known.NextItem change.Stay text d s e r (h, k, i) b = there n expectation.next_item e s r h k (next_goes_on n s i)
-goes_on_there n known.BehindValue change.Stay text d s e r (h, k) b = there n behind_value e s r h k (closing n s)
-goes_on_there n known.BehindValue change.Close text d s e r (h, k) b = there n behind_value e r r h refl (closing n r)
-goes_on_there n known.BehindLabel change.Stay text d s e r (h, k) b = there n behind_label e s r h k (label_closing n s)
-goes_on_there n known.Paren change.Stay text d s e r (h, k) b = there n expectation.paren e s r h k (paren_goes_on n s (left_two n (length s) b))
-goes_on_there n known.InBraces change.Stay text d s e r (h, k) b = there n expectation.in_braces e s r h k (with_token n expectation.in_braces behind_value s s brace_close refl (closing n s))
-goes_on_there n known.NoFields change.Stay text d s e r (h, k) b = there n expectation.no_fields e s r h k (with_token n expectation.no_fields behind_value s s brace_close refl (closing n s))
-goes_on_there n known.BehindWord change.Stay text d s e r (h, k) b = there n (expectation.behind_word text) e s r h k (with_token n (expectation.behind_word text) behind_value s s brace_close refl (closing n s))
-goes_on_there n known.Key change.Close text d s e r (h, k) b = there n expectation.key e r r h refl (with_token n expectation.key behind_value r r brace_close refl (closing n r))
-goes_on_there n known.BehindKey change.Stay text d s e r (h, k) b = there n expectation.behind_key e s r h k (key_goes_on n s (left_two n (length s) b))
-goes_on_there n known.Flag change.Stay text d s e r (names, h, k, i) b = there n (expectation.flag names) e s r h k (with_token n (expectation.flag names) behind_value s s brace_close refl (closing n s))
-goes_on_there n known.BehindFlag change.Stay text d s e r (names, was, new, h, k) b =
+pub goes_on_there : (n : ℕ) (m : Move) (text : List ℕ) (d : Expectation) (s : List StackSymbol) (e : Expectation) (r : List StackSymbol) → LeadsBy m text d s e r → goes_on m (n - length s) ≡ true → GoesOn n e r
+goes_on_there n (Open form.Tuple known.FirstItem) text d s e r (h, k) b = there n first_item e (expectation.tuple ∷ s) r h k (tuple_goes_on n s (left_two n (length s) b))
+goes_on_there n (Open form.List known.FirstItem) text d s e r (h, k) b = there n first_item e (expectation.list ∷ s) r h k (with_token n first_item behind_value (expectation.list ∷ s) s bracket_close refl (closing n s))
+goes_on_there n (Open form.Payload known.Value) text d s e r (h, k) b = there n value e (expectation.payload ∷ s) r h k (value_goes_on n (expectation.payload ∷ s) (let room = left_two n (length s) b in omega arith))
+goes_on_there n (Open form.Entries known.Value) text d s e r (h, k) b = there n value e (expectation.entries ∷ s) r h k (value_goes_on n (expectation.entries ∷ s) (let room = left_two n (length s) b in omega arith))
+goes_on_there n (Close known.BehindValue) text d s e r (h, k) b = there n behind_value e r r h refl (closing n r)
+goes_on_there n (Close known.Key) text d s e r (h, k) b = there n expectation.key e r r h refl (with_token n expectation.key behind_value r r brace_close refl (closing n r))
+goes_on_there n (To known.NextItem) text d s e r (h, k, i) b = there n expectation.next_item e s r h k (next_goes_on n s i)
+goes_on_there n (To known.BehindValue) text d s e r (h, k) b = there n behind_value e s r h k (closing n s)
+goes_on_there n (To known.BehindLabel) text d s e r (h, k) b = there n behind_label e s r h k (label_closing n s)
+goes_on_there n (To known.Paren) text d s e r (h, k) b = there n expectation.paren e s r h k (paren_goes_on n s (left_two n (length s) b))
+goes_on_there n (To known.InBraces) text d s e r (h, k) b = there n expectation.in_braces e s r h k (with_token n expectation.in_braces behind_value s s brace_close refl (closing n s))
+goes_on_there n (To known.NoFields) text d s e r (h, k) b = there n expectation.no_fields e s r h k (with_token n expectation.no_fields behind_value s s brace_close refl (closing n s))
+goes_on_there n (To known.BehindWord) text d s e r (h, k) b = there n (expectation.behind_word text) e s r h k (with_token n (expectation.behind_word text) behind_value s s brace_close refl (closing n s))
+goes_on_there n (To known.BehindKey) text d s e r (h, k) b = there n expectation.behind_key e s r h k (key_goes_on n s (left_two n (length s) b))
+goes_on_there n (To known.Flag) text d s e r (names, h, k, i) b = there n (expectation.flag names) e s r h k (with_token n (expectation.flag names) behind_value s s brace_close refl (closing n s))
+goes_on_there n (To known.BehindFlag) text d s e r (names, was, new, h, k) b =
     let now = expectation.behind_flag (names ++ name_of text ∷ []) in there n now e s r h k (with_token n now behind_value s s brace_close refl (closing n s))
-goes_on_there n x m text d s e r h b = absurd h
+goes_on_there n m text d s e r h b = absurd h
 
 -- and only there
-pub goes_on_only : (n : ℕ) (x : State) (m : Change) (text : List ℕ) (d : Expectation) (s : List StackSymbol) (e : Expectation) (r : List StackSymbol) → LeadsBy x m text d s e r → GoesOn n e r → goes_on x m (n - length s) ≡ true
-goes_on_only n known.Value (change.Open f) text d s e r (h, k) goes = two_left n (length s) (let room = value_needs n (symbol_of f ∷ s) (there n e value r (symbol_of f ∷ s) (sym h) (sym k) goes) in omega arith)
-goes_on_only n known.FirstItem (change.Open form.Tuple) text d s e r (h, k) goes = two_left n (length s) (tuple_needs n s (there n e first_item r (expectation.tuple ∷ s) (sym h) (sym k) goes))
-goes_on_only n known.FirstItem (change.Open form.List) text d s e r h goes = refl
-goes_on_only n known.NextItem change.Stay text d s e r h goes = refl
-goes_on_only n known.BehindValue change.Stay text d s e r h goes = refl
-goes_on_only n known.BehindValue change.Close text d s e r h goes = refl
-goes_on_only n known.BehindLabel change.Stay text d s e r h goes = refl
-goes_on_only n known.Paren change.Stay text d s e r (h, k) goes = two_left n (length s) (paren_needs n s (there n e expectation.paren r s (sym h) (sym k) goes))
-goes_on_only n known.InBraces change.Stay text d s e r h goes = refl
-goes_on_only n known.NoFields change.Stay text d s e r h goes = refl
-goes_on_only n known.BehindWord change.Stay text d s e r h goes = refl
-goes_on_only n known.Key change.Close text d s e r h goes = refl
-goes_on_only n known.BehindKey change.Stay text d s e r (h, k) goes = two_left n (length s) (key_needs n s (there n e expectation.behind_key r s (sym h) (sym k) goes))
-goes_on_only n known.Flag change.Stay text d s e r h goes = refl
-goes_on_only n known.BehindFlag change.Stay text d s e r h goes = refl
-goes_on_only n x m text d s e r h goes = absurd h
+pub goes_on_only : (n : ℕ) (m : Move) (text : List ℕ) (d : Expectation) (s : List StackSymbol) (e : Expectation) (r : List StackSymbol) → LeadsBy m text d s e r → GoesOn n e r → goes_on m (n - length s) ≡ true
+goes_on_only n (Open form.Tuple known.FirstItem) text d s e r (h, k) goes = two_left n (length s) (tuple_needs n s (there n e first_item r (expectation.tuple ∷ s) (sym h) (sym k) goes))
+goes_on_only n (Open form.List known.FirstItem) text d s e r h goes = refl
+goes_on_only n (Open form.Payload known.Value) text d s e r (h, k) goes = two_left n (length s) (let room = value_needs n (expectation.payload ∷ s) (there n e value r (expectation.payload ∷ s) (sym h) (sym k) goes) in omega arith)
+goes_on_only n (Open form.Entries known.Value) text d s e r (h, k) goes = two_left n (length s) (let room = value_needs n (expectation.entries ∷ s) (there n e value r (expectation.entries ∷ s) (sym h) (sym k) goes) in omega arith)
+goes_on_only n (Close x) text d s e r h goes = refl
+goes_on_only n (To known.Paren) text d s e r (h, k) goes = two_left n (length s) (paren_needs n s (there n e expectation.paren r s (sym h) (sym k) goes))
+goes_on_only n (To known.BehindKey) text d s e r (h, k) goes = two_left n (length s) (key_needs n s (there n e expectation.behind_key r s (sym h) (sym k) goes))
+goes_on_only n (To x) text d s e r h goes = refl
+goes_on_only n m text d s e r h goes = absurd h
 
 -- ---- viable prefixes
 
@@ -184,6 +178,10 @@ pub leads_viable : (n : ℕ) (tokens : List Token) (d : Expectation) (s : List S
 leads_viable n tokens d s led (more, e, ends, on) =
     let (t, h) = led_is_tree n (tokens ++ more) [] e ends (leads_join n value d e [] s [] tokens more led on) in
     (more, t, subst (λ z. Takes n z t []) (append-nil (tokens ++ more)) h)
+
+-- what begins a viable prefix is one
+pub begins_viable : (n : ℕ) (tokens : List Token) (t : Token) → IsViable n (tokens ++ t ∷ []) → IsViable n tokens
+begins_viable n tokens t (more, tree, h) = (t ∷ more, tree, subst (λ z. Takes n z tree []) (append_assoc tokens (t ∷ []) more) h)
 
 -- with a further token they are one where it is read and the value goes on
 pub then_viable : (n : ℕ) (tokens : List Token) (d e : Expectation) (s r : List StackSymbol) (t : Token) → Shifts n value [] tokens d s → step n d s t ≡ reads e r → GoesOn n e r → IsViable n (tokens ++ t ∷ [])

@@ -1,11 +1,10 @@
 -- Where the automaton of the code stands after some tokens.
-use Rattle.std.specs.Prelude.{ℕ, ◌≡◌, ◌⊎◌, ◌++◌, List, [], ◌∷◌, Bool, false, if◌then◌else◌, is_some}
+use Rattle.std.specs.Prelude.{ℕ, ◌≡◌, ◌⊎◌, ◌++◌, List, [], ◌∷◌, Bool, false, is_some}
 use Rattle.std.proofs.Common.{Bor}
 use Rattle.std.specs.BTreeMap as tree
 use Rattle.std.specs.BTreeMap.{BTreeMap}
 use Rattle.std.specs.Cmp.Lexicographic.{slice_cmp}
 use Rattle.std.specs.Ordering.{nat_cmp}
-use Rattle.wave_lex.specs.declared.lex.Token as lex
 use Rattle.wave_wasm.specs.Names.{is_one_of}
 use Rattle.wave_grammar.specs.Token.{Token}
 use Rattle.wave_grammar.specs.LeafTokens.{name_of}
@@ -14,8 +13,7 @@ use Rattle.wave_grammar.specs.PrefixAutomaton.{Expectation, StackSymbol, Shifts}
 use Rattle.wave_expected.specs.declared.expected.moves.State.{State}
 use Rattle.wave_expected.specs.declared.expected.moves.State.TheVariants as known
 use Rattle.wave_expected.specs.declared.expected.moves.Form.{Form}
-use Rattle.wave_expected.specs.declared.expected.moves.Change.{Change}
-use Rattle.wave_expected.specs.declared.expected.moves.Change.TheVariants as change
+use Rattle.wave_expected.specs.Expected.{IsViable}
 use Rattle.wave_expected.specs.Private.Moves.{expected_of, stack_of}
 
 -- the names of flags, in a map
@@ -39,13 +37,6 @@ IsNoted known.BehindWord text old new repeated = HasNames new (name_of text ∷ 
 IsNoted known.BehindFlag text old new repeated = (names : List (List ℕ)) → HasNames old names → HasNames new (names ++ name_of text ∷ []) × (repeated ≡ is_one_of names (name_of text))
 IsNoted _ text old new repeated = (new ≡ old) × (repeated ≡ false)
 
--- the open forms, the outermost first, before and after a change
-abbrev pub IsChanged : Change → List Form → List Form → Type 0
-IsChanged change.Stay old new = new ≡ old
-IsChanged (change.Open f) old new = new ≡ old ++ f ∷ []
-IsChanged change.Close [] new = new ≡ []
-IsChanged change.Close (f ∷ fs) new = (last : Form) × (f ∷ fs ≡ new ++ last ∷ [])
-
 -- the tokens lead to where this is expected, within these forms and after these flags
 pub record IsLedTo (n : ℕ) (tokens : List Token) (d : State) (open_forms : List Form) (noted : Names) : Type 0 where
   pub expected_there : Expectation
@@ -55,16 +46,12 @@ pub record IsLedTo (n : ℕ) (tokens : List Token) (d : State) (open_forms : Lis
   pub forms : stack_of open_forms ≡ open_there
   pub flags : HasFlags noted expected_there
 
--- the same; or the tokens lead nowhere, and nothing is expected
+-- the same; or the tokens begin no value, and nothing is expected
 abbrev pub IsAfter : ℕ → List Token → State → List Form → Names → Type 0
-IsAfter n tokens d forms names = IsLedTo n tokens d forms names ⊎ (d ≡ known.Nothing) × ((e : Expectation) (r : List StackSymbol) → Shifts n expectation.value [] tokens e r → ⊥)
+IsAfter n tokens d forms names = IsLedTo n tokens d forms names ⊎ (d ≡ known.Nothing) × (IsViable n tokens → ⊥)
 
 -- the value may end where this is expected within these forms
 abbrev pub MayEnd : State → List Form → Type 0
 MayEnd known.BehindValue forms = forms ≡ []
 MayEnd known.BehindLabel forms = forms ≡ []
 MayEnd _ forms = ⊥
-
--- one more class, where the test says so
-abbrev pub added : (lex.Token → Bool) → lex.Token → List lex.Token → List lex.Token
-added test c classes = if test c then classes ++ c ∷ [] else classes

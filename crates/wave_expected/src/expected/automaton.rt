@@ -1,13 +1,14 @@
 //! The automaton over the tokens of a value: what is expected after those that were read.
-ghost use Rattle.std.specs.Prelude.{◌≡◌, ◌↔◌, ℕ, ◌-◌, ◌++◌, List, [], ◌∷◌, length, true, IfOk, Contains, IsTrue};
+ghost use Rattle.std.specs.Prelude.{◌≡◌, ◌↔◌, ◌++◌, List, [], ◌∷◌, IfOk, Contains, IsTrue};
 ghost use Rattle.wave_grammar.specs.Token.{Token as GrammarToken};
 ghost use Rattle.wave_grammar.specs.ParserPosition.{token_of};
-ghost use Rattle.wave_grammar.specs.PrefixAutomaton.{Expectation, StackSymbol, step};
-ghost use Rattle.wave_expected.specs.Private.Moves.{innermost, stack_of, next_move, may_stand};
+ghost use Rattle.wave_tree.specs.declared.role.ValueStart.{ValueStart};
 ghost use Rattle.wave_tree.specs.ValueStarts.{IsValueStart};
-ghost use Rattle.wave_expected.specs.Private.Prefixes.{IsAfter, IsNoted, IsChanged, MayEnd, added};
+ghost use Rattle.wave_expected.specs.Expected.{MayFollow, AreInOrder};
+ghost use Rattle.wave_expected.specs.Private.Moves.{stack_of, move_at};
+ghost use Rattle.wave_expected.specs.Private.Prefixes.{IsAfter, IsNoted, MayEnd};
 
-use crate::expected::moves::{Change, Form, Move, State, may_stand, next_move};
+use crate::expected::moves::{Form, Move, State, goes_on, next_move};
 use std::alloc::{AllocError, Global};
 use std::collections::BTreeMap;
 use wave_grammar::label::label_name;
@@ -55,20 +56,6 @@ fn note_label<'source>(
     }
 }
 
-/// Opens or closes a form.
-fn change_forms(forms: &mut Vec<Form>, change: Change) -> Result<(), AllocError>
-    ensures { IfOk result (λ _. IsChanged change forms.old.items forms.new.items) }
-{
-    match change {
-        Change::Stay => {}
-        Change::Open(form) => forms.push(form)?,
-        Change::Close => {
-            forms.pop();
-        }
-    }
-    Ok(())
-}
-
 /// Reads tokens, whatever they are, and knows what may stand after them.
 #[derive(Drop)]
 pub(crate) struct Automaton<'source> {
@@ -95,20 +82,19 @@ impl<'source> Automaton<'source> {
         }
     }
 
-    /// The innermost open form.
-    #[tactic(auto, using(crate::proofs::ExpectedTokens::AutomatonSteps::innermost_is_last))]
-    fn form(&self) -> Option<Form>
-        ensures { result ≡ innermost (stack_of self.now.forms.items) }
+    /// What the token does that comes next: it is refused where no value can end after it.
+    fn step(&self, class: Token, text: &str) -> Move
+        ensures { (start : ValueStart) × IsValueStart class text.now start
+            × (result ≡ move_at self.now.state (stack_of self.now.forms.items) self.now.levels class start) }
     {
-        self.forms.last().copied()
-    }
-
-    /// How many levels are left.
-    #[tactic(auto, using(crate::proofs::ExpectedTokens::AutomatonSteps::length_stack))]
-    fn left(&self) -> usize
-        ensures { result ≡ self.now.levels - length (stack_of self.now.forms.items) }
-    {
-        self.levels.saturating_sub(self.forms.len())
+        let form = self.forms.last().copied();
+        let left = self.levels.saturating_sub(self.forms.len());
+        let moved = next_move(self.state, form, left, class, value_start(class, text));
+        if goes_on(moved, left) {
+            moved
+        } else {
+            Move::Refused
+        }
     }
 
     /// Reads a token.
@@ -123,50 +109,46 @@ impl<'source> Automaton<'source> {
             → IsAfter self.old.levels (tokens ++ token_of class text.now ∷ []) self.new.state self.new.forms.items self.new.names) }
         ensures levels { self.new.levels ≡ self.old.levels }
     {
-        let form = self.form();
-        let left = self.left();
-        let start = value_start(class, text);
-        let Some(moved) = next_move(self.state, form, left, class, start) else {
-            self.state = State::Nothing;
-            return Ok(());
-        };
-        let was_read = note_label(alloc, &mut self.names, moved.state, text)?;
-        if was_read {
-            self.state = State::Nothing;
-            return Ok(());
+        match self.step(class, text) {
+            Move::Refused => {
+                self.state = State::Nothing;
+                Ok(())
+            }
+            Move::Open(form, state) => {
+                self.forms.push(form)?;
+                self.state = state;
+                Ok(())
+            }
+            Move::Close(state) => {
+                self.forms.pop();
+                self.state = state;
+                Ok(())
+            }
+            Move::To(state) => {
+                let was_read = note_label(alloc, &mut self.names, state, text)?;
+                if was_read {
+                    self.state = State::Nothing;
+                    return Ok(());
+                }
+                self.state = state;
+                Ok(())
+            }
         }
-        change_forms(&mut self.forms, moved.change)?;
-        self.state = moved.state;
-        Ok(())
     }
 
-    /// Whether a token of this class may stand next.
-    fn may_stand(&self, class: Token) -> bool
-        ensures { let s = stack_of self.now.forms.items in
-            result ≡ may_stand self.now.state (innermost s) (self.now.levels - length s) class }
-    {
-        may_stand(self.state, self.form(), self.left(), class)
-    }
-
-    /// Adds the class where one of its tokens may stand next.
-    fn add_class(&self, classes: &mut Vec<Token>, class: Token) -> Result<(), AllocError>
-        ensures { let s = stack_of self.now.forms.items in
-            IfOk result (λ _. classes.new.items ≡ added (may_stand self.now.state (innermost s) (self.now.levels - length s)) class classes.old.items) }
-    {
-        if self.may_stand(class) {
-            classes.push(class)?;
-        }
-        Ok(())
-    }
-
-    /// The classes of the tokens that may stand next.
+    /// The classes of the tokens that may stand next; of labels the case `a` shows whether one may.
     pub(crate) fn classes(&self, alloc: Global) -> Result<Vec<Token>, AllocError>
-        ensures { let s = stack_of self.now.forms.items in
-            IfOk result (λ v. (c : Token) → Contains v.items c ↔ (may_stand self.now.state (innermost s) (self.now.levels - length s) c ≡ true)) }
+        ensures follow { IfOk result (λ v. (tokens : List GrammarToken)
+            → IsAfter self.now.levels tokens self.now.state self.now.forms.items self.now.names
+            → (c : Token) → Contains v.items c ↔ MayFollow self.now.levels tokens c) }
+        ensures order { IfOk result (λ v. AreInOrder v.items) }
     {
         let mut classes = Vec::new(alloc);
         for class in CLASSES {
-            self.add_class(&mut classes, class)?;
+            match self.step(class, "a") {
+                Move::Refused => {}
+                _ => classes.push(class)?,
+            }
         }
         Ok(classes)
     }

@@ -2,7 +2,7 @@
 ghost use Rattle.std.specs.Prelude.{◌≡◌, List, IfOk, MatchOption};
 ghost use Rattle.wave_lex.specs.Tokenization.{Lexed};
 ghost use Rattle.wave_expected.specs.Expected.{Placed, StandBefore, IsExpectedInCall, IsWithoutName};
-ghost use Rattle.wave_expected.specs.Private.CallPrefixes.{classes_of, prefix_of, prefix_behind, classes_in_call, end_in_call};
+ghost use Rattle.wave_expected.specs.Private.CallPrefixes.{classes_of, prefix_of, classes_in_call, end_in_call};
 
 use crate::expected::{Expected, expected_from, next_before};
 use std::alloc::{AllocError, Global};
@@ -25,22 +25,6 @@ pub(crate) enum CallPrefix {
     Params,
 }
 
-/// How the tokens go on that stand behind a `(`, up to the place `at`.
-fn prefix_behind(lexer: &mut Lexer, at: usize) -> CallPrefix
-    ensures { (tokens : List Placed) → StandBefore lexer.old at tokens → result ≡ prefix_behind (classes_of tokens) }
-{
-    let Some(class) = next_before(lexer, at) else {
-        return CallPrefix::Open;
-    };
-    if class != Token::ParenClose {
-        return CallPrefix::Params;
-    }
-    match next_before(lexer, at) {
-        None => CallPrefix::NoParams,
-        Some(_) => CallPrefix::Params,
-    }
-}
-
 /// How the tokens begin that stand from where the lexer stands up to the place `at`.
 fn prefix_of(first: &Lexer, at: usize) -> CallPrefix
     ensures { (tokens : List Placed) → StandBefore first.now at tokens → result ≡ prefix_of (classes_of tokens) }
@@ -52,40 +36,46 @@ fn prefix_of(first: &Lexer, at: usize) -> CallPrefix
     if class != Token::ParenOpen {
         return CallPrefix::Other;
     }
-    prefix_behind(&mut lexer, at)
-}
-
-/// The classes that may stand in a call, by those that may stand in a tuple.
-fn classes_in_call(
-    alloc: Global,
-    prefix: CallPrefix,
-    mut classes: Vec<Token>,
-) -> Result<Vec<Token>, AllocError>
-    ensures { IfOk result (λ v. v.items ≡ classes_in_call prefix classes.items) }
-{
-    match prefix {
-        CallPrefix::Nothing => {
-            let mut only = Vec::new(alloc);
-            only.push(Token::ParenOpen)?;
-            Ok(only)
-        }
-        CallPrefix::Other => Ok(Vec::new(alloc)),
-        CallPrefix::Open => {
-            classes.push(Token::ParenClose)?;
-            Ok(classes)
-        }
-        CallPrefix::NoParams | CallPrefix::Params => Ok(classes),
+    let Some(next) = next_before(&mut lexer, at) else {
+        return CallPrefix::Open;
+    };
+    if next != Token::ParenClose {
+        return CallPrefix::Params;
+    }
+    match next_before(&mut lexer, at) {
+        None => CallPrefix::NoParams,
+        Some(_) => CallPrefix::Params,
     }
 }
 
-/// Whether a call may end, by whether a tuple may.
-fn end_in_call(prefix: CallPrefix, may_end: bool) -> bool
-    ensures { result ≡ end_in_call prefix may_end }
+/// What may stand in a call, by what may stand in a tuple.
+fn in_call(prefix: CallPrefix, mut tuple: Expected) -> Result<Expected, AllocError>
+    ensures classes { IfOk result (λ e. e.classes.items ≡ classes_in_call prefix tuple.classes.items) }
+    ensures end { IfOk result (λ e. e.may_end ≡ end_in_call prefix tuple.may_end) }
+    ensures brackets { IfOk result (λ e. e.open_brackets.items ≡ tuple.open_brackets.items) }
 {
     match prefix {
-        CallPrefix::NoParams => true,
-        CallPrefix::Params => may_end,
-        _ => false,
+        CallPrefix::Nothing => {
+            tuple.classes.clear();
+            tuple.classes.push(Token::ParenOpen)?;
+            tuple.may_end = false;
+            Ok(tuple)
+        }
+        CallPrefix::Other => {
+            tuple.classes.clear();
+            tuple.may_end = false;
+            Ok(tuple)
+        }
+        CallPrefix::Open => {
+            tuple.classes.push(Token::ParenClose)?;
+            tuple.may_end = false;
+            Ok(tuple)
+        }
+        CallPrefix::NoParams => {
+            tuple.may_end = true;
+            Ok(tuple)
+        }
+        CallPrefix::Params => Ok(tuple),
     }
 }
 
@@ -107,11 +97,6 @@ pub fn expected_in_call_at(
         return Ok(None);
     }
     let first = names.into_lexer();
-    let prefix = prefix_of(&first, at);
     let tuple = expected_from(alloc, &first, at, DEFAULT_LEVELS + 1)?;
-    Ok(Some(Expected {
-        classes: classes_in_call(alloc, prefix, tuple.classes)?,
-        may_end: end_in_call(prefix, tuple.may_end),
-        open_brackets: tuple.open_brackets,
-    }))
+    Ok(Some(in_call(prefix_of(&first, at), tuple)?))
 }

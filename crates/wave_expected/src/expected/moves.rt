@@ -2,7 +2,6 @@
 ghost use Rattle.std.specs.Prelude.{◌≡◌};
 ghost use Rattle.wave_expected.specs.Private.Moves as spec;
 
-use wave_grammar::form::NodeType;
 use wave_lex::lex::Token;
 use wave_tree::role::ValueStart;
 
@@ -49,268 +48,76 @@ pub(crate) enum Form {
     Entries,
 }
 
-/// What a token does to the open forms.
+/// What a token does.
 #[derive(Clone, Copy)]
-pub(crate) enum Change {
-    Stay,
-    Open(Form),
-    /// Closes the innermost.
-    Close,
-}
-
-/// What a token does that is read.
-#[derive(Clone, Copy)]
-pub(crate) struct Move {
-    pub(crate) state: State,
-    pub(crate) change: Change,
-}
-
-/// The open forms stay.
-fn stay(state: State) -> Option<Move>
-    ensures { result ≡ spec.stay state }
-{
-    Some(Move {
-        state,
-        change: Change::Stay,
-    })
-}
-
-/// A form is opened.
-fn opening(form: Form, state: State) -> Option<Move>
-    ensures { result ≡ spec.opening form state }
-{
-    Some(Move {
-        state,
-        change: Change::Open(form),
-    })
-}
-
-/// The innermost form is closed.
-fn closing(state: State) -> Option<Move>
-    ensures { result ≡ spec.closing state }
-{
-    Some(Move {
-        state,
-        change: Change::Close,
-    })
-}
-
-/// What a value begins with whose first token is of this class; of a label, that of a case.
-pub(crate) fn sample_start(class: Token) -> ValueStart
-    ensures { result ≡ spec.sample_start class }
-{
-    match class {
-        Token::Number => ValueStart::Alone(NodeType::Number),
-        Token::Char => ValueStart::Alone(NodeType::Char),
-        Token::String => ValueStart::Alone(NodeType::String),
-        Token::MultilineString => ValueStart::Alone(NodeType::MultilineString),
-        Token::LabelOrKeyword => ValueStart::Label(NodeType::Label, NodeType::VariantWithPayload),
-        Token::ParenOpen => ValueStart::Paren,
-        Token::BracketOpen => ValueStart::Bracket,
-        Token::BraceOpen => ValueStart::Brace,
-        _ => ValueStart::Nothing,
-    }
-}
-
-/// Where a value is expected that may stand there.
-fn start_move(start: ValueStart) -> Option<Move>
-    ensures { result ≡ spec.start_move start }
-{
-    match start {
-        ValueStart::Alone(_) => stay(State::BehindValue),
-        ValueStart::Some => stay(State::Paren),
-        ValueStart::Label(_, _) => stay(State::BehindLabel),
-        ValueStart::Paren => opening(Form::Tuple, State::FirstItem),
-        ValueStart::Bracket => opening(Form::List, State::FirstItem),
-        ValueStart::Brace => stay(State::InBraces),
-        ValueStart::Nothing => None,
-    }
+pub(crate) enum Move {
+    /// It is read, and then this is expected.
+    To(State),
+    /// It opens a form, in which this is expected.
+    Open(Form, State),
+    /// It closes the innermost form, after which this is expected.
+    Close(State),
+    /// It is refused.
+    Refused,
 }
 
 /// Where a value is expected, and this many levels are left.
-fn value_move(left: usize, start: ValueStart) -> Option<Move>
+fn value_move(left: usize, start: ValueStart) -> Move
     ensures { result ≡ spec.value_move left start }
 {
-    if left > 0 {
-        return start_move(start);
+    match start {
+        _ if left == 0 => Move::Refused,
+        ValueStart::Alone(_) => Move::To(State::BehindValue),
+        ValueStart::Some => Move::To(State::Paren),
+        ValueStart::Label(_, _) => Move::To(State::BehindLabel),
+        ValueStart::Paren => Move::Open(Form::Tuple, State::FirstItem),
+        ValueStart::Bracket => Move::Open(Form::List, State::FirstItem),
+        ValueStart::Brace => Move::To(State::InBraces),
+        ValueStart::Nothing => Move::Refused,
     }
-    None
 }
 
-/// After a value.
-fn behind_move(form: Option<Form>, class: Token) -> Option<Move>
+/// After a value within this form.
+fn behind_move(form: Option<Form>, class: Token) -> Move
     ensures { result ≡ spec.behind_move form class }
 {
-    match form {
-        None => None,
-        Some(Form::Tuple) => match class {
-            Token::Comma => stay(State::NextItem),
-            Token::ParenClose => closing(State::BehindValue),
-            _ => None,
-        },
-        Some(Form::List) => match class {
-            Token::Comma => stay(State::NextItem),
-            Token::BracketClose => closing(State::BehindValue),
-            _ => None,
-        },
-        Some(Form::Payload) => match class {
-            Token::ParenClose => closing(State::BehindValue),
-            _ => None,
-        },
-        Some(Form::Entries) => match class {
-            Token::Comma => closing(State::Key),
-            Token::BraceClose => closing(State::BehindValue),
-            _ => None,
-        },
+    match (form, class) {
+        (Some(Form::Tuple | Form::List), Token::Comma) => Move::To(State::NextItem),
+        (Some(Form::Entries), Token::Comma) => Move::Close(State::Key),
+        (Some(Form::Tuple | Form::Payload), Token::ParenClose)
+        | (Some(Form::List), Token::BracketClose)
+        | (Some(Form::Entries), Token::BraceClose) => Move::Close(State::BehindValue),
+        _ => Move::Refused,
     }
 }
 
-/// Whether a token of this class closes the innermost form, which is a tuple or a list.
-fn closes(form: Option<Form>, class: Token) -> bool
-    ensures { result ≡ spec.closes form class }
+/// In braces, where no value is expected.
+fn brace_move(state: State, class: Token) -> Move
+    ensures { result ≡ spec.brace_move state class }
 {
-    match form {
-        Some(Form::Tuple) => matches!(class, Token::ParenClose),
-        Some(Form::List) => matches!(class, Token::BracketClose),
-        _ => false,
-    }
-}
-
-/// The close before the first item: no tuple is empty.
-fn closed_empty(form: Option<Form>) -> Option<Move>
-    ensures { result ≡ spec.closed_empty form }
-{
-    match form {
-        None | Some(Form::Tuple) => None,
-        Some(_) => closing(State::BehindValue),
-    }
-}
-
-/// The close after an item.
-fn closed(form: Option<Form>) -> Option<Move>
-    ensures { result ≡ spec.closed form }
-{
-    match form {
-        None => None,
-        Some(_) => closing(State::BehindValue),
-    }
-}
-
-/// Where the first item or the close is expected.
-fn first_move(form: Option<Form>, left: usize, class: Token, start: ValueStart) -> Option<Move>
-    ensures { result ≡ spec.first_move form left class start }
-{
-    if closes(form, class) {
-        return closed_empty(form);
-    }
-    value_move(left, start)
-}
-
-/// Where a further item or the close is expected.
-fn item_move(form: Option<Form>, left: usize, class: Token, start: ValueStart) -> Option<Move>
-    ensures { result ≡ spec.item_move form left class start }
-{
-    if closes(form, class) {
-        return closed(form);
-    }
-    value_move(left, start)
-}
-
-/// After a label, `ok` or `err`.
-fn label_move(form: Option<Form>, class: Token) -> Option<Move>
-    ensures { result ≡ spec.label_move form class }
-{
-    match class {
-        Token::ParenOpen => opening(Form::Payload, State::Value),
-        _ => behind_move(form, class),
-    }
-}
-
-/// After `some`.
-fn paren_move(class: Token) -> Option<Move>
-    ensures { result ≡ spec.paren_move class }
-{
-    match class {
-        Token::ParenOpen => opening(Form::Payload, State::Value),
-        _ => None,
-    }
-}
-
-/// Where a key or the close of its braces is expected.
-fn key_move(class: Token) -> Option<Move>
-    ensures { result ≡ spec.key_move class }
-{
-    match class {
-        Token::LabelOrKeyword
-        | Token::Number
-        | Token::Char
-        | Token::String
-        | Token::MultilineString => stay(State::BehindKey),
-        Token::BraceClose => stay(State::BehindValue),
-        _ => None,
-    }
-}
-
-/// After an open brace.
-fn brace_move(class: Token) -> Option<Move>
-    ensures { result ≡ spec.brace_move class }
-{
-    match class {
-        Token::LabelOrKeyword => stay(State::BehindWord),
-        Token::Colon => stay(State::NoFields),
-        _ => key_move(class),
-    }
-}
-
-/// After `{:`.
-fn no_fields_move(class: Token) -> Option<Move>
-    ensures { result ≡ spec.no_fields_move class }
-{
-    match class {
-        Token::BraceClose => stay(State::BehindValue),
-        _ => None,
-    }
-}
-
-/// After a key.
-fn colon_move(class: Token) -> Option<Move>
-    ensures { result ≡ spec.colon_move class }
-{
-    match class {
-        Token::Colon => opening(Form::Entries, State::Value),
-        _ => None,
-    }
-}
-
-/// Where a further flag or the close is expected.
-fn flag_move(class: Token) -> Option<Move>
-    ensures { result ≡ spec.flag_move class }
-{
-    match class {
-        Token::LabelOrKeyword => stay(State::BehindFlag),
-        Token::BraceClose => stay(State::BehindValue),
-        _ => None,
-    }
-}
-
-/// After a flag.
-fn behind_flag_move(class: Token) -> Option<Move>
-    ensures { result ≡ spec.behind_flag_move class }
-{
-    match class {
-        Token::Comma => stay(State::Flag),
-        Token::BraceClose => stay(State::BehindValue),
-        _ => None,
-    }
-}
-
-/// After the first label in braces.
-fn word_move(class: Token) -> Option<Move>
-    ensures { result ≡ spec.word_move class }
-{
-    match class {
-        Token::Colon => opening(Form::Entries, State::Value),
-        _ => behind_flag_move(class),
+    match (state, class) {
+        (State::InBraces, Token::LabelOrKeyword) => Move::To(State::BehindWord),
+        (State::InBraces, Token::Colon) => Move::To(State::NoFields),
+        (State::Flag, Token::LabelOrKeyword) => Move::To(State::BehindFlag),
+        (State::Key, Token::LabelOrKeyword)
+        | (
+            State::InBraces | State::Key,
+            Token::Number | Token::Char | Token::String | Token::MultilineString,
+        ) => Move::To(State::BehindKey),
+        (State::BehindWord | State::BehindFlag, Token::Comma) => Move::To(State::Flag),
+        (State::BehindWord | State::BehindKey, Token::Colon) => {
+            Move::Open(Form::Entries, State::Value)
+        }
+        (
+            State::InBraces
+            | State::NoFields
+            | State::BehindWord
+            | State::Key
+            | State::Flag
+            | State::BehindFlag,
+            Token::BraceClose,
+        ) => Move::To(State::BehindValue),
+        _ => Move::Refused,
     }
 }
 
@@ -322,49 +129,34 @@ pub(crate) fn next_move(
     left: usize,
     class: Token,
     start: ValueStart,
-) -> Option<Move>
+) -> Move
     ensures { result ≡ spec.next_move state form left class start }
 {
-    match state {
-        State::Value => value_move(left, start),
-        State::FirstItem => first_move(form, left, class, start),
-        State::NextItem => item_move(form, left, class, start),
-        State::BehindValue => behind_move(form, class),
-        State::BehindLabel => label_move(form, class),
-        State::Paren => paren_move(class),
-        State::InBraces => brace_move(class),
-        State::NoFields => no_fields_move(class),
-        State::BehindWord => word_move(class),
-        State::Key => key_move(class),
-        State::BehindKey => colon_move(class),
-        State::Flag => flag_move(class),
-        State::BehindFlag => behind_flag_move(class),
-        State::Nothing => None,
+    match (state, form, class) {
+        // No tuple is empty.
+        (State::FirstItem, Some(Form::Tuple), Token::ParenClose) => Move::Refused,
+        (State::NextItem, Some(Form::Tuple), Token::ParenClose)
+        | (State::FirstItem | State::NextItem, Some(Form::List), Token::BracketClose) => {
+            Move::Close(State::BehindValue)
+        }
+        (State::Value | State::FirstItem | State::NextItem, _, _) => value_move(left, start),
+        (State::BehindLabel | State::Paren, _, Token::ParenOpen) => {
+            Move::Open(Form::Payload, State::Value)
+        }
+        (State::BehindValue | State::BehindLabel, _, _) => behind_move(form, class),
+        _ => brace_move(state, class),
     }
 }
 
 /// Whether a value can end after this move from where so many levels are left: not where the move
-/// leads to a value past the last level.
+/// leads to a value past the last level. Of the forms only a list may have no value.
 pub(crate) fn goes_on(moved: Move, left: usize) -> bool
-    ensures { result ≡ spec.goes_on moved.state moved.change left }
+    ensures { result ≡ spec.goes_on moved left }
 {
-    match moved.state {
-        State::Value | State::Paren | State::BehindKey => left > 1,
-        State::FirstItem => match moved.change {
-            Change::Open(Form::Tuple) => left > 1,
-            _ => true,
-        },
-        _ => true,
-    }
-}
-
-/// Whether a token of this class may stand there, if it stands well: a label that is none of the flags
-/// before it, and no keyword.
-pub(crate) fn may_stand(state: State, form: Option<Form>, left: usize, class: Token) -> bool
-    ensures { result ≡ spec.may_stand state form left class }
-{
-    match next_move(state, form, left, class, sample_start(class)) {
-        Some(moved) => goes_on(moved, left),
-        None => false,
+    match moved {
+        Move::Refused => false,
+        Move::Open(Form::List, _) => true,
+        Move::Open(_, _) | Move::To(State::Paren | State::BehindKey) => left > 1,
+        Move::To(_) | Move::Close(_) => true,
     }
 }

@@ -11,6 +11,6 @@ loop-class-preserved c =
     read_more c.args.first.now c.args.at c.args.levels c.loop-class.lexer c.next_before.new.lexer c.loop-class.automaton c.read.new.self c.loop-class.open_brackets.items c.note_bracket.new.spans.items c.in-Some.class c.span.result c.slice.result.now
     c.loop-class.invariant c.in-Some.ensures.0 c.in-Some.ensures.1 c.span.ensures.span c.in_ok-note_bracket.ensures c.slice.ensures c.in_ok-read.ensures.after c.read.ensures.levels
 
-pub returns : goal.returns
-returns c =
-    is_expected c.args.first.now c.args.at c.args.levels c.loop-class.lexer c.loop-class.automaton c.loop-class.open_brackets.items _ c.loop-class.invariant c.in_default.ensures c.in_ok-classes.ensures c.may_end.ensures refl
+pub returns-clause-expected : goal.returns-clause-expected
+returns-clause-expected c =
+    is_expected c.args.first.now c.args.at c.args.levels c.loop-class.lexer c.loop-class.automaton c.loop-class.open_brackets.items _ c.loop-class.invariant c.in_default.ensures c.in_ok-classes.ensures.follow c.may_end.ensures refl

@@ -1,4 +1,4 @@
-use Rattle.std.proofs.Common.{ℕ, ◌≡◌, ◌≤◌, ◌<◌, ap, subst, refl, arith}
+use Rattle.std.proofs.Common.{ℕ, ◌≡◌, ◌≤◌, ◌<◌, ap, subst, arith}
 use Rattle.wave_lex.specs.Tokenization.{Lexed}
 use Rattle.wave_expected.specs.declared.expected.Expected.{Expected}
 use Rattle.wave_expected.specs.Expected.{MayFollowInCall, AreParams, IsExpectedFrom}
@@ -19,13 +19,13 @@ returns-then-span-at c =
 pub returns : goal.returns
 returns c =
     let (k, named, is) = c.in-Ok.ensures.named in
-    let new : Expected = record { classes = c.in_ok-classes_in_call.field-0; may_end = c.end_in_call.result; open_brackets = c.in_ok-tuple.tuple.open_brackets } in (
+    let new : Expected = c.in_ok-in_call.field-0 in (
       k,
       named,
       by k (ap (λ (l : Lexed). l.end) is),
       subst (λ (l : Lexed). IsExpectedFrom l c.args.at (MayFollowInCall 100) (AreParams 100) new) is
           (subst (λ (l : Lexed). IsExpectedFrom l c.args.at (MayFollowInCall 100) (AreParams 100) new) c.into_lexer-first.ensures
-          (in_call c.into_lexer-first.result c.args.at c.prefix_of-prefix.result c.in_ok-tuple.tuple new c.prefix_of-prefix.ensures c.in_ok-tuple.ensures c.in_ok-classes_in_call.ensures c.end_in_call.ensures refl)),
+          (in_call c.into_lexer-first.result c.args.at c.prefix_of.result c.in_ok-tuple.tuple new c.prefix_of.ensures c.in_ok-tuple.ensures.expected c.in_ok-in_call.ensures.classes c.in_ok-in_call.ensures.end c.in_ok-in_call.ensures.brackets)),
     )
   where
     by : (k : ℕ) → c.in-Ok.names.end ≡ k → k ≤ c.args.at
