@@ -1,4 +1,3 @@
 pub mod Moves
 pub mod Prefixes
 pub mod CallPrefixes
-pub mod Separators

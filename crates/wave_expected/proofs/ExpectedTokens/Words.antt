@@ -1,5 +1,5 @@
 -- The words of what may stand.
-use Rattle.std.proofs.Common.{ℕ, ◌≡◌, ◌≤◌, ◌<◌, ◌+◌, List, [], ◌∷◌, ◌++◌, length, take, drop, get_or, map, Bool, true, false, refl, sym, ap, ◌∙◌, arith, rules}
+use Rattle.std.proofs.Common.{ℕ, ◌≡◌, ◌≢◌, ◌≤◌, ◌<◌, ◌+◌, List, [], ◌∷◌, ◌++◌, length, take, drop, get_or, map, Bool, true, false, refl, sym, ap, ◌∙◌, arith, rules}
 use Rattle.std.specs.Prelude.{◌↔◌, cond, Contains, IsTrue, if◌then◌else◌, bytes_eq, codes, nat_eq}
 use Rattle.std.specs.List.{filter, list_any}
 use Rattle.std.specs.Borrow.{Bor}
@@ -16,7 +16,6 @@ use Rattle.wave_lex.specs.declared.lex.Token.TheVariants.{Colon, Comma, Number, 
 use Rattle.wave_lex.specs.Errors.{class_name}
 use Rattle.wave_grammar.proofs.Elaboration.ParamsInTurn.{mapped_count}
 use Rattle.wave_expected.specs.Expected.{same_class, class_word, words_among, marks_reported, starts_reported, reported_words, or_joined}
-use Rattle.wave_expected.specs.Private.Separators.{separator}
 
 -- ---- classes
 
@@ -88,7 +87,27 @@ pub word_left : (classes : List lex.Token) (c : lex.Token) (b : Bool) (old : Lis
 word_left classes c b old h absent =
     sym (append-nil (texts old)) ∙ ap (λ t. texts old ++ map class_word (cond t (c ∷ []) [])) (sym (is_among classes c b h ∙ absent))
 
+-- there is one for one of them
+pub word_added : (classes : List lex.Token) (c : lex.Token) (b : Bool) (old new : List (Bor (List ℕ))) (w : Bor (List ℕ)) → IsTrue b ↔ Contains classes c → b ≡ true → w.now ≡ class_word c → new ≡ old ++ w ∷ [] →
+    texts new ≡ texts old ++ words_among classes (c ∷ [])
+word_added classes c b old new w h present word push =
+    ap texts push
+    ∙ (map-append (λ (n : Bor (List ℕ)). n.now) old (w ∷ [])
+    ∙ (ap (λ z. texts old ++ z ∷ []) word ∙ ap (λ t. texts old ++ map class_word (cond t (c ∷ []) [])) (sym (is_among classes c b h ∙ present))))
+
 -- ---- joined
+
+-- what stands before the word with that index of so many: ` or ` before the last
+abbrev pub separator : ℕ → ℕ → List ℕ
+separator index count = if nat_eq (index + 1) count then codes " or " else codes ", "
+
+-- before the last
+pub last_separator : (i n : ℕ) → i + 1 ≡ n → codes " or " ≡ separator i n
+last_separator i n e = let last : nat_eq (i + 1) n ≡ true = grind (arith, e) in ap (λ b. if b then codes " or " else codes ", ") (sym last)
+
+-- before another
+pub other_separator : (i n : ℕ) → i + 1 ≢ n → codes ", " ≡ separator i n
+other_separator i n e = let other : nat_eq (i + 1) n ≡ false = grind (arith, e) in ap (λ b. if b then codes " or " else codes ", ") (sym other)
 
 -- the words after the first, each behind what stands before it
 abbrev pub behind : List (List ℕ) → List ℕ

@@ -1,8 +1,7 @@
 //! What may stand at a place of a text, in words for people.
-ghost use Rattle.std.specs.Prelude.{◌≡◌, ◌<◌, ◌++◌, [], ◌∷◌, IfOk, if◌then◌else◌, codes, string_bytes};
+ghost use Rattle.std.specs.Prelude.{◌≡◌, ◌++◌, [], ◌∷◌, IfOk, if◌then◌else◌, codes, string_bytes};
 ghost use Rattle.wave_wasm.specs.Borrowed.{texts};
 ghost use Rattle.wave_expected.specs.Expected.{class_word, words_among, starts_reported, or_joined, expected_words};
-ghost use Rattle.wave_expected.specs.Private.Separators.{separator};
 
 use crate::expected::Expected;
 use std::alloc::{AllocError, Global};
@@ -62,17 +61,9 @@ impl Expected {
         ensures { IfOk result (λ _. texts words.new.items ≡ texts words.old.items ++ words_among self.now.classes.items reported.now) }
     {
         for class in reported {
-            self.add_word(words, *class)?;
-        }
-        Ok(())
-    }
-
-    /// Adds the word of a class that may stand there.
-    fn add_word(&self, words: &mut Vec<&'static str>, class: Token) -> Result<(), AllocError>
-        ensures { IfOk result (λ _. texts words.new.items ≡ texts words.old.items ++ words_among self.now.classes.items (class ∷ [])) }
-    {
-        if self.contains(class) {
-            words.push(class_word(class))?;
+            if self.contains(*class) {
+                words.push(class_word(*class))?;
+            }
         }
         Ok(())
     }
@@ -107,19 +98,13 @@ fn or_joined(alloc: Global, words: &[&str]) -> Result<String, AllocError>
     }
     text.push_str(words[0])?;
     for index in 1..words.len() {
-        text.push_str(separator(index, words.len()))?;
+        let separator = if index + 1 == words.len() {
+            " or "
+        } else {
+            ", "
+        };
+        text.push_str(separator)?;
         text.push_str(words[index])?;
     }
     Ok(text)
-}
-
-/// What stands before the word with that index, which isn't the first of so many.
-fn separator(index: usize, count: usize) -> &'static str
-    requires { index < count }
-    ensures { result.now ≡ separator index count }
-{
-    if index + 1 == count {
-        return " or ";
-    }
-    ", "
 }
