@@ -25,7 +25,6 @@ use wave_type::ty::places::{enum_place, has_distinct_names, named_types, tuple_t
 use wave_wasm::wasm::{WasmType, WasmTypeKind, WasmValueError};
 
 mod cases;
-mod unchecked;
 
 impl Value {
     // Whether the value's own type is this one.
@@ -264,6 +263,16 @@ fn boxed_payload<S: ShowsValue>(
     }
 }
 
+// The payload in its box, where there is one.
+pub(super) fn in_box(alloc: Global, val: Option<Value>) -> Result<Option<Box<Value>>, AllocError>
+    ensures { IfOk result (λ b. boxed b ≡ val) }
+{
+    match val {
+        None => Ok(None),
+        Some(val) => Ok(Some(Box::new(alloc, val)?)),
+    }
+}
+
 // The values in the fields' order. Fields that are handed in as the type has them need no look-up.
 fn ordered<S: ShowsValue>(
     alloc: Global,
@@ -278,7 +287,8 @@ fn ordered<S: ShowsValue>(
         (RefusesFields S.words (map by_bytes stated.now.items) (last_under (named fields.entry.items))) }
 {
     if stand_in_order(ty, stated, &fields) {
-        return in_turn::<S>(alloc, stated, fields);
+        check_types::<S>(alloc, stated, &fields)?;
+        return Ok(values_of(alloc, fields)?);
     }
     let given = last_values(alloc, fields)?;
     in_order::<S>(alloc, stated, given)
@@ -286,7 +296,11 @@ fn ordered<S: ShowsValue>(
 
 // Whether the fields have the names of the record type in its order, and no name stands twice
 // within the type.
-fn stand_in_order<V>(ty: &Type, stated: &Vec<(String, Type)>, fields: &Vec<(&str, V)>) -> bool
+pub(super) fn stand_in_order<V>(
+    ty: &Type,
+    stated: &Vec<(String, Type)>,
+    fields: &Vec<(&str, V)>,
+) -> bool
     requires { Some (fields_of (map by_bytes stated.now.items)) ≡ record_part ty.now }
     ensures turn { OnTrue result (IsInTurn (map by_bytes stated.now.items) (named fields.now.items)) }
     ensures distinct { OnTrue result (HasDistinctNames ty.now) }
@@ -314,22 +328,6 @@ fn have_names<V>(stated: &Vec<(String, Type)>, fields: &Vec<(&str, V)>) -> bool
     true
 }
 
-// The values of fields that stand in the type's order. One of another type is refused.
-fn in_turn<S: ShowsValue>(
-    alloc: Global,
-    stated: &Vec<(String, Type)>,
-    fields: Vec<(&str, Value)>,
-) -> Result<Vec<Value>, WasmValueError>
-    requires { IsInTurn (map by_bytes stated.now.items) (named fields.items) }
-    ensures given { IfOk result
-        (λ v. InOrder (map by_bytes stated.now.items) (last_under (named fields.entry.items)) v.items) }
-    ensures refused { IfErr result
-        (RefusesFields S.words (map by_bytes stated.now.items) (last_under (named fields.entry.items))) }
-{
-    check_types::<S>(alloc, stated, &fields)?;
-    Ok(values_of(alloc, fields)?)
-}
-
 // Refuses a value of another type than the field at its place.
 fn check_types<S: ShowsValue>(
     alloc: Global,
@@ -353,7 +351,10 @@ fn check_types<S: ShowsValue>(
 }
 
 // The values of the fields.
-fn values_of<V: Drop>(alloc: Global, fields: Vec<(&str, V)>) -> Result<Vec<V>, AllocError>
+pub(super) fn values_of<V: Drop>(
+    alloc: Global,
+    fields: Vec<(&str, V)>,
+) -> Result<Vec<V>, AllocError>
     ensures { IfOk result (λ v. v.items ≡ map (λ f. f.1) fields.entry.items) }
 {
     let mut vals = Vec::with_capacity(alloc, fields.len())?;

@@ -1,11 +1,15 @@
 //! A value is lawful: it is of its own type, and a type is full where its names are distinct. Beside
 //! the trait's clauses each constructor and each view of values has those of the one of `Value` of the
-//! same name; a refusal shows a value by the text of its own type.
+//! same name; a refusal shows a value by the text of its own type. The unchecked constructors are
+//! handed the parts that a value of the type has: where the type is of that kind and has distinct
+//! names they compare no part's type, else they ask the constructors that compare.
+use super::checked::{in_box, stand_in_order, values_of};
 use super::refusals::ByType;
-use super::{Type, Value};
+use super::{Content, Type, Value};
 use std::alloc::{AllocError, Global};
 use std::mem::replace;
-use wave_wasm::wasm::{WasmTypeKind, WasmValue, WasmValueError};
+use wave_type::ty::places::{has_distinct_names, named_types, tuple_types, variant_place};
+use wave_wasm::wasm::{WasmType, WasmTypeKind, WasmValue, WasmValueError};
 
 #[tactic(auto, using(crate::proofs::Lawful::Values::built_leaf, crate::proofs::Lawful::Values::built_only, crate::proofs::Lawful::Values::never_refused, crate::proofs::Lawful::Values::full_leaf, crate::proofs::Lawful::Values::well_formed, crate::proofs::Lawful::Values::built_where, crate::proofs::Lawful::Values::full_list, crate::proofs::Lawful::Values::full_tuple, crate::proofs::Lawful::Records::built_record, crate::proofs::Lawful::VariantsFlagsMaps::full_variant, crate::proofs::Lawful::Values::full_option, crate::proofs::Lawful::Values::full_enum, crate::proofs::Lawful::Values::full_result, crate::proofs::Lawful::VariantsFlagsMaps::built_flags, crate::proofs::Lawful::VariantsFlagsMaps::full_flags, crate::proofs::Lawful::VariantsFlagsMaps::built_map, crate::proofs::Lawful::VariantsFlagsMaps::full_map))]
 impl WasmValue for Value {
@@ -232,7 +236,14 @@ impl WasmValue for Value {
         ensures taken { OnOk result (TakesList ty.now vals.old.items) }
         ensures refused { IfErr result (RefusesList own_text ty.now vals.old.items) }
     {
-        Value::list_unchecked(alloc, ty, replace(vals, Vec::new(alloc)))
+        let vals = replace(vals, Vec::new(alloc));
+        match ty.list_element_type() {
+            Some(_) if has_distinct_names(ty) => Ok(Value {
+                own: ty.clone()?,
+                content: Content::List(vals),
+            }),
+            _ => Value::list_of::<ByType>(alloc, ty, vals),
+        }
     }
 
     fn make_tuple_unchecked(
@@ -247,7 +258,14 @@ impl WasmValue for Value {
         ensures taken { OnOk result (TakesTuple ty.now vals.old.items) }
         ensures refused { IfErr result (RefusesTuple own_text ty.now vals.old.items) }
     {
-        Value::tuple_unchecked(alloc, ty, replace(vals, Vec::new(alloc)))
+        let vals = replace(vals, Vec::new(alloc));
+        match tuple_types(ty) {
+            Some(_) if has_distinct_names(ty) => Ok(Value {
+                own: ty.clone()?,
+                content: Content::Tuple(vals),
+            }),
+            _ => Value::tuple_of::<ByType>(alloc, ty, vals),
+        }
     }
 
     fn make_record_unchecked(
@@ -262,7 +280,17 @@ impl WasmValue for Value {
         ensures taken { OnOk result (TakesRecord ty.now (named fields.old.items)) }
         ensures refused { IfErr result (RefusesRecord own_text ty.now (named fields.old.items)) }
     {
-        Value::record_unchecked(alloc, ty, replace(fields, Vec::new(alloc)))
+        let fields = replace(fields, Vec::new(alloc));
+        match named_types(ty) {
+            Some(stated) if stand_in_order(ty, stated, &fields) => {
+                let vals = values_of(alloc, fields)?;
+                Ok(Value {
+                    own: ty.clone()?,
+                    content: Content::Record(vals),
+                })
+            }
+            _ => Value::record_of::<ByType>(alloc, ty, fields),
+        }
     }
 
     fn make_variant_unchecked(
@@ -278,7 +306,17 @@ impl WasmValue for Value {
         ensures taken { OnOk result (TakesVariant ty.now case.now val.old) }
         ensures refused { IfErr result (RefusesVariant own_text ty.now case.now val.old) }
     {
-        Value::variant_unchecked(alloc, ty, case, val.take())
+        let val = val.take();
+        match variant_place(ty, case) {
+            Some(place) if has_distinct_names(ty) => {
+                let val = in_box(alloc, val)?;
+                Ok(Value {
+                    own: ty.clone()?,
+                    content: Content::Variant(place, val),
+                })
+            }
+            _ => Value::variant_of::<ByType>(alloc, ty, case, val),
+        }
     }
 
     fn make_option_unchecked(
@@ -293,7 +331,17 @@ impl WasmValue for Value {
         ensures taken { OnOk result (TakesOption ty.now val.old) }
         ensures refused { IfErr result (RefusesParts own_text WasmTypeKind.Option ty.now (option_stated ty.now val.old)) }
     {
-        Value::option_unchecked(alloc, ty, val.take())
+        let val = val.take();
+        match ty.option_some_type() {
+            Some(_) if has_distinct_names(ty) => {
+                let val = in_box(alloc, val)?;
+                Ok(Value {
+                    own: ty.clone()?,
+                    content: Content::Option(val),
+                })
+            }
+            _ => Value::option_of::<ByType>(alloc, ty, val),
+        }
     }
 
     fn make_result_unchecked(
@@ -308,7 +356,26 @@ impl WasmValue for Value {
         ensures taken { OnOk result (TakesResult ty.now val.old) }
         ensures refused { IfErr result (RefusesResult own_text ty.now val.old) }
     {
-        Value::result_unchecked(alloc, ty, replace(val, Ok(None)))
+        let val = replace(val, Ok(None));
+        match ty.result_types() {
+            Some(_) if has_distinct_names(ty) => match val {
+                Ok(payload) => {
+                    let payload = in_box(alloc, payload)?;
+                    Ok(Value {
+                        own: ty.clone()?,
+                        content: Content::Ok(payload),
+                    })
+                }
+                Err(payload) => {
+                    let payload = in_box(alloc, payload)?;
+                    Ok(Value {
+                        own: ty.clone()?,
+                        content: Content::Err(payload),
+                    })
+                }
+            },
+            _ => Value::result_of::<ByType>(alloc, ty, val),
+        }
     }
 
     fn make_map_unchecked(
@@ -323,7 +390,14 @@ impl WasmValue for Value {
         ensures taken { OnOk result (TakesMap ty.now entries.old.items) }
         ensures refused { IfErr result (RefusesParts own_text WasmTypeKind.Map ty.now (map_stated ty.now entries.old.items)) }
     {
-        Value::map_unchecked(alloc, ty, replace(entries, Vec::new(alloc)))
+        let entries = replace(entries, Vec::new(alloc));
+        match ty.map_key_value_types() {
+            Some(_) if has_distinct_names(ty) => Ok(Value {
+                own: ty.clone()?,
+                content: Content::Map(entries),
+            }),
+            _ => Value::map_of::<ByType>(alloc, ty, entries),
+        }
     }
 
     fn unwrap_bool(&self) -> bool {
