@@ -3,204 +3,189 @@ use crate::convert::IntoValue;
 use std::alloc::{AllocError, Global};
 use wave_type::ty::Type;
 use wave_value::value::Value;
+use wave_wasm::wasm::WasmValue;
 
-impl IntoValue for bool {
+/// A Rust type whose values stand for values of one token, which are made without memory.
+pub trait OneToken: Into<Value> + Default + Drop {
+    ghost use Rattle.std.specs.Prelude.{◌≡◌};
+    ghost use Rattle.wave_wasm.specs.Types.{Simple};
+    ghost use Rattle.wave_wasm.specs.Values.{Leaf, leaf_type};
+    ghost use Rattle.wave_value.specs.TypedValue.{TypedValue, typed_leaf};
+
+    /// The simple type of all the values.
+    ghost simple: { Simple };
+
+    /// The value of one token that one stands for.
+    ghost leaf: { Self → Leaf };
+
+    /// It is of that type.
+    ghost is_simple: { (val : Self) → leaf_type (leaf val) ≡ simple };
+
+    /// It is what is made of one.
+    ghost is_made: { (val : Self) (built : TypedValue) → Self.converts val built → built ≡ typed_leaf (leaf val) };
+}
+
+impl OneToken for bool {
     ghost use Rattle.std.specs.Prelude.{refl};
     ghost use Rattle.wave_wasm.specs.Types as type;
     ghost use Rattle.wave_wasm.specs.Values as value;
 
-    ghost own = { type.simple type.bool };
+    ghost simple = { type.bool };
 
-    ghost tree = { λ val. value.leaf (value.bool val) };
+    ghost leaf = { λ val. value.bool val };
 
-    ghost is_representable = { refl };
+    ghost is_simple = { λ val. refl };
 
-    fn value_type(_alloc: Global) -> Result<Type, AllocError> {
-        Ok(Type::BOOL)
-    }
-
-    fn into_value(self, _alloc: Global) -> Result<Value, AllocError> {
-        Ok(Value::from(self))
-    }
+    ghost is_made = { λ val built is. is };
 }
 
-impl IntoValue for i8 {
+impl OneToken for i8 {
     ghost use Rattle.std.specs.Prelude.{refl};
     ghost use Rattle.wave_wasm.specs.Types as type;
     ghost use Rattle.wave_wasm.specs.Values as value;
 
-    ghost own = { type.simple (type.whole type.s8) };
+    ghost simple = { type.whole type.s8 };
 
-    ghost tree = { λ val. value.leaf (value.whole type.s8 val) };
+    ghost leaf = { λ val. value.whole type.s8 val };
 
-    ghost is_representable = { refl };
+    ghost is_simple = { λ val. refl };
 
-    fn value_type(_alloc: Global) -> Result<Type, AllocError> {
-        Ok(Type::S8)
-    }
-
-    fn into_value(self, _alloc: Global) -> Result<Value, AllocError> {
-        Ok(Value::from(self))
-    }
+    ghost is_made = { λ val built is. is };
 }
 
-impl IntoValue for i16 {
+impl OneToken for i16 {
     ghost use Rattle.std.specs.Prelude.{refl};
     ghost use Rattle.wave_wasm.specs.Types as type;
     ghost use Rattle.wave_wasm.specs.Values as value;
 
-    ghost own = { type.simple (type.whole type.s16) };
+    ghost simple = { type.whole type.s16 };
 
-    ghost tree = { λ val. value.leaf (value.whole type.s16 val) };
+    ghost leaf = { λ val. value.whole type.s16 val };
 
-    ghost is_representable = { refl };
+    ghost is_simple = { λ val. refl };
 
-    fn value_type(_alloc: Global) -> Result<Type, AllocError> {
-        Ok(Type::S16)
-    }
-
-    fn into_value(self, _alloc: Global) -> Result<Value, AllocError> {
-        Ok(Value::from(self))
-    }
+    ghost is_made = { λ val built is. is };
 }
 
-impl IntoValue for i32 {
+impl OneToken for i32 {
     ghost use Rattle.std.specs.Prelude.{refl};
     ghost use Rattle.wave_wasm.specs.Types as type;
     ghost use Rattle.wave_wasm.specs.Values as value;
 
-    ghost own = { type.simple (type.whole type.s32) };
+    ghost simple = { type.whole type.s32 };
 
-    ghost tree = { λ val. value.leaf (value.whole type.s32 val) };
+    ghost leaf = { λ val. value.whole type.s32 val };
 
-    ghost is_representable = { refl };
+    ghost is_simple = { λ val. refl };
 
-    fn value_type(_alloc: Global) -> Result<Type, AllocError> {
-        Ok(Type::S32)
-    }
-
-    fn into_value(self, _alloc: Global) -> Result<Value, AllocError> {
-        Ok(Value::from(self))
-    }
+    ghost is_made = { λ val built is. is };
 }
 
-impl IntoValue for i64 {
+impl OneToken for i64 {
     ghost use Rattle.std.specs.Prelude.{refl};
     ghost use Rattle.wave_wasm.specs.Types as type;
     ghost use Rattle.wave_wasm.specs.Values as value;
 
-    ghost own = { type.simple (type.whole type.s64) };
+    ghost simple = { type.whole type.s64 };
 
-    ghost tree = { λ val. value.leaf (value.whole type.s64 val) };
+    ghost leaf = { λ val. value.whole type.s64 val };
 
-    ghost is_representable = { refl };
+    ghost is_simple = { λ val. refl };
 
-    fn value_type(_alloc: Global) -> Result<Type, AllocError> {
-        Ok(Type::S64)
-    }
-
-    fn into_value(self, _alloc: Global) -> Result<Value, AllocError> {
-        Ok(Value::from(self))
-    }
+    ghost is_made = { λ val built is. is };
 }
 
-impl IntoValue for u8 {
+impl OneToken for u8 {
     ghost use Rattle.std.specs.Prelude.{pos, refl};
     ghost use Rattle.wave_wasm.specs.Types as type;
     ghost use Rattle.wave_wasm.specs.Values as value;
 
-    ghost own = { type.simple (type.whole type.u8) };
+    ghost simple = { type.whole type.u8 };
 
-    ghost tree = { λ val. value.leaf (value.whole type.u8 (pos val)) };
+    ghost leaf = { λ val. value.whole type.u8 (pos val) };
 
-    ghost is_representable = { refl };
+    ghost is_simple = { λ val. refl };
 
-    fn value_type(_alloc: Global) -> Result<Type, AllocError> {
-        Ok(Type::U8)
-    }
-
-    fn into_value(self, _alloc: Global) -> Result<Value, AllocError> {
-        Ok(Value::from(self))
-    }
+    ghost is_made = { λ val built is. is };
 }
 
-impl IntoValue for u16 {
+impl OneToken for u16 {
     ghost use Rattle.std.specs.Prelude.{pos, refl};
     ghost use Rattle.wave_wasm.specs.Types as type;
     ghost use Rattle.wave_wasm.specs.Values as value;
 
-    ghost own = { type.simple (type.whole type.u16) };
+    ghost simple = { type.whole type.u16 };
 
-    ghost tree = { λ val. value.leaf (value.whole type.u16 (pos val)) };
+    ghost leaf = { λ val. value.whole type.u16 (pos val) };
 
-    ghost is_representable = { refl };
+    ghost is_simple = { λ val. refl };
 
-    fn value_type(_alloc: Global) -> Result<Type, AllocError> {
-        Ok(Type::U16)
-    }
-
-    fn into_value(self, _alloc: Global) -> Result<Value, AllocError> {
-        Ok(Value::from(self))
-    }
+    ghost is_made = { λ val built is. is };
 }
 
-impl IntoValue for u32 {
+impl OneToken for u32 {
     ghost use Rattle.std.specs.Prelude.{pos, refl};
     ghost use Rattle.wave_wasm.specs.Types as type;
     ghost use Rattle.wave_wasm.specs.Values as value;
 
-    ghost own = { type.simple (type.whole type.u32) };
+    ghost simple = { type.whole type.u32 };
 
-    ghost tree = { λ val. value.leaf (value.whole type.u32 (pos val)) };
+    ghost leaf = { λ val. value.whole type.u32 (pos val) };
 
-    ghost is_representable = { refl };
+    ghost is_simple = { λ val. refl };
 
-    fn value_type(_alloc: Global) -> Result<Type, AllocError> {
-        Ok(Type::U32)
-    }
-
-    fn into_value(self, _alloc: Global) -> Result<Value, AllocError> {
-        Ok(Value::from(self))
-    }
+    ghost is_made = { λ val built is. is };
 }
 
-impl IntoValue for u64 {
+impl OneToken for u64 {
     ghost use Rattle.std.specs.Prelude.{pos, refl};
     ghost use Rattle.wave_wasm.specs.Types as type;
     ghost use Rattle.wave_wasm.specs.Values as value;
 
-    ghost own = { type.simple (type.whole type.u64) };
+    ghost simple = { type.whole type.u64 };
 
-    ghost tree = { λ val. value.leaf (value.whole type.u64 (pos val)) };
+    ghost leaf = { λ val. value.whole type.u64 (pos val) };
 
-    ghost is_representable = { refl };
+    ghost is_simple = { λ val. refl };
 
-    fn value_type(_alloc: Global) -> Result<Type, AllocError> {
-        Ok(Type::U64)
-    }
-
-    fn into_value(self, _alloc: Global) -> Result<Value, AllocError> {
-        Ok(Value::from(self))
-    }
+    ghost is_made = { λ val built is. is };
 }
 
-impl IntoValue for char {
+impl OneToken for char {
     ghost use Rattle.std.specs.Prelude.{refl};
     ghost use Rattle.wave_wasm.specs.Types as type;
     ghost use Rattle.wave_wasm.specs.Values as value;
 
-    ghost own = { type.simple type.char };
+    ghost simple = { type.char };
 
-    ghost tree = { λ val. value.leaf (value.char val) };
+    ghost leaf = { λ val. value.char val };
+
+    ghost is_simple = { λ val. refl };
+
+    ghost is_made = { λ val built is. is };
+}
+
+impl<T: OneToken> IntoValue for T {
+    ghost use Rattle.std.specs.Prelude.{refl};
+    ghost use Rattle.wave_wasm.specs.Types as type;
+    ghost use Rattle.wave_wasm.specs.Values as value;
+
+    ghost own = { type.simple T.simple };
+
+    ghost tree = { λ val. value.leaf (T.leaf val) };
 
     ghost is_representable = { refl };
 
     fn value_type(_alloc: Global) -> Result<Type, AllocError> {
-        Ok(Type::CHAR)
+        let val: Value = T::default().into();
+        val.ty()
     }
 
     fn into_value(self, _alloc: Global) -> Result<Value, AllocError> {
-        Ok(Value::from(self))
+        let val: Value = self.into();
+        // Its clause says that the value is sound.
+        WasmValue::kind(&val);
+        Ok(val)
     }
 }
 
