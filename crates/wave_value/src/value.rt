@@ -1,5 +1,5 @@
 //! Values of component types.
-ghost use Rattle.std.specs.Prelude.{◌≡◌, IfOk, IfErr, pos, string_bytes};
+ghost use Rattle.std.specs.Prelude.{◌≡◌, IfOk, IfErr, pos};
 ghost use Rattle.wave_wasm.specs.Types as type;
 ghost use Rattle.wave_wasm.specs.Types.{IsRepresentable};
 ghost use Rattle.wave_wasm.specs.Values as value;
@@ -201,7 +201,7 @@ impl Value {
         ensures built { IfOk result (λ v. (v ≡ typed_leaf (value.string val.now)) × IsSound (value.string val.now)) }
         ensures refused { IfErr result IsMemory }
     {
-        Ok(string_value(String::from_str(alloc, val)?))
+        Ok(Value::from(String::from_str(alloc, val)?))
     }
 
     /// The bool that the value is. It asks for a value of `bool`.
@@ -334,16 +334,6 @@ fn scalar_value(own: Type, one: Scalar) -> Value
     Value {
         own,
         content: Content::Scalar(one),
-    }
-}
-
-// The value of `string`, this text.
-fn string_value(text: String) -> Value
-    ensures { result ≡ typed_leaf (value.string (string_bytes text)) }
-{
-    Value {
-        own: Type::STRING,
-        content: Content::String(text),
     }
 }
 

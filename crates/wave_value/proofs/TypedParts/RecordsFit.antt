@@ -62,8 +62,3 @@ fields_in_turn T xs given a true is have same says = record {
   distinct = subst (λ fs. AreDistinct (first_names fs)) (sym (parts_of T (map by_bytes xs) is)) (names_of_parts T (says.0 refl));
 }
 fields_in_turn T xs given a false is have same says = tt
-
--- the answer yes says that the names are distinct
-pub known_distinct : (T : TypeTree) (b : Bool) → IsTrue b ↔ HasDistinctNames T → OnTrue b (HasDistinctNames T)
-known_distinct T true says = says.0 refl
-known_distinct T false says = tt

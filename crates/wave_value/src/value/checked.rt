@@ -305,19 +305,11 @@ pub(super) fn stand_in_order<V>(
     ensures turn { OnTrue result (IsInTurn (map by_bytes stated.now.items) (named fields.now.items)) }
     ensures distinct { OnTrue result (HasDistinctNames ty.now) }
 {
-    if !have_names(stated, fields) {
-        return false;
-    }
-    has_distinct_names(ty)
-}
-
-// Whether the fields have the type's names in its order.
-fn have_names<V>(stated: &Vec<(String, Type)>, fields: &Vec<(&str, V)>) -> bool
-    ensures { OnTrue result
-        (first_names (named fields.now.items) ≡ first_names (map by_bytes stated.now.items)) }
-{
     let count = stated.len();
     if count != fields.len() {
+        return false;
+    }
+    if !has_distinct_names(ty) {
         return false;
     }
     for i in 0..count {

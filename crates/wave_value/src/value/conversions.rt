@@ -5,7 +5,7 @@ ghost use Rattle.wave_wasm.specs.Types as type;
 ghost use Rattle.wave_wasm.specs.Values as value;
 ghost use Rattle.wave_value.specs.TypedValue.{typed_leaf};
 
-use super::{Scalar, Type, Value, scalar_value, string_value};
+use super::{Content, Scalar, Type, Value, scalar_value};
 
 impl From<bool> for Value {
     ghost from_gives = { λ val built. built ≡ typed_leaf (value.bool val) };
@@ -91,6 +91,9 @@ impl From<String> for Value {
     ghost from_gives = { λ val built. built ≡ typed_leaf (value.string (string_bytes val)) };
 
     fn from(val: String) -> Value {
-        string_value(val)
+        Value {
+            own: Type::STRING,
+            content: Content::String(val),
+        }
     }
 }
