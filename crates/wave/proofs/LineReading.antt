@@ -1,19 +1,20 @@
 -- How a line is put together from what is read.
-use Rattle.std.proofs.Common.{ℕ, suc, ◌≡◌, ◌≢◌, ◌+◌, ◌-◌, ◌<◌, ◌≤◌, ◌==◌, Bool, true, false, List, [], ◌∷◌, ◌++◌, length, take, drop, get_or, Option, Some, None, refl, sym, ap, subst, ◌∙◌, arith, append_assoc, length-append}
+use Rattle.std.proofs.Common.{ℕ, suc, ◌≡◌, ◌≢◌, ◌+◌, ◌-◌, ◌<◌, ◌≤◌, ◌==◌, Bool, true, false, List, [], ◌∷◌, ◌++◌, length, take, drop, get_or, Option, Some, None, Result, Ok, Err, IfErr, refl, sym, ap, subst, ◌∙◌, inl, inr, arith, append_assoc, length-append}
 use Rattle.std.specs.Prelude.{slice_range, slice_index, if◌then◌else◌, MatchBool, MatchOption}
 use Rattle.std.specs.List.{slice_split}
 use Rattle.std.specs.Io.KnownBytes.{Consumes, IsAtEnd, prepend_known}
 use Rattle.std.specs.Str.Lines.{lines, lines_of_parts, strip_carriage_return}
-use Rattle.std.proofs.KnownBytes.{Consumes-trans}
+use Rattle.std.proofs.KnownBytes.{Consumes-nil, Consumes-trans, prepend_known-nil}
 use Rattle.std.proofs.lemmas.Bool.{false_from_ne_true}
 use Rattle.std.proofs.lemmas.List.{append-nil, length-take, take_all, take-append-drop, drop-take, drop-drop, get_or-take, get_or_default}
-use Rattle.std.proofs.lemmas.List.Elements.{All-append}
+use Rattle.std.proofs.lemmas.List.Elements.{All-append, All-nil}
 use Rattle.std.proofs.lemmas.List.Splits.{slice_split_none, slice_split_at, length-slice_split}
 use Rattle.std.proofs.Math.Seq.{drop-cons}
 use Rattle.memchr.specs.Find.{IsFirstByte, Nowhere, Passes, is_byte}
 use Rattle.wave.specs.declared.input.Input.{Input}
 use Rattle.wave.specs.declared.lines.Unread.{Unread}
-use Rattle.wave.specs.Private.InputLines.{IsInOneLine, EndsFirstLine, IsEndKnown, TakesLine, left, most_lines, unread_bytes}
+use Rattle.wave.specs.Lines.{IsInOneLine}
+use Rattle.wave.specs.Private.InputLines.{EndsFirstLine, IsEndKnown, LosesPart, TakesLine, left, most_lines, unread_bytes}
 
 -- the first bytes of a range are taken
 pub skipped : (chunk : List ℕ) (start end count : ℕ) → count ≤ length (slice_range chunk start end) → slice_range chunk (start + count) end ≡ drop count (slice_range chunk start end)
@@ -70,14 +71,13 @@ last_line l one some = ap lines_of_parts (slice_split_none (λ b. b == 10) l one
 pub takes_ended : (a b : Option (List ℕ)) (l : List ℕ) → IsInOneLine l → Consumes a b (l ++ 10 ∷ []) → TakesLine a b (strip_carriage_return l)
 takes_ended None b l one taken = tt
 takes_ended (Some xs) None l one taken = absurd taken
-takes_ended (Some xs) (Some ys) l one taken = ap lines (taken ∙ append_assoc l (10 ∷ []) ys) ∙ ended_line l ys one
+takes_ended (Some xs) (Some ys) l one taken = (l ++ 10 ∷ [], taken, inl (λ more. ap lines (append_assoc l (10 ∷ []) more) ∙ ended_line l more one))
 
 -- known bytes that are a line without a line feed
 pub takes_last : (a b : Option (List ℕ)) (l : List ℕ) → IsInOneLine l → l ≢ [] → Consumes a b l → IsAtEnd b → TakesLine a b l
 takes_last None b l one some taken end = tt
 takes_last (Some xs) None l one some taken end = absurd taken
-takes_last (Some xs) (Some ys) l one some taken end =
-    ap lines (taken ∙ (ap (λ z. l ++ z) end ∙ append-nil l)) ∙ (last_line l one some ∙ ap (λ z. l ∷ lines z) (sym end))
+takes_last (Some xs) (Some ys) l one some taken end = (l, taken, inr (end, last_line l one some))
 
 -- nothing is unread, and the reader has nothing
 pub end_left : (r : Option (List ℕ)) (unread : List ℕ) → unread ≡ [] → IsAtEnd r → IsAtEnd (prepend_known unread r)
@@ -88,6 +88,15 @@ end_left (Some ys) unread none end = ap (λ z. z ++ ys) none ∙ end
 pub taken_unread : (r : Option (List ℕ)) (old new bytes : List ℕ) → old ≡ bytes ++ new → Consumes (prepend_known old r) (prepend_known new r) bytes
 taken_unread None old new bytes is = tt
 taken_unread (Some ys) old new bytes is = ap (λ z. z ++ ys) is ∙ append_assoc bytes new ys
+
+-- all that is unread is taken
+all_unread : (r : Option (List ℕ)) (unread : List ℕ) → Consumes (prepend_known unread r) r unread
+all_unread None unread = tt
+all_unread (Some ys) unread = refl
+
+-- that is at most a chunk
+within_chunk : (u : Unread) → length (unread_bytes u) ≤ 65536
+within_chunk u = let ends = u.in_chunk in omega (arith, ends, length-take (u.end - u.start) (drop u.start u.chunk))
 
 long : (l : List ℕ) → l ≢ [] → 1 ≤ length l
 long [] some = absurd (some refl)
@@ -102,6 +111,11 @@ pub partly : (b : Bool) (A B : Type 0) → b ≡ false → MatchBool b A B → B
 partly true A B is h = absurd (cc)
 partly false A B is h = h
 
+-- what is so of any error
+pub on_err : {X E : Type 0} (r : Result X E) (P : E → Type 0) → ((e : E) → P e) → IfErr r P
+on_err (Ok x) P h = tt
+on_err (Err e) P h = h e
+
 -- ---- the loop over what is read
 
 module _ {R : Type 0} (remaining : R → Option (List ℕ)) where
@@ -115,6 +129,10 @@ module _ {R : Type 0} (remaining : R → Option (List ℕ)) where
             (takes_ended _ _ first one (taken_unread (remaining input.reader) (unread_bytes unread) (unread_bytes more) (first ++ 10 ∷ []) (all ∙ sym (append_assoc first (10 ∷ []) (unread_bytes more))))),
         omega (arith, ap length all, length-append first (10 ∷ unread_bytes more)),
       )
+
+  -- what is unread may be of other lines
+  pub unread_part : (input : Input R) (unread : Unread) → LosesPart (left remaining input unread) (remaining input.reader) 65536
+  unread_part input unread = ([], unread_bytes unread, all_unread (remaining input.reader) (unread_bytes unread), All-nil (λ b. (b == 10) ≡ false), within_chunk unread)
 
   -- the line so far was taken, and as many lines fewer can come as it has bytes
   pub record IsGathered (first : Input R) (first_unread : Unread) (now : Input R) (unread : Unread) (line : List ℕ) : Type 0 where
@@ -140,6 +158,16 @@ module _ {R : Type 0} (remaining : R → Option (List ℕ)) where
           well = well ∙ g.well;
           counted = omega (arith, reads, counted);
         }
+
+    -- behind the line so far a chunk may be unread
+    pub line_and_chunk : LosesPart (left remaining first first_unread) (remaining now.reader) 65536
+    line_and_chunk = (line, unread_bytes unread, Consumes-trans _ _ _ line (unread_bytes unread) g.taken (all_unread (remaining now.reader) (unread_bytes unread)), g.in_line, within_chunk unread)
+
+    -- nothing more was read
+    pub line_alone : (n : ℕ) (new : Input R) (more : Unread) → Consumes (left remaining now unread) (left remaining new more) [] → unread_bytes more ≡ [] → LosesPart (left remaining first first_unread) (remaining new.reader) n
+    line_alone n new more kept none =
+        let same : left remaining new more ≡ remaining new.reader = ap (λ z. prepend_known z (remaining new.reader)) none ∙ prepend_known-nil (remaining new.reader) in
+        (line, [], Consumes-trans _ _ _ line [] g.taken (subst (λ z. Consumes (left remaining now unread) z []) same kept), g.in_line, omega arith)
 
     -- all that was unread is of the line
     pub lengthened : (more : Unread) (part longer : List ℕ) → IsInOneLine part → longer ≡ line ++ part → (unread_bytes unread ≡ part) × (unread_bytes more ≡ []) → IsGathered first first_unread now more longer

@@ -1,10 +1,12 @@
 -- What was answered, printed and shown of the lines so far, and how that ends.
 use Rattle.std.proofs.Common.{ℕ, ◌≡◌, ◌≢◌, ◌+◌, ◌*◌, ◌≤◌, ◌⊎◌, Bool, true, false, List, [], ◌∷◌, ◌++◌, length, Option, Some, None, Ok, IfSome, refl, sym, ap, subst, ◌∙◌, inl, inr, arith, append_assoc, length-append}
-use Rattle.std.specs.Prelude.{MatchBool, if◌then◌else◌, not, ◌||◌, ◌==◌}
+use Rattle.std.specs.Int.{from_bool}
+use Rattle.std.specs.Prelude.{MatchBool, not, ◌||◌, ◌==◌}
 use Rattle.std.specs.Io.KnownBytes.{IsAtEnd, prepend_known}
 use Rattle.std.specs.Str.Lines.{lines}
-use Rattle.std.proofs.KnownBytes.{Appends-nil, Appends-trans}
+use Rattle.std.proofs.KnownBytes.{Appends-nil, Appends-trans, Consumes-nil, Consumes-trans}
 use Rattle.std.proofs.lemmas.List.{append-nil}
+use Rattle.std.proofs.lemmas.List.Elements.{All-nil}
 use Rattle.wave.specs.declared.request.Request.{Request}
 use Rattle.wave.specs.declared.input.Input.{Input}
 use Rattle.wave.specs.declared.input.RunError.{RunError}
@@ -13,13 +15,13 @@ use Rattle.wave.specs.declared.lines.Unread.{Unread}
 use Rattle.wave.specs.declared.output.Output.{Output}
 use Rattle.wave.specs.declared.program.Ended.{Ended}
 use Rattle.wave.specs.Answers.{words_of_fault}
-use Rattle.wave.specs.ByLines.{IsLineAnswer, AreAnswered, IsStatusOf, IsPlaceShown, IsLineFault, EndsAtFault, AnswersLines}
+use Rattle.wave.specs.ByLines.{IsLineAnswer, AreAnswered, IsStatusOf, IsPlaceShown, IsLineFault, EndsAtFault, AnswersLines, AreRead, most_unanswered}
 use Rattle.wave.specs.Counts.{CountsOne}
 use Rattle.wave.specs.Lines.{line}
 use Rattle.wave.specs.ReadFaults.{IsUnread}
 use Rattle.wave.specs.Written.{WritesWhole, WritesLess, Prints}
 use Rattle.wave.specs.Private.ByLines.{IsUnansweredLine, IsNoNextAnswer, ShowsLast, Releases}
-use Rattle.wave.specs.Private.InputLines.{IsCutOff, IsEndKnown, TakesLine, TakesLines, left, most_lines, unread_bytes}
+use Rattle.wave.specs.Private.InputLines.{IsCutOff, IsEndKnown, LosesPart, TakesLine, TakesLines, left, most_lines, unread_bytes}
 
 -- ---- lines
 
@@ -28,22 +30,50 @@ abbrev rest_of : Option (List ℕ) → List (List ℕ)
 rest_of None = []
 rest_of (Some bytes) = lines bytes
 
+lines_left : (xs ys : List ℕ) (texts : List (List ℕ)) → TakesLines (Some xs) (Some ys) texts → lines xs ≡ texts ++ lines ys
+lines_left xs ys texts (taken, is, inl whole) = ap lines is ∙ whole ys
+lines_left xs ys texts (taken, is, inr (end, all)) =
+    ap lines (is ∙ (ap (λ z. taken ++ z) end ∙ append-nil taken)) ∙ (all ∙ (sym (append-nil texts) ∙ ap (λ z. texts ++ lines z) (sym end)))
+
 takes_more : (a b c : Option (List ℕ)) (texts : List (List ℕ)) (text : List ℕ) → TakesLines a b texts → TakesLine b c text → TakesLines a c (texts ++ text ∷ [])
 takes_more None b c texts text taken next = tt
 takes_more (Some xs) None c texts text taken next = absurd taken
 takes_more (Some xs) (Some ys) None texts text taken next = absurd next
-takes_more (Some xs) (Some ys) (Some zs) texts text taken next = taken ∙ (ap (λ z. texts ++ z) next ∙ sym (append_assoc texts (text ∷ []) (lines zs)))
+takes_more (Some xs) (Some ys) (Some zs) texts text (t, is, inl whole) (u, are, inl more) = (
+  t ++ u,
+  is ∙ (ap (λ z. t ++ z) are ∙ sym (append_assoc t u zs)),
+  inl (λ m. ap lines (append_assoc t u m) ∙ (whole (u ++ m) ∙ (ap (λ z. texts ++ z) (more m) ∙ sym (append_assoc texts (text ∷ []) (lines m))))),
+)
+takes_more (Some xs) (Some ys) (Some zs) texts text (t, is, inl whole) (u, are, inr (end, one)) =
+    (t ++ u, is ∙ (ap (λ z. t ++ z) are ∙ sym (append_assoc t u zs)), inr (end, whole u ∙ ap (λ z. texts ++ z) one))
+takes_more (Some xs) (Some ys) (Some zs) texts text (t, is, inr (end, all)) next =
+    let wrong : [] ≡ text ∷ lines zs = ap lines (sym end) ∙ lines_left ys zs (text ∷ []) next in
+    absurd (cc wrong)
+
+-- these are the lines of what was taken, and what is left may have no line feed but in its last n bytes
+are_read : (a b c : Option (List ℕ)) (texts : List (List ℕ)) (n : ℕ) → TakesLines a b texts → LosesPart b c n → AreRead a c texts n
+are_read None b c texts n taken part = tt
+are_read (Some xs) None c texts n taken part = absurd taken
+are_read (Some xs) (Some ys) c texts n (read, is, inl whole) (begun, last, loses, one, short) =
+    (read, begun, last, Consumes-trans (Some xs) (Some ys) c read (begun ++ last) is loses, ap lines (sym (append-nil read)) ∙ (whole [] ∙ append-nil texts), one, short)
+are_read (Some xs) (Some ys) c texts n (read, is, inr (end, all)) (begun, last, loses, one, short) =
+    (read, begun, last, Consumes-trans (Some xs) (Some ys) c read (begun ++ last) is loses, all, one, short)
+
+-- nothing was read
+none_taken : (r : Option (List ℕ)) → TakesLines r r []
+none_taken None = tt
+none_taken (Some ys) = ([], refl, inl (λ more. refl))
 
 with_rest : (a b : Option (List ℕ)) (texts : List (List ℕ)) → TakesLines a b texts → IfSome a (λ bytes. lines bytes ≡ texts ++ rest_of b)
 with_rest None b texts taken = tt
 with_rest (Some xs) None texts taken = absurd taken
-with_rest (Some xs) (Some ys) texts taken = taken
+with_rest (Some xs) (Some ys) texts taken = lines_left xs ys texts taken
 
 with_bad : (a b c : Option (List ℕ)) (texts : List (List ℕ)) (bad : List ℕ) → TakesLines a b texts → TakesLine b c bad → IfSome a (λ bytes. lines bytes ≡ texts ++ bad ∷ rest_of c)
 with_bad None b c texts bad taken next = tt
 with_bad (Some xs) None c texts bad taken next = absurd taken
 with_bad (Some xs) (Some ys) None texts bad taken next = absurd next
-with_bad (Some xs) (Some ys) (Some zs) texts bad taken next = taken ∙ ap (λ z. texts ++ z) next
+with_bad (Some xs) (Some ys) (Some zs) texts bad taken next = lines_left xs ys texts taken ∙ ap (λ z. texts ++ z) (lines_left ys zs (bad ∷ []) next)
 
 no_rest : (b : Option (List ℕ)) → IsAtEnd b → rest_of b ≡ []
 no_rest None end = refl
@@ -51,7 +81,7 @@ no_rest (Some ys) end = ap lines end
 
 no_lines : (r : Option (List ℕ)) (unread : List ℕ) → unread ≡ [] → TakesLines r (prepend_known unread r) []
 no_lines None unread none = tt
-no_lines (Some ys) unread none = ap lines (sym (ap (λ z. z ++ ys) none))
+no_lines (Some ys) unread none = ([], sym (ap (λ z. z ++ ys) none), inl (λ more. refl))
 
 -- ---- answers
 
@@ -159,6 +189,13 @@ module _ {W : Type 0} (contents : W → Option (List ℕ)) where
   reported_all : (a b : Output W) (s : List ℕ) (is : Bool) → MatchBool is (WritesWhole contents a b s) (WritesLess contents a b s) → WritesWhole contents a b (s ++ []) ⊎ WritesLess contents a b (s ++ [])
   reported_all a b s is reported = subst (λ z. WritesWhole contents a b z ⊎ WritesLess contents a b z) (sym (append-nil s)) (either_reported a b s is reported)
 
+  -- one text more was, or not where a write had failed
+  pub shows_last : (a b : Output W) (t : List ℕ) (was is : Bool) → (was ≡ true → is ≡ true → WritesWhole contents a b t) → (was ≡ true → is ≡ false → WritesLess contents a b t)
+      → (was ≡ false → (b ≡ a) × (is ≡ false)) → ShowsLast contents a b was t
+  shows_last a b t true true whole less none = inl (whole refl refl)
+  shows_last a b t true false whole less none = inr (less refl refl)
+  shows_last a b t false is whole less none = (none refl).0
+
   -- nothing was written
   pub shows_nothing : (a : Output W) (is : Bool) → ShowsLast contents a a is []
   shows_nothing a true = inl (whole_nothing a)
@@ -170,7 +207,7 @@ refused_more s t true empty old new = longer s t old
 refused_more s t false true old new = ap (λ z. z ++ t) old ∙ new
 refused_more s t false false old new = λ is. new (ap (λ z. z ++ t) (sym old) ∙ is)
 
-status_of : (shown : List ℕ) (refused : Bool) (status : ℕ) → MatchBool refused (shown ≢ []) (shown ≡ []) → status ≡ (if refused then 1 else 0) → IsStatusOf shown status
+status_of : (shown : List ℕ) (refused : Bool) (status : ℕ) → MatchBool refused (shown ≢ []) (shown ≡ []) → status ≡ from_bool refused → IsStatusOf shown status
 status_of shown true status is e = inr (e, is)
 status_of shown false status is e = inl (e, is)
 
@@ -236,21 +273,18 @@ module _ {R W E : Type 0} (remaining : R → Option (List ℕ)) (contents : W �
   -- the input had ended before
   pub had_ended : (request : Request) (first : Input R) (before after : Output W) (errors_before errors_after : Output E) (ended : Ended) → first.has_ended ≡ true
       → (last : List ℕ) × EndsAtFault contents before after InputFailed 1 [] last ended × ShowsLast held errors_before errors_after true last
-      → AnswersLines contents held request (remaining first.reader) first first before after errors_before errors_after ended
+      → AnswersLines contents held request (remaining first.reader) (remaining first.reader) first first before after errors_before errors_after ended
   had_ended request first before after errors_before errors_after ended had (last, ends, shows) = record {
     texts = [];
     rest = rest_of (remaining first.reader);
     said = [];
     shown = [];
     last = last;
-    are_lines = with_rest (remaining first.reader) (remaining first.reader) [] (nothing (remaining first.reader));
+    are_lines = with_rest (remaining first.reader) (remaining first.reader) [] (none_taken (remaining first.reader));
     answered = (refl, refl);
-    ends = inr (inl (InputFailed, inr (inr (had, refl)), ends));
+    ends = inr (inl (InputFailed, inr (inr (had, refl)), are_read _ _ _ [] 0 (none_taken (remaining first.reader)) ([], [], Consumes-nil (remaining first.reader), All-nil (λ b. (b == 10) ≡ false), omega arith), ends));
     reported = shows;
-  } where
-    nothing : (r : Option (List ℕ)) → TakesLines r r []
-    nothing None = tt
-    nothing (Some ys) = refl
+  }
 
   module _ (request : Request) (first now : Input R) (unread : Unread) (before after : Output W) (waiting : List ℕ) (errors_before errors_after : Output E) (number : ℕ) (is_refused is_shown : Bool)
       (g : AreAnsweredSoFar request first now unread before after waiting errors_before errors_after number is_refused is_shown) where
@@ -276,7 +310,7 @@ module _ {R W E : Type 0} (remaining : R → Option (List ℕ)) (contents : W �
 
     -- they were not written whole
     pub cut_short : (new : Input R) (later : Output W) (ended : Ended) → WritesLess contents after later waiting → ended.status ≡ 3 → ended.shown ≡ Ok tt
-        → AnswersLines contents held request (remaining first.reader) first new before later errors_before errors_after ended
+        → AnswersLines contents held request (remaining first.reader) (remaining new.reader) first new before later errors_before errors_after ended
     cut_short new later ended wrote three quiet = record {
       texts = g.texts;
       rest = rest_of (left remaining now unread);
@@ -290,8 +324,8 @@ module _ {R W E : Type 0} (remaining : R → Option (List ℕ)) (contents : W �
     }
 
     -- the input has no more lines
-    pub all_answered : (new : Input R) (later : Output W) (printed : List ℕ) (status result : ℕ) (ended : Ended) → first.has_ended ≡ false → IsAtEnd (left remaining now unread) → new.has_ended ≡ true → new.failures ≡ now.failures → status ≡ (if is_refused then 1 else 0)
-        → printed ≡ waiting → Prints contents after later printed status result → ended.status ≡ result → ended.shown ≡ Ok tt → AnswersLines contents held request (remaining first.reader) first new before later errors_before errors_after ended
+    pub all_answered : (new : Input R) (later : Output W) (printed : List ℕ) (status result : ℕ) (ended : Ended) → first.has_ended ≡ false → IsAtEnd (left remaining now unread) → new.has_ended ≡ true → new.failures ≡ now.failures → status ≡ from_bool is_refused
+        → printed ≡ waiting → Prints contents after later printed status result → ended.status ≡ result → ended.shown ≡ Ok tt → AnswersLines contents held request (remaining first.reader) (remaining new.reader) first new before later errors_before errors_after ended
     all_answered new later printed status result ended goes_on end at_end fine is all (inr (three, wrote)) same quiet = cut_short new later ended (subst (WritesLess contents after later) all wrote) (same ∙ three) quiet
     all_answered new later printed status result ended goes_on end at_end fine is all (inl (expected, wrote)) same quiet = record {
       texts = g.texts;
@@ -315,9 +349,9 @@ module _ {R W E : Type 0} (remaining : R → Option (List ℕ)) (contents : W �
     module _ (new : Input R) (more : Unread) (later : Output W) (errors_then : Output E) (ended : Ended) where
       -- a fault is reported in place of the next line
       faulty : (fault : RunError) (last : List ℕ) (rest : List (List ℕ)) → IfSome (remaining first.reader) (λ bytes. lines bytes ≡ g.texts ++ rest) → IsLineFault rest first new fault
-          → EndsAtFault contents after later fault number waiting last ended → ShowsLast held errors_after errors_then is_shown last
-          → AnswersLines contents held request (remaining first.reader) first new before later errors_before errors_then ended
-      faulty fault last rest are is ends shows = record {
+          → LosesPart (left remaining now unread) (remaining new.reader) (most_unanswered fault) → EndsAtFault contents after later fault number waiting last ended → ShowsLast held errors_after errors_then is_shown last
+          → AnswersLines contents held request (remaining first.reader) (remaining new.reader) first new before later errors_before errors_then ended
+      faulty fault last rest are is loses ends shows = record {
         texts = g.texts;
         rest = rest;
         said = g.said;
@@ -326,19 +360,20 @@ module _ {R W E : Type 0} (remaining : R → Option (List ℕ)) (contents : W �
         are_lines = are;
         answered = g.answered;
         ends =
-            inr (inl (fault, is, subst (λ z. EndsAtFault contents before later fault (1 + length g.texts) z last ended) (sym g.said_is) (ends_behind contents before after later fault number (1 + length g.texts) g.written waiting last ended g.printed g.number_is ends)));
+            inr (inl (fault, is, are_read _ _ _ g.texts (most_unanswered fault) g.taken loses, subst (λ z. EndsAtFault contents before later fault (1 + length g.texts) z last ended) (sym g.said_is) (ends_behind contents before after later fault number (1 + length g.texts) g.written waiting last ended g.printed g.number_is ends)));
         reported = reported_last held errors_before errors_after errors_then g.shown last is_shown g.reported shows;
       }
 
       -- the next line is not answered
       pub cut_off : (fault : RunError) → IsNoNextAnswer (left remaining now unread) (left remaining new more) now new fault
+          → LosesPart (left remaining now unread) (remaining new.reader) 65536 → (fault ≡ InputFailed → LosesPart (left remaining now unread) (remaining new.reader) 0)
           → (last : List ℕ) × EndsAtFault contents after later fault number waiting last ended × ShowsLast held errors_after errors_then is_shown last
-          → AnswersLines contents held request (remaining first.reader) first new before later errors_before errors_then ended
-      cut_off (NotUtf8 place) (bad, next, wrong, fine) (last, ends, shows) =
-          faulty (NotUtf8 place) last (bad ∷ rest_of (left remaining new more)) (with_bad _ _ _ g.texts bad g.taken next) (bad, rest_of (left remaining new more), refl, wrong, fine ∙ g.well) ends shows
-      cut_off InputFailed cut (last, ends, shows) =
-          faulty InputFailed last (rest_of (left remaining now unread)) (with_rest _ _ g.texts g.taken) (cut_from (rest_of (left remaining now unread)) first now new g.well cut) ends shows
-      cut_off OutOfMemory fine (last, ends, shows) = faulty OutOfMemory last (rest_of (left remaining now unread)) (with_rest _ _ g.texts g.taken) (fine ∙ g.well) ends shows
+          → AnswersLines contents held request (remaining first.reader) (remaining new.reader) first new before later errors_before errors_then ended
+      cut_off (NotUtf8 place) (bad, next, wrong, fine) loses none (last, ends, shows) =
+          faulty (NotUtf8 place) last (bad ∷ rest_of (left remaining new more)) (with_bad _ _ _ g.texts bad g.taken next) (bad, rest_of (left remaining new more), refl, wrong, fine ∙ g.well) loses ends shows
+      cut_off InputFailed cut loses none (last, ends, shows) =
+          faulty InputFailed last (rest_of (left remaining now unread)) (with_rest _ _ g.texts g.taken) (cut_from (rest_of (left remaining now unread)) first now new g.well cut) (none refl) ends shows
+      cut_off OutOfMemory fine loses none (last, ends, shows) = faulty OutOfMemory last (rest_of (left remaining now unread)) (with_rest _ _ g.texts g.taken) (fine ∙ g.well) loses ends shows
 
     module _ (new : Input R) (more : Unread) (text answer explained printed : List ℕ) (next : TakesLine (left remaining now unread) (left remaining new more) text) (is : IsLineAnswer request number text answer explained)
         (printed_is : printed ≡ line answer) (errors_then : Output E) (shows : Bool)
@@ -382,7 +417,7 @@ module _ {R W E : Type 0} (remaining : R → Option (List ℕ)) (contents : W �
 
       -- its answer and those that wait were not written whole
       pub cut_behind : (later : Output W) (ended : Ended) → WritesLess contents after later (waiting ++ printed) → ended.status ≡ 3 → ended.shown ≡ Ok tt
-          → AnswersLines contents held request (remaining first.reader) first new before later errors_before errors_then ended
+          → AnswersLines contents held request (remaining first.reader) (remaining new.reader) first new before later errors_before errors_then ended
       cut_behind later ended wrote three quiet = record {
         texts = g.texts ++ text ∷ [];
         rest = rest_of (left remaining new more);

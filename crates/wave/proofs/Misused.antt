@@ -137,11 +137,3 @@ pub valueless_param_said : {E : Type 0} (r : Result (String Global) E) (word : L
     → IfOk r (λ why. string_bytes why ≡ line (codes "argument 2 has a parameter of a type without a value: f32 and f64 have none here, nor has what needs one of them")) → IfOk r (λ why. IsBadFunc word (string_bytes why))
 valueless_param_said (Err e) word f spells levels none said = tt
 valueless_param_said (Ok why) word f spells levels none said = inr (f, spells, (λ all. none f (spells, levels, all)), said)
-
--- whether the word is the type of a function with values was tested
-module _ (found : Option FunctionType) (word : List ℕ) (tested : MatchOption found ((f : FunctionType) → NamesFunction word f → ⊥) (NamesFunction word)) where
-  pub none_named : (other : List ℕ) → found ≡ None → other ≡ word → (f : FunctionType) → NamesFunction other f → ⊥
-  none_named other is same f names = subst (λ o. MatchOption o ((g : FunctionType) → NamesFunction word g → ⊥) (NamesFunction word)) is tested f (subst (λ w. NamesFunction w f) same names)
-
-  pub some_named : (f : FunctionType) (rest : List (List ℕ)) → found ≡ Some f → rest ≡ word ∷ [] → MakeNone (codes "call" ∷ rest) → ⊥
-  some_named f rest is alone unknown = none_called rest word alone unknown f (subst (λ o. MatchOption o ((g : FunctionType) → NamesFunction word g → ⊥) (NamesFunction word)) is tested)

@@ -1,7 +1,7 @@
 -- Which of the words is the nearest, and the first of those.
-use Rattle.std.proofs.Common.{ℕ, ◌≡◌, ◌<◌, ◌≤◌, ◌∙◌, List, [], ◌∷◌, ◌++◌, refl, ap, sym, subst, arith, append_assoc}
+use Rattle.std.proofs.Common.{ℕ, ◌≡◌, ◌<◌, ◌≤◌, ◌∙◌, List, [], ◌∷◌, ◌++◌, String, Global, Result, Ok, Err, IfOk, string_bytes, inr, refl, ap, sym, subst, arith, append_assoc, codes}
 use Rattle.wave_wasm.specs.Lists.{AllOf}
-use Rattle.wave.specs.Misuse.{edits, IsNearest}
+use Rattle.wave.specs.Misuse.{edits, suggestions, IsNearest, IsHint}
 
 -- the only word is
 pub nearest_alone : (word near : List ℕ) → IsNearest word (near ∷ []) near
@@ -30,3 +30,9 @@ nearer_is_nearest word near other words less (before, behind, is, first, rest) =
 pub nearest_stays : (word near other : List ℕ) (words : List (List ℕ)) → edits word near ≤ edits word other → IsNearest word words near → IsNearest word (words ++ other ∷ []) near
 nearest_stays word near other words fits (before, behind, is, first, rest) =
     (before, behind ++ other ∷ [], ap (λ z. z ++ other ∷ []) is ∙ append_assoc before (near ∷ behind) (other ∷ []), first, all_joined (λ x. edits word near ≤ edits word x) behind (other ∷ []) rest (fits, tt))
+
+-- it is said, where it is near
+pub hinted : {E : Type 0} (r : Result (String Global) E) (word near : List ℕ) → IsNearest word suggestions near → edits word near ≤ 2
+    → IfOk r (λ hint. string_bytes hint ≡ codes "; did you mean \"" ++ (near ++ codes "\"?")) → IfOk r (λ hint. IsHint word (string_bytes hint))
+hinted (Err e) word near nearest close is = tt
+hinted (Ok hint) word near nearest close is = inr (near, nearest, close, is)

@@ -1,5 +1,5 @@
 -- What a refusal and a fault of the input say of the line.
-use Rattle.std.proofs.Common.{ℕ, ◌≡◌, ◌≢◌, ◌∙◌, List, Option, Some, MatchOption, Result, Ok, refl, inl, inr, sym, subst, rules, arith}
+use Rattle.std.proofs.Common.{ℕ, ◌≡◌, ◌≢◌, ◌⊎◌, ◌∙◌, Bool, true, false, List, String, Global, Option, Some, MatchOption, Result, Ok, Err, IfOk, MatchResult, string_bytes, refl, inl, inr, sym, subst, rules, arith}
 use Rattle.std.specs.declared.alloc.AllocError.{AllocError}
 use Rattle.wave_lex.specs.Errors.{Diagnostic, error_text}
 use Rattle.wave_lex.specs.declared.error.ParserErrorKind.TheVariants as kind
@@ -16,14 +16,14 @@ use Rattle.wave.specs.declared.output.Output.{Output}
 use Rattle.wave.specs.Requests.{SayLimit, AreWordsOf, AskFor, AreUnknown}
 use Rattle.wave.specs.Answers.{IsFaultOf, IsInput, words_of_fault}
 use Rattle.wave.specs.ByLines.{EndsBefore, AnswersLines, RunsByLines}
-use Rattle.wave.specs.Explained.{ShowsRefusal, ShowsWhy, IsFailure}
+use Rattle.wave.specs.Explained.{ShowsPlace, ShowsRefusal, ShowsWhy, IsFailure, place_shown}
 use Rattle.wave.specs.Lines.{line}
 use Rattle.wave.specs.ReadFaults.{IsReadToEnd}
 use Rattle.wave.specs.Statuses.{IsLineOfRequest}
-use Rattle.wave.specs.Written.{Prints, WritesWhole}
+use Rattle.wave.specs.Written.{Prints, WritesWhole, WritesLess}
 use Rattle.wave.specs.Private.Requests.{IsFit}
 use Rattle.wave.proofs.Spelled.{named_distinct, params_distinct}
-use Rattle.wave.specs.Private.Answers.{ShowsFault, IsNoOutcome, Refuses, ReportsRefusal}
+use Rattle.wave.specs.Private.Answers.{ShowsText, ShowsFault, IsNoOutcome, Refuses, ReportsRefusal}
 
 -- the limit that arguments name is one
 is_limit : (words prefix : List (List ℕ)) (n : ℕ) → SayLimit words prefix n → IsLimit n
@@ -52,6 +52,28 @@ module _ (words : List (List ℕ)) (found : Option Asked) (asked : Asked) (reque
 -- a request on each line that arguments make is fit for a parser
 pub is_fit_by_lines : (words : List (List ℕ)) (request : Request) → AskFor (Lines request) words → IsFit request
 is_fit_by_lines words request (prefix, is, asked) = is_fit prefix request asked
+
+-- what a bool says of either value
+pub written : {A B : Type 0} (b : Bool) → (b ≡ true → A) → (b ≡ false → B) → A ⊎ B
+written true whole less = inl (whole refl)
+written false whole less = inr (less refl)
+
+module _ {E : Type 0} (contents : E → Option (List ℕ)) (old new : Output E) (r : Result (String Global) AllocError) (shown : Result (Unit {0}) AllocError) where
+  -- a text of which something is so was shown, or there was no memory for it
+  pub shown_text : (P : List ℕ → Type 0) → ShowsText contents old new r shown → IfOk r (λ text. P (string_bytes text))
+      → MatchResult shown (λ _. (text : List ℕ) × P text × (WritesWhole contents old new text ⊎ WritesLess contents old new text)) (λ _. new ≡ old)
+  shown_text P = by r where
+    by : (r : Result (String Global) AllocError) → ShowsText contents old new r shown → IfOk r (λ text. P (string_bytes text))
+        → MatchResult shown (λ _. (text : List ℕ) × P text × (WritesWhole contents old new text ⊎ WritesLess contents old new text)) (λ _. new ≡ old)
+    by (Ok text) (wrote, is) so = rw is (string_bytes text, so, wrote)
+    by (Err e) (same, is) so = rw is same
+
+  -- so of a place in an input that is no text
+  pub place_shown_of : (fault : RunError) (place : ℕ) → fault ≡ NotUtf8 place → ShowsText contents old new r shown → IfOk r (λ text. string_bytes text ≡ place_shown place) → ShowsPlace contents old new fault shown
+  place_shown_of fault place fault_is = λ shows so. subst (λ f. ShowsPlace contents old new f shown) (sym fault_is) (by r shows so) where
+    by : (r : Result (String Global) AllocError) → ShowsText contents old new r shown → IfOk r (λ text. string_bytes text ≡ place_shown place) → ShowsPlace contents old new (NotUtf8 place) shown
+    by (Ok text) (wrote, is) so = rw is (subst (λ t. WritesWhole contents old new t ⊎ WritesLess contents old new t) so wrote)
+    by (Err e) (same, is) so = rw is same
 
 module _ {R : Type 0} where
   -- why there is no outcome is a fault of the input, or out of memory
@@ -92,10 +114,10 @@ module _ {W : Type 0} (contents : W → Option (List ℕ)) where
 
 module _ {R W E : Type 0} (contents : W → Option (List ℕ)) (held : E → Option (List ℕ)) where
   -- so of requests on each line
-  pub run_by_lines : (words : List (List ℕ)) (request : Request) (left : Option (List ℕ)) (old new : Input R) (before after : Output W) (errors_before errors_after : Output E) (ended : Ended)
-      → AskFor (Lines request) words → AnswersLines contents held request left old new before after errors_before errors_after ended
-      → RunsByLines contents held words left old new before after errors_before errors_after ended
-  run_by_lines words request left old new before after errors_before errors_after ended asked answers = (request, asked, answers)
+  pub run_by_lines : (words : List (List ℕ)) (request : Request) (left now : Option (List ℕ)) (old new : Input R) (before after : Output W) (errors_before errors_after : Output E) (ended : Ended)
+      → AskFor (Lines request) words → AnswersLines contents held request left now old new before after errors_before errors_after ended
+      → RunsByLines contents held words left now old new before after errors_before errors_after ended
+  run_by_lines words request left now old new before after errors_before errors_after ended asked answers = (request, asked, answers)
 
   module _ (left : Option (List ℕ)) (first last : Input R) (before after : Output W) (old new : Output E) (shown : Result (Unit {0}) AllocError) where
     -- a fault that was reported is a failure
@@ -124,9 +146,9 @@ module _ {R W : Type 0} (contents : W → Option (List ℕ)) where
   whole_not_misused request left old new before after status result said (inr (inr expected)) (inl (is, writes)) two = let three = expected.0 in absurd (omega (arith, three, is, two))
 
   -- nor what it comes to on each line
-  pub lines_not_misused : {E : Type 0} (held : E → Option (List ℕ)) (rest : List (List ℕ)) (number : ℕ) (old new : Input R) (before after : Output W) (said explained last : List ℕ) (ended : Ended)
-      → EndsBefore contents held rest number old new before after said explained last ended → ended.status ≡ 2 → ⊥
-  lines_not_misused held rest number old new before after said explained last ended (inl (none, at_end, inl (zero, quiet), writes, nothing)) two = absurd (omega (arith, zero, two))
-  lines_not_misused held rest number old new before after said explained last ended (inl (none, at_end, inr (one, refused), writes, nothing)) two = absurd (omega (arith, one, two))
-  lines_not_misused held rest number old new before after said explained last ended (inr (inl (fault, expected, (three, how)))) two = absurd (omega (arith, three, two))
-  lines_not_misused held rest number old new before after said explained last ended (inr (inr (three, cut, nothing))) two = absurd (omega (arith, three, two))
+  pub lines_not_misused : {E : Type 0} (held : E → Option (List ℕ)) (texts rest : List (List ℕ)) (left now : Option (List ℕ)) (old new : Input R) (before after : Output W) (said explained last : List ℕ) (ended : Ended)
+      → EndsBefore contents held texts rest left now old new before after said explained last ended → ended.status ≡ 2 → ⊥
+  lines_not_misused held texts rest left now old new before after said explained last ended (inl (none, at_end, inl (zero, quiet), writes, nothing)) two = absurd (omega (arith, zero, two))
+  lines_not_misused held texts rest left now old new before after said explained last ended (inl (none, at_end, inr (one, refused), writes, nothing)) two = absurd (omega (arith, one, two))
+  lines_not_misused held texts rest left now old new before after said explained last ended (inr (inl (fault, expected, read, (three, how)))) two = absurd (omega (arith, three, two))
+  lines_not_misused held texts rest left now old new before after said explained last ended (inr (inr (three, cut, nothing))) two = absurd (omega (arith, three, two))

@@ -1,6 +1,7 @@
 -- What is answered where each line of the input is a text of its own.
-use Rattle.std.specs.Prelude.{ℕ, ◌≡◌, ◌≢◌, ◌+◌, ◌⊎◌, List, [], ◌∷◌, ◌++◌, length, None, Ok, IfSome, IsUtf8, MatchResult, codes}
+use Rattle.std.specs.Prelude.{ℕ, ◌≡◌, ◌≢◌, ◌≤◌, ◌+◌, ◌⊎◌, List, [], ◌∷◌, ◌++◌, length, None, Ok, IfSome, IsUtf8, MatchResult, codes}
 use Rattle.std.specs.Fmt.{decimal}
+use Rattle.std.specs.Io.KnownBytes.{Consumes}
 use Rattle.std.specs.Str.Lines.{lines}
 use Rattle.std.specs.declared.alloc.AllocError.{AllocError}
 use Rattle.std.specs.declared.option.Option.{Option}
@@ -17,7 +18,7 @@ use Rattle.wave.specs.declared.output.Output.{Output}
 use Rattle.wave.specs.declared.program.Ended.{Ended}
 use Rattle.wave.specs.Answers.{Answers, IsRefused, IsTextUpTo, words_of_fault}
 use Rattle.wave.specs.Explained.{Explains, place_shown}
-use Rattle.wave.specs.Lines.{line}
+use Rattle.wave.specs.Lines.{line, IsInOneLine}
 use Rattle.wave.specs.ReadFaults.{IsReadToEnd, IsUnread}
 use Rattle.wave.specs.Requests.{AskFor}
 use Rattle.wave.specs.Written.{WritesWhole, WritesLess}
@@ -71,6 +72,19 @@ IsPlaceShown number (NotUtf8 place) last reported =
 IsPlaceShown number InputFailed last reported = IsNothingShown last reported
 IsPlaceShown number OutOfMemory last reported = IsNothingShown last reported
 
+-- how many bytes with line feeds may have been read behind the lines that are answered, where a fault ended it: none where the input failed,
+-- and else as many as one call of the reader gives
+abbrev pub most_unanswered : RunError → ℕ
+most_unanswered InputFailed = 0
+most_unanswered (NotUtf8 place) = 65536
+most_unanswered OutOfMemory = 65536
+
+-- of the bytes left, where they are known, some were read whose lines are these, then some without a line feed, and then at most n more
+abbrev pub AreRead : Option (List ℕ) → Option (List ℕ) → List (List ℕ) → ℕ → Type 0
+AreRead left now texts n = IfSome left (λ _.
+    (read : List ℕ) × (begun : List ℕ) × (last : List ℕ) × Consumes left now (read ++ (begun ++ last))
+    × (lines read ≡ texts) × IsInOneLine begun × (length last ≤ n))
+
 module _ {R : Type 0} where
   -- why these lines aren't answered: the first is no text; the input was not read to its end; or there was no memory, and no read failed
   abbrev pub IsLineFault : List (List ℕ) → Input R → Input R → RunError → Type 0
@@ -89,17 +103,18 @@ module _ {W : Type 0} (contents : W → Option (List ℕ)) where
       ⊎ WritesLess contents before after (said ++ line (words_of_fault fault)) × IsNothingShown last ended.shown)
 
 module _ {R W E : Type 0} (contents : W → Option (List ℕ)) (held : E → Option (List ℕ)) where
-  -- what was printed: the answers of all lines, and the status is theirs; or those before the line of this number, which a fault keeps
-  -- from being answered, and its words; or a beginning of the answers, as a write failed
-  abbrev pub EndsBefore : List (List ℕ) → ℕ → Input R → Input R → Output W → Output W → List ℕ → List ℕ → List ℕ → Ended → Type 0
-  EndsBefore rest number old new before after said shown last ended =
+  -- what was printed: the answers of all lines, and the status is theirs; or, behind those of these lines, the words of a fault that keeps
+  -- the next from being answered; or a beginning of the answers, as a write failed
+  abbrev pub EndsBefore : List (List ℕ) → List (List ℕ) → Option (List ℕ) → Option (List ℕ) → Input R → Input R → Output W → Output W → List ℕ → List ℕ → List ℕ → Ended → Type 0
+  EndsBefore texts rest left now old new before after said shown last ended =
       (rest ≡ []) × IsReadToEnd old new × IsStatusOf shown ended.status × WritesWhole contents before after said × IsNothingShown last ended.shown
-      ⊎ ((fault : RunError) × IsLineFault rest old new fault × EndsAtFault contents before after fault number said last ended)
+      ⊎ ((fault : RunError) × IsLineFault rest old new fault × AreRead left now texts (most_unanswered fault)
+      × EndsAtFault contents before after fault (1 + length texts) said last ended)
       ⊎ (ended.status ≡ 3) × WritesLess contents before after said × IsNothingShown last ended.shown
 
   -- the first lines of what the reader had left were answered, all unless a fault or a failed write ended it, and what explains refusals,
-  -- and the fault, was written too, or a beginning of it where a write there failed
-  pub record AnswersLines (request : Request) (left : Option (List ℕ)) (old new : Input R) (before after : Output W) (errors_before errors_after : Output E) (ended : Ended) : Type 0 where
+  -- and the fault, was written too, or a beginning of it where a write there failed; this is what the reader has left now
+  pub record AnswersLines (request : Request) (left now : Option (List ℕ)) (old new : Input R) (before after : Output W) (errors_before errors_after : Output E) (ended : Ended) : Type 0 where
     pub texts : List (List ℕ)
     pub rest : List (List ℕ)
     pub said : List ℕ
@@ -107,11 +122,11 @@ module _ {R W E : Type 0} (contents : W → Option (List ℕ)) (held : E → Opt
     pub last : List ℕ
     pub are_lines : IfSome left (λ bytes. lines bytes ≡ texts ++ rest)
     pub answered : AreAnswered request 1 texts said shown
-    pub ends : EndsBefore rest (1 + length texts) old new before after said shown last ended
+    pub ends : EndsBefore texts rest left now old new before after said shown last ended
     pub reported : WritesWhole held errors_before errors_after (shown ++ last) ⊎ WritesLess held errors_before errors_after (shown ++ last)
 
   -- the arguments ask for a request on each line, which was answered so
-  abbrev pub RunsByLines : List (List ℕ) → Option (List ℕ) → Input R → Input R → Output W → Output W → Output E → Output E → Ended → Type 0
-  RunsByLines words left old new before after errors_before errors_after ended =
+  abbrev pub RunsByLines : List (List ℕ) → Option (List ℕ) → Option (List ℕ) → Input R → Input R → Output W → Output W → Output E → Output E → Ended → Type 0
+  RunsByLines words left now old new before after errors_before errors_after ended =
       (request : Request) × AskFor (Lines request) words
-      × AnswersLines request left old new before after errors_before errors_after ended
+      × AnswersLines request left now old new before after errors_before errors_after ended

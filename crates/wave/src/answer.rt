@@ -1,4 +1,4 @@
-// What a request answers on a text.
+// What a request answers on a text, and what explains its refusal.
 ghost use Rattle.std.specs.Prelude.{◌≡◌, ◌++◌, IfOk, MatchResult, map, string_bytes};
 ghost use Rattle.wave_wasm.specs.Text.{arguments_text};
 ghost use Rattle.wave_writer.specs.WriterState.{IsOutOfMemory};
@@ -9,11 +9,13 @@ ghost use Rattle.wave_tree.specs.ParserState.{IsLimit};
 ghost use Rattle.wave_wasm.specs.Lists.{AllOf};
 ghost use Rattle.wave_wasm.specs.Types.{HasDistinctNames};
 ghost use Rattle.wave.specs.Answers.{Answers};
+ghost use Rattle.wave.specs.Explained.{Explains};
 ghost use Rattle.wave.specs.Private.Answers.{IsUnanswered};
 ghost use Rattle.wave.specs.Private.Requests.{IsFit};
 
 use crate::request::Request;
 use std::alloc::{AllocError, Global};
+use wasm_wave::explain::{explain_call, explain_untyped, explain_untyped_call, explain_value};
 use wasm_wave::parser::{Parser, ParserError};
 use wasm_wave::to_string;
 use wasm_wave::untyped::UntypedFuncCall;
@@ -55,7 +57,7 @@ pub fn answer(alloc: Global, request: &Request, text: &str) -> Result<String, Un
 {
     match request {
         Request::Value(levels) => value(alloc, *levels, text),
-        Request::Call => call(alloc, text),
+        Request::Call => Ok(UntypedFuncCall::parse(alloc, text)?.to_string(alloc)?),
         Request::CallAt(function) => call_at(alloc, function, text),
         Request::Read(ty, levels) => read(alloc, ty, *levels, text),
     }
@@ -72,16 +74,6 @@ fn value(alloc: Global, levels: u32, text: &str) -> Result<String, Unanswered>
     let value = parser.parse_raw_value(alloc)?;
     parser.finish()?;
     Ok(value.to_string(alloc)?)
-}
-
-/// The display of the call that the text is.
-fn call(alloc: Global, text: &str) -> Result<String, Unanswered>
-    ensures { MatchResult result
-        (λ answer. Answers request.Call text.now (string_bytes answer))
-        (IsUnanswered request.Call text.now) }
-{
-    let call = UntypedFuncCall::parse(alloc, text)?;
-    Ok(call.to_string(alloc)?)
 }
 
 /// The name of the call that the text is, and its canonical parameters at the function's types.
@@ -132,5 +124,23 @@ fn for_memory(error: WriterError) -> Unanswered
     match error {
         WriterError::Memory(_) => Unanswered::OutOfMemory,
         WriterError::Io(_) | WriterError::UnsupportedType => unreachable!(),
+    }
+}
+
+/// The explanation of the refusal of the text that the request was made on. The only error is out of
+/// memory.
+pub fn explain_refusal(
+    alloc: Global,
+    request: &Request,
+    refusal: &ParserError,
+    text: &str,
+) -> Result<String, AllocError>
+    ensures { IfOk result (λ shown. Explains request.now text.now refusal.now (string_bytes shown)) }
+{
+    match request {
+        Request::Value(_) => explain_untyped(alloc, refusal, text),
+        Request::Call => explain_untyped_call(alloc, refusal, text),
+        Request::CallAt(function) => explain_call(alloc, refusal, text, function),
+        Request::Read(ty, _) => explain_value(alloc, refusal, text, ty),
     }
 }

@@ -1,20 +1,20 @@
 // What a request answers on each line of an input.
-ghost use Rattle.std.specs.Prelude.{ℕ, List, [], ◌≡◌, ◌≢◌, ◌++◌, ◌+◌, ◌≤◌, ◌<◌, ◌^◌, ◌⊎◌, true, false, IfOk, IfErr, OnOk, MatchOption, MatchBool, if◌then◌else◌, string_bytes};
+ghost use Rattle.std.specs.Prelude.{ℕ, List, [], ◌≡◌, ◌≢◌, ◌++◌, ◌+◌, ◌≤◌, ◌<◌, ◌^◌, ◌⊎◌, true, false, IfOk, IfErr, OnOk, MatchOption, MatchBool, string_bytes};
 ghost use Rattle.std.specs.Io.KnownBytes.{IsAtEnd};
 ghost use Rattle.wave_lex.specs.declared.error.ParserErrorKind.TheVariants as kind;
-ghost use Rattle.wave.specs.ByLines.{IsBlank, HasItem, IsLineExplained, IsLineAnswer, IsPlaceShown, numbered_place, EndsAtFault, AnswersLines};
+ghost use Rattle.wave.specs.declared.input.RunError.TheVariants.{InputFailed};
+ghost use Rattle.wave.specs.ByLines.{IsBlank, HasItem, IsLineExplained, IsLineAnswer, EndsAtFault, AnswersLines};
 ghost use Rattle.wave.specs.Lines.{line};
 ghost use Rattle.wave.specs.Private.ByLines.{IsUnansweredLine, IsNoNextAnswer, ShowsLast, Releases};
-ghost use Rattle.wave.specs.Private.InputLines.{left, IsEndKnown, TakesLine, most_lines};
+ghost use Rattle.wave.specs.Private.InputLines.{left, IsEndKnown, LosesPart, TakesLine, most_lines};
 ghost use Rattle.wave.specs.Private.Requests.{IsFit};
 ghost use Rattle.wave.specs.Written.{WritesWhole, WritesLess};
 
-use crate::answer::{Unanswered, answer};
-use crate::explained::explain_refusal;
+use crate::answer::{Unanswered, answer, explain_refusal};
 use crate::input::{Input, RunError};
 use crate::lines::Unread;
 use crate::output::Output;
-use crate::program::{Ended, fault_line, line_of, place_line, print, write_whole};
+use crate::program::{Ended, fault_line, line_of, print, write_whole};
 use crate::request::Request;
 use std::alloc::{AllocError, Global};
 use std::io::{Read, Write};
@@ -46,8 +46,8 @@ pub fn answer_lines<R: Read, W: Write, E: Write>(
     errors: &mut Output<E>,
 ) -> Ended
     requires { IsFit request.now }
-    ensures answered { AnswersLines W.contents E.contents request.now (R.remaining input.old.reader)
-        input.old input.new output.old output.new errors.old errors.new result }
+    ensures answered { AnswersLines W.contents E.contents request.now
+        (R.remaining input.old.reader) (R.remaining input.new.reader) input.old input.new output.old output.new errors.old errors.new result }
     ensures counted { input.new.reads_left ≤ input.old.reads_left }
 {
     if input.has_ended() {
@@ -64,7 +64,7 @@ pub fn answer_lines<R: Read, W: Write, E: Write>(
         }
         let answer = match next_answer(alloc, request, number, input, &mut unread) {
             Ok(Some(answer)) => answer,
-            Ok(None) => return Ended::at(print(output, &held, status_of(is_refused))),
+            Ok(None) => return Ended::at(print(output, &held, u8::from(is_refused))),
             Err(fault) => return fail_at(alloc, output, &held, errors, fault, number, is_shown),
         };
         number += 1;
@@ -109,13 +109,6 @@ fn hold<W: Write>(output: &mut Output<W>, held: &mut String, printed: &str) -> b
     write_if_needed(output, held, true) && write_whole(output, printed.as_bytes())
 }
 
-/// The status where all lines were answered.
-fn status_of(is_refused: bool) -> u8
-    ensures { result ≡ (if is_refused then 1 else 0) }
-{
-    if is_refused { 1 } else { 0 }
-}
-
 /// Writes what explains a refusal, unless a write there failed before. Whether none failed.
 fn show<E: Write>(errors: &mut Output<E>, shown: &str, is_shown: bool) -> bool
     ensures whole { is_shown ≡ true → result ≡ true → WritesWhole E.contents errors.old errors.new shown.now }
@@ -145,42 +138,21 @@ fn fail_at<W: Write, E: Write>(
     if !write_whole(output, fault_line(fault).as_bytes()) {
         return Ended::at(3);
     }
-    Ended {
-        status: 3,
-        shown: show_place(alloc, errors, fault, number, is_shown),
-    }
-}
-
-/// Writes where the line of this number is no text, unless a write there failed before; nothing of
-/// another fault. Out of memory for that, and nothing is written.
-fn show_place<E: Write>(
-    alloc: Global,
-    errors: &mut Output<E>,
-    fault: RunError,
-    number: u64,
-    is_shown: bool,
-) -> Result<(), AllocError>
-    ensures { (last : List ℕ) × IsPlaceShown number fault last result
-        × ShowsLast E.contents errors.old errors.new is_shown last }
-{
-    match fault {
-        RunError::NotUtf8(place) => {
-            let shown = numbered_place(alloc, number, place)?;
+    let place = match fault {
+        RunError::NotUtf8(place) => place,
+        RunError::InputFailed => return Ended::at(3),
+        RunError::OutOfMemory => return Ended::at(3),
+    };
+    match format!(in alloc; "input line {number}:\ninput is not UTF-8\n --> byte {place}\n") {
+        Ok(shown) => {
             show(errors, shown.as_str(), is_shown);
-            Ok(())
+            Ended::at(3)
         }
-        RunError::InputFailed => Ok(()),
-        RunError::OutOfMemory => Ok(()),
+        Err(error) => Ended {
+            status: 3,
+            shown: Err(error),
+        },
     }
-}
-
-/// What is said of the line of this number, in which behind so many bytes something begins that is no
-/// text.
-fn numbered_place(alloc: Global, number: u64, place: usize) -> Result<String, AllocError>
-    ensures { IfOk result (λ text. string_bytes text ≡ numbered_place number place) }
-{
-    let said = place_line(alloc, place)?;
-    format!(in alloc; "input line {number}:\n{said}")
 }
 
 /// What is written of the next line, which has this number; nothing where the input has no more.
@@ -204,6 +176,9 @@ fn next_answer<R: Read>(
     ensures went_well { OnOk result (input.new.failures ≡ input.old.failures) }
     ensures fault { IfErr result (IsNoNextAnswer
         (left R.remaining input.old unread.old) (left R.remaining input.new unread.new) input.old input.new) }
+    ensures read { LosesPart (left R.remaining input.old unread.old) (R.remaining input.new.reader) 65536 }
+    ensures cut { IfErr result (λ fault. fault ≡ InputFailed →
+        LosesPart (left R.remaining input.old unread.old) (R.remaining input.new.reader) 0) }
     ensures counted { input.new.reads_left ≤ input.old.reads_left }
 {
     if let Some(end) = unread.line_end() {

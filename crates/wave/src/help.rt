@@ -1,6 +1,6 @@
 // What the program prints of itself.
-ghost use Rattle.std.specs.Prelude.{[], ◌∷◌, MatchBool, MatchOption, map, string_bytes};
-ghost use Rattle.wave.specs.Help.{IsRequestWord, IsHelpOption, IsNotice, IsNoNotice};
+ghost use Rattle.std.specs.Prelude.{[], ◌∷◌, MatchOption, map, string_bytes};
+ghost use Rattle.wave.specs.Help.{IsNotice, IsNoNotice};
 
 const VERSION: &str =
     "wave 0.1.0, a port of wasm-wave 0.263.0, proved with Rattle, logic dac8208d650f15bf\n";
@@ -86,23 +86,9 @@ fn help_of(command: &str, option: &str) -> Option<&'static str>
         (IsNoNotice (command.now ∷ option.now ∷ []))
         (λ said. IsNotice (command.now ∷ option.now ∷ []) said.now) }
 {
-    if begins_request(command) && is_help_option(option) {
+    if matches!(command, "value" | "call" | "read") && matches!(option, "--help" | "-h") {
         Some(HELP)
     } else {
         None
     }
-}
-
-/// Whether the word begins a request.
-fn begins_request(word: &str) -> bool
-    ensures { MatchBool result (IsRequestWord word.now) (IsRequestWord word.now → ⊥) }
-{
-    matches!(word, "value" | "call" | "read")
-}
-
-/// Whether the word asks for the help behind one that begins a request.
-fn is_help_option(word: &str) -> bool
-    ensures { MatchBool result (IsHelpOption word.now) (IsHelpOption word.now → ⊥) }
-{
-    matches!(word, "--help" | "-h")
 }

@@ -21,12 +21,28 @@ fn type_has_value<T: WasmType>(alloc: Global, ty: &T) -> Result<bool, AllocError
 {
     match ty.kind() {
         WasmTypeKind::F32 | WasmTypeKind::F64 | WasmTypeKind::Unsupported => Ok(false),
-        WasmTypeKind::FixedLengthList => elements_have_value(alloc, ty),
+        WasmTypeKind::FixedLengthList => {
+            let (Some(element), Some(length)) = (ty.list_element_type(), ty.list_length()) else {
+                unreachable!()
+            };
+            if length == 0 {
+                return Ok(true);
+            }
+            type_has_value(alloc, element)
+        }
         WasmTypeKind::Record => fields_have_value(alloc, ty),
         WasmTypeKind::Tuple => items_have_value(alloc, ty),
         WasmTypeKind::Variant => some_case_has_value(alloc, ty),
         WasmTypeKind::Enum => Ok(!ty.enum_cases(alloc)?.is_empty()),
-        WasmTypeKind::Result => result_has_value(alloc, ty),
+        WasmTypeKind::Result => {
+            let Some((ok, err)) = ty.result_types() else {
+                unreachable!()
+            };
+            if payload_has_value(alloc, ok)? {
+                return Ok(true);
+            }
+            payload_has_value(alloc, err)
+        }
         WasmTypeKind::Bool
         | WasmTypeKind::S8
         | WasmTypeKind::S16
@@ -43,21 +59,6 @@ fn type_has_value<T: WasmType>(alloc: Global, ty: &T) -> Result<bool, AllocError
         | WasmTypeKind::Flags
         | WasmTypeKind::Map => Ok(true),
     }
-}
-
-/// Where there are elements, whether their type has a value.
-#[cycle(values)]
-fn elements_have_value<T: WasmType>(alloc: Global, ty: &T) -> Result<bool, AllocError>
-    requires { kind_of (T.tree ty.now) ≡ WasmTypeKind.FixedLengthList }
-    ensures { IfOk result (λ b. b ≡ inhabited (T.tree ty.now)) }
-{
-    let (Some(element), Some(length)) = (ty.list_element_type(), ty.list_length()) else {
-        unreachable!()
-    };
-    if length == 0 {
-        return Ok(true);
-    }
-    type_has_value(alloc, element)
 }
 
 /// Whether the type of each field has a value.
@@ -105,21 +106,6 @@ fn some_case_has_value<T: WasmType>(alloc: Global, ty: &T) -> Result<bool, Alloc
         }
     }
     Ok(false)
-}
-
-/// Whether `ok` or `err` has no payload, or one whose type has a value.
-#[cycle(values)]
-fn result_has_value<T: WasmType>(alloc: Global, ty: &T) -> Result<bool, AllocError>
-    requires { kind_of (T.tree ty.now) ≡ WasmTypeKind.Result }
-    ensures { IfOk result (λ b. b ≡ inhabited (T.tree ty.now)) }
-{
-    let Some((ok, err)) = ty.result_types() else {
-        unreachable!()
-    };
-    if payload_has_value(alloc, ok)? {
-        return Ok(true);
-    }
-    payload_has_value(alloc, err)
 }
 
 /// Whether there is no payload, or its type has a value.

@@ -24,7 +24,9 @@ pub struct Unread {
 impl Unread {
     ghost use Rattle.std.specs.Prelude.{ℕ, List, [], ◌∷◌, ◌≢◌, ◌++◌, ◌+◌, true, false, take, drop, IfOk, IfErr, OnOk, MatchOption, MatchBool};
     ghost use Rattle.std.specs.Io.KnownBytes.{Consumes, IsAtEnd};
-    ghost use Rattle.wave.specs.Private.InputLines.{IsInOneLine, EndsFirstLine, left, IsCutOff, IsEndKnown, TakesLine, unread_bytes, most_lines};
+    ghost use Rattle.wave.specs.declared.input.RunError.TheVariants.{InputFailed};
+    ghost use Rattle.wave.specs.Lines.{IsInOneLine};
+    ghost use Rattle.wave.specs.Private.InputLines.{EndsFirstLine, left, IsCutOff, IsEndKnown, LosesPart, TakesLine, unread_bytes, most_lines};
 
     /// Nothing was read.
     pub fn new() -> Unread
@@ -83,6 +85,7 @@ impl Unread {
         ensures known { IsEndKnown R.remaining input.new }
         ensures went_well { OnOk result (input.new.failures ≡ input.old.failures) }
         ensures fault { IfErr result (IsCutOff input.old input.new) }
+        ensures cut { IfErr result (λ fault. unread_bytes self.new ≡ []) }
         ensures counted { input.new.reads_left ≤ input.old.reads_left }
         ensures fewer { IfOk result (λ _. most_lines input.new self.new ≤ most_lines input.old self.old) }
     {
@@ -140,6 +143,9 @@ impl Unread {
         ensures known { IsEndKnown R.remaining input.new }
         ensures went_well { OnOk result (input.new.failures ≡ input.old.failures) }
         ensures fault { IfErr result (IsCutOff input.old input.new) }
+        ensures read { LosesPart (left R.remaining input.old self.old) (R.remaining input.new.reader) 65536 }
+        ensures cut { IfErr result (λ fault. fault ≡ InputFailed →
+            LosesPart (left R.remaining input.old self.old) (R.remaining input.new.reader) 0) }
         ensures counted { input.new.reads_left ≤ input.old.reads_left }
     {
         let mut line = Vec::new(alloc);

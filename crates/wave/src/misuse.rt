@@ -13,18 +13,26 @@ ghost use Rattle.wave.specs.Private.Requests.{IsNoRequestWord, MakeNone};
 ghost use Rattle.wave.specs.Types.{NamesType, NamesFunction};
 
 use crate::request::limit_of;
-use crate::types::{function_at, text_of};
+use crate::types::text_of;
 use std::alloc::{AllocError, Global};
 use strsim::levenshtein;
 use wasm_wave::explain::explain_at;
 use wasm_wave::value::{FuncType, Type, TypeError, TypeErrorKind};
+
+/// What is said before an argument that stands behind all that its command takes.
+const TOO_MANY: &str = "an argument too many: ";
+
+/// What is said behind an argument that is no limit.
+const NO_LIMIT: &str = " is no number of levels: N is a whole number from 1 to 1000";
 
 /// What is wrong with the arguments, which ask for nothing, and where help is.
 pub fn explain_misuse(alloc: Global, words: &[String]) -> Result<String, AllocError>
     requires { AreUnknown (map string_bytes words.now) }
     ensures { IfOk result (λ text. IsExplainedMisuse (map string_bytes words.now) (string_bytes text)) }
 {
-    with_help(misuse(alloc, before_lines(words))?)
+    let mut why = misuse(alloc, before_lines(words))?;
+    why.push_str("wave --help has the arguments\n")?;
+    Ok(why)
 }
 
 /// The arguments before a last `--lines`, or all where the last is another.
@@ -41,15 +49,6 @@ fn before_lines(words: &[String]) -> &[String]
         }
         None => words,
     }
-}
-
-/// What is wrong, and where help is.
-fn with_help(why: String) -> Result<String, AllocError>
-    ensures { IfOk result (λ whole. string_bytes whole ≡ string_bytes why ++ line (codes "wave --help has the arguments")) }
-{
-    let mut whole = why;
-    whole.push_str("wave --help has the arguments\n")?;
-    Ok(whole)
 }
 
 /// What is wrong with the arguments, which make no request.
@@ -75,8 +74,8 @@ fn value_misuse(alloc: Global, rest: &[String]) -> Result<String, AllocError>
 {
     match rest {
         [] => unreachable!(),
-        [limit] => no_limit(alloc, limit.as_str()),
-        [_, extra, ..] => too_many(alloc, extra.as_str()),
+        [limit] => quoting(alloc, "", limit.as_str(), NO_LIMIT),
+        [_, extra, ..] => quoting(alloc, TOO_MANY, extra.as_str(), ""),
     }
 }
 
@@ -87,11 +86,8 @@ fn call_misuse(alloc: Global, rest: &[String]) -> Result<String, AllocError>
 {
     match rest {
         [] => unreachable!(),
-        [func] => match function_at(alloc, func.as_str())? {
-            Some(_) => unreachable!(),
-            None => bad_func(alloc, func.as_str()),
-        },
-        [_, extra, ..] => too_many(alloc, extra.as_str()),
+        [func] => bad_func(alloc, func.as_str()),
+        [_, extra, ..] => quoting(alloc, TOO_MANY, extra.as_str(), ""),
     }
 }
 
@@ -108,9 +104,9 @@ fn read_misuse(alloc: Global, rest: &[String]) -> Result<String, AllocError>
         [ty] => bad_type(alloc, ty.as_str()),
         [ty, limit] => match limit_of(limit.as_str()) {
             Some(_) => bad_type(alloc, ty.as_str()),
-            None => no_limit(alloc, limit.as_str()),
+            None => quoting(alloc, "", limit.as_str(), NO_LIMIT),
         },
-        [_, _, extra, ..] => too_many(alloc, extra.as_str()),
+        [_, _, extra, ..] => quoting(alloc, TOO_MANY, extra.as_str(), ""),
     }
 }
 
@@ -122,44 +118,29 @@ fn other_misuse(alloc: Global, command: &str, rest: &[String]) -> Result<String,
     match command {
         "help" | "--help" | "-h" | "version" | "--version" | "-V" => match rest {
             [] => String::from_str(alloc, "--lines stands behind value, call or read\n"),
-            [extra, ..] => too_many(alloc, extra.as_str()),
+            [extra, ..] => quoting(alloc, TOO_MANY, extra.as_str(), ""),
         },
-        _ => unknown_command(alloc, command),
+        _ => {
+            let hint = hint(alloc, command)?;
+            quoting(alloc, "unknown command ", command, hint.as_str())
+        }
     }
 }
 
-/// That the word is no command, and which is near.
-fn unknown_command(alloc: Global, word: &str) -> Result<String, AllocError>
-    ensures { IfOk result (λ why. (quoted : List ℕ) × (hint : List ℕ) × IsQuoted word.now quoted × IsHint word.now hint
-        × (string_bytes why ≡ codes "unknown command " ++ (quoted ++ line hint))) }
-{
-    let quoted = quoted(alloc, word)?;
-    let hint = hint(alloc, word)?;
-    format!(in alloc; "unknown command {quoted}{hint}\n")
-}
-
-/// What is said of the command that is near, or nothing.
+/// What is said of the nearest of the words to which a misspelled command is compared, at most two edits
+/// away; nothing where none is that near.
 fn hint(alloc: Global, word: &str) -> Result<String, AllocError>
     ensures { IfOk result (λ hint. IsHint word.now (string_bytes hint)) }
-{
-    match nearest(alloc, word)? {
-        Some(near) => format!(in alloc; "; did you mean \"{near}\"?"),
-        None => Ok(String::new(alloc)),
-    }
-}
-
-/// The nearest of the words to which a misspelled command is compared, at most two edits away.
-fn nearest(alloc: Global, word: &str) -> Result<Option<&'static str>, AllocError>
-    ensures { IfOk result (λ found. MatchOption found
-        (AllOf (λ other. 2 < edits word.now other) suggestions)
-        (λ near. IsNearest word.now suggestions near.now × (edits word.now near.now ≤ 2))) }
 {
     let least = edits(alloc, word, "value")?;
     let (near, least) = nearer(alloc, word, "value", least, "call")?;
     let (near, least) = nearer(alloc, word, near, least, "read")?;
     let (near, least) = nearer(alloc, word, near, least, "help")?;
     let (near, least) = nearer(alloc, word, near, least, "version")?;
-    if least <= 2 { Ok(Some(near)) } else { Ok(None) }
+    if least > 2 {
+        return Ok(String::new(alloc));
+    }
+    format!(in alloc; "; did you mean \"{near}\"?")
 }
 
 /// The nearer of the two, the first where both are as near, with its edits.
@@ -191,29 +172,13 @@ fn edits(alloc: Global, word: &str, other: &str) -> Result<usize, AllocError>
     levenshtein(alloc, word, other)
 }
 
-/// That the argument stands behind all that its command takes.
-fn too_many(alloc: Global, extra: &str) -> Result<String, AllocError>
-    ensures { IfOk result (λ why. (quoted : List ℕ) × IsQuoted extra.now quoted
-        × (string_bytes why ≡ codes "an argument too many: " ++ line quoted)) }
+/// A line with the word in quotes, between these texts.
+fn quoting(alloc: Global, before: &str, word: &str, behind: &str) -> Result<String, AllocError>
+    ensures { IfOk result (λ said. (quoted : List ℕ) × IsQuoted word.now quoted
+        × (string_bytes said ≡ before.now ++ (quoted ++ line behind.now))) }
 {
-    let quoted = quoted(alloc, extra)?;
-    format!(in alloc; "an argument too many: {quoted}\n")
-}
-
-/// That the argument is no limit.
-fn no_limit(alloc: Global, word: &str) -> Result<String, AllocError>
-    ensures { IfOk result (λ why. (quoted : List ℕ) × IsQuoted word.now quoted
-        × (string_bytes why ≡ quoted ++ line (codes " is no number of levels: N is a whole number from 1 to 1000"))) }
-{
-    let quoted = quoted(alloc, word)?;
-    format!(in alloc; "{quoted} is no number of levels: N is a whole number from 1 to 1000\n")
-}
-
-/// The word in quotes.
-fn quoted(alloc: Global, word: &str) -> Result<String, AllocError>
-    ensures { IfOk result (λ quoted. IsQuoted word.now (string_bytes quoted)) }
-{
-    format!(in alloc; "{word:?}")
+    let quoted = format!(in alloc; "{word:?}")?;
+    format!(in alloc; "{before}{quoted}{behind}\n")
 }
 
 /// Why the word names no type, or none that has a value.

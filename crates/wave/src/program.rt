@@ -9,15 +9,14 @@ ghost use Rattle.wave.specs.Requests.{AreUnknown};
 ghost use Rattle.wave.specs.Answers.{words_of_fault, usage};
 ghost use Rattle.wave.specs.Lines.{line};
 ghost use Rattle.wave.specs.ByLines.{RunsByLines};
-ghost use Rattle.wave.specs.Explained.{IsShown, ShowsWhy, ShowsRefusal, ShowsPlace, IsFailure, place_shown};
-ghost use Rattle.wave.specs.Private.Answers.{IsReadFault, IsOutcome, IsNoOutcome, ReportsRefusal, ShowsFault};
+ghost use Rattle.wave.specs.Explained.{IsShown, ShowsWhy, ShowsRefusal, IsFailure};
+ghost use Rattle.wave.specs.Private.Answers.{IsReadFault, IsOutcome, IsNoOutcome, ReportsRefusal, ShowsText, ShowsFault};
 ghost use Rattle.wave.specs.Misuse.{ShowsMisuse};
 ghost use Rattle.wave.specs.Private.Requests.{IsFit};
 ghost use Rattle.wave.specs.Statuses.{IsLineOfRun, IsLineOfRequest};
 
-use crate::answer::{Unanswered, answer};
+use crate::answer::{Unanswered, answer, explain_refusal};
 use crate::by_lines::answer_lines;
-use crate::explained::explain_refusal;
 use crate::help::notice_of;
 use crate::input::{Input, RunError};
 use crate::lines::CHUNK;
@@ -76,21 +75,21 @@ pub fn run<R: Read, W: Write, E: Write>(
         × IsLineOfRun (map string_bytes words.now) (R.remaining input.old.reader)
         input.old input.new status said
         × Prints W.contents output.old output.new said status result.status)
-        ⊎ RunsByLines W.contents E.contents (map string_bytes words.now) (R.remaining input.old.reader)
-        input.old input.new output.old output.new errors.old errors.new result }
+        ⊎ RunsByLines W.contents E.contents (map string_bytes words.now)
+        (R.remaining input.old.reader) (R.remaining input.new.reader) input.old input.new output.old output.new errors.old errors.new result }
     // A refusal is shown where it was printed, or there was no memory for it.
     ensures shown { result.status ≡ 1 → IsShown (map string_bytes words.now) (R.remaining input.old.reader)
         W.contents output.old output.new E.contents errors.old errors.new result.shown
-        ⊎ RunsByLines W.contents E.contents (map string_bytes words.now) (R.remaining input.old.reader)
-        input.old input.new output.old output.new errors.old errors.new result }
+        ⊎ RunsByLines W.contents E.contents (map string_bytes words.now)
+        (R.remaining input.old.reader) (R.remaining input.new.reader) input.old input.new output.old output.new errors.old errors.new result }
     ensures quiet { result.status ≡ 0 → (errors.new ≡ errors.old) × (result.shown ≡ Ok tt)
-        ⊎ RunsByLines W.contents E.contents (map string_bytes words.now) (R.remaining input.old.reader)
-        input.old input.new output.old output.new errors.old errors.new result }
+        ⊎ RunsByLines W.contents E.contents (map string_bytes words.now)
+        (R.remaining input.old.reader) (R.remaining input.new.reader) input.old input.new output.old output.new errors.old errors.new result }
     // At status 3 it is shown where an input is no text, where that was printed, or there was no memory for it.
     ensures failed { result.status ≡ 3 → IsFailure (R.remaining input.old.reader) input.old input.new
         W.contents output.old output.new E.contents errors.old errors.new result.shown
-        ⊎ RunsByLines W.contents E.contents (map string_bytes words.now) (R.remaining input.old.reader)
-        input.old input.new output.old output.new errors.old errors.new result }
+        ⊎ RunsByLines W.contents E.contents (map string_bytes words.now)
+        (R.remaining input.old.reader) (R.remaining input.new.reader) input.old input.new output.old output.new errors.old errors.new result }
     // Where the usage was printed, what is wrong with the arguments is said, or there was no memory for it.
     ensures misused { result.status ≡ 2 →
         ShowsMisuse E.contents (map string_bytes words.now) errors.old errors.new result.shown }
@@ -131,22 +130,25 @@ fn misused<W: Write, E: Write>(
     }
     Ended {
         status,
-        shown: show_misuse(alloc, errors, words),
+        shown: show(errors, explain_misuse(alloc, words)),
     }
 }
 
-/// Writes what is wrong with the arguments; out of memory for that, and nothing is written.
-fn show_misuse<E: Write>(
-    alloc: Global,
+/// Writes the text for a person, or a beginning of it where a write fails; nothing where there was no
+/// memory for the text, which is answered.
+fn show<E: Write>(
     errors: &mut Output<E>,
-    words: &[String],
+    text: Result<String, AllocError>,
 ) -> Result<(), AllocError>
-    requires { AreUnknown (map string_bytes words.now) }
-    ensures { ShowsMisuse E.contents (map string_bytes words.now) errors.old errors.new result }
+    ensures { ShowsText E.contents errors.old errors.new text result }
 {
-    let explained = explain_misuse(alloc, words)?;
-    write_text(errors, explained.as_str());
-    Ok(())
+    match text {
+        Ok(text) => {
+            write_whole(errors, text.as_bytes());
+            Ok(())
+        }
+        Err(error) => Err(error),
+    }
 }
 
 /// Answers the request on all of the input.
@@ -191,38 +193,16 @@ fn refuse<W: Write, E: Write>(
         ShowsRefusal E.contents request.now errors.old errors.new text.now refusal.now result.shown }
     ensures quiet { result.status ≢ 1 → (errors.new ≡ errors.old) × (result.shown ≡ Ok tt) }
 {
-    let status = report_refusal(alloc, output, refusal);
+    let Ok(line) = refusal_line(alloc, refusal) else {
+        return Ended::at(print(output, fault_line(RunError::OutOfMemory), 3));
+    };
+    let status = print(output, line.as_str(), 1);
     if status != 1 {
         return Ended::at(status);
     }
     Ended {
         status,
-        shown: show(alloc, errors, request, refusal, text),
-    }
-}
-
-/// Writes what explains the refusal of the text; out of memory for that, and nothing is written.
-fn show<E: Write>(
-    alloc: Global,
-    errors: &mut Output<E>,
-    request: &Request,
-    refusal: &ParserError,
-    text: &str,
-) -> Result<(), AllocError>
-    ensures { ShowsRefusal E.contents request.now errors.old errors.new text.now refusal.now result }
-{
-    let explained = explain_refusal(alloc, request, refusal, text)?;
-    write_text(errors, explained.as_str());
-    Ok(())
-}
-
-/// Says why there is no answer: the refusal's text at status 1, out of memory at status 3.
-fn report_refusal<W: Write>(alloc: Global, output: &mut Output<W>, refusal: &ParserError) -> u8
-    ensures { ReportsRefusal W.contents output.old output.new refusal.now result }
-{
-    match refusal_line(alloc, refusal) {
-        Ok(line) => print(output, line.as_str(), 1),
-        Err(_) => report(output, RunError::OutOfMemory),
+        shown: show(errors, explain_refusal(alloc, request, refusal, text)),
     }
 }
 
@@ -251,43 +231,16 @@ fn fail<W: Write, E: Write>(
     if !write_whole(output, fault_line(fault).as_bytes()) {
         return Ended::at(3);
     }
-    Ended {
-        status: 3,
-        shown: show_fault(alloc, errors, fault),
-    }
-}
-
-/// Writes where an input is no text; nothing of another fault. Out of memory for that, and nothing is
-/// written.
-fn show_fault<E: Write>(
-    alloc: Global,
-    errors: &mut Output<E>,
-    fault: RunError,
-) -> Result<(), AllocError>
-    ensures { ShowsPlace E.contents errors.old errors.new fault result }
-{
     match fault {
-        RunError::NotUtf8(place) => {
-            let shown = place_line(alloc, place)?;
-            write_text(errors, shown.as_str());
-            Ok(())
-        }
-        RunError::InputFailed | RunError::OutOfMemory => Ok(()),
+        RunError::NotUtf8(place) => Ended {
+            status: 3,
+            shown: show(
+                errors,
+                format!(in alloc; "input is not UTF-8\n --> byte {place}\n"),
+            ),
+        },
+        RunError::InputFailed | RunError::OutOfMemory => Ended::at(3),
     }
-}
-
-/// What is said of an input in which behind so many bytes something begins that is no text.
-pub fn place_line(alloc: Global, place: usize) -> Result<String, AllocError>
-    ensures { IfOk result (λ text. string_bytes text ≡ place_shown place) }
-{
-    format!(in alloc; "input is not UTF-8\n --> byte {place}\n")
-}
-
-/// Says why there is no answer and no refusal.
-pub fn report<W: Write>(output: &mut Output<W>, fault: RunError) -> u8
-    ensures { Prints W.contents output.old output.new (line (words_of_fault fault)) 3 result }
-{
-    print(output, fault_line(fault), 3)
 }
 
 /// The words of a fault, and a line feed.
@@ -310,14 +263,6 @@ pub fn print<W: Write>(output: &mut Output<W>, line: &str, status: u8) -> u8
     } else {
         3
     }
-}
-
-/// Writes the text, or a beginning of it where a write fails.
-fn write_text<W: Write>(output: &mut Output<W>, text: &str)
-    ensures { WritesWhole W.contents output.old output.new text.now
-        ⊎ WritesLess W.contents output.old output.new text.now }
-{
-    write_whole(output, text.as_bytes());
 }
 
 /// Writes all of the bytes, or answers false where a write failed before all were written.

@@ -1,6 +1,7 @@
 -- What the parts of the program answer to each other.
-use Rattle.std.specs.Prelude.{ℕ, List, ◌≡◌, ◌≢◌, ◌⊎◌, false, Ok, string_bytes}
+use Rattle.std.specs.Prelude.{ℕ, List, String, ◌≡◌, ◌≢◌, ◌⊎◌, false, Ok, Err, string_bytes}
 use Rattle.std.specs.declared.alloc.AllocError.{AllocError}
+use Rattle.std.specs.declared.alloc.Global.{Global}
 use Rattle.std.specs.declared.result.Result.{Result}
 use Rattle.std.specs.declared.option.Option.{Option}
 use Rattle.wave_lex.specs.Errors.{Diagnostic, error_text}
@@ -59,6 +60,12 @@ module _ {W : Type 0} (contents : W → Option (List ℕ)) where
   ReportsRefusal old new e result =
       (e.kind ≢ kind.OutOfMemory) × Prints contents old new (line (error_text e)) 1 result
       ⊎ Prints contents old new (line (words_of_fault OutOfMemory)) 3 result
+
+module _ {E : Type 0} (contents : E → Option (List ℕ)) where
+  -- the text was written, or a beginning of it where a write failed; or there was no memory for it, which is answered, and nothing was written
+  abbrev pub ShowsText : Output E → Output E → Result (String Global) AllocError → Result (Unit {0}) AllocError → Type 0
+  ShowsText old new (Ok text) shown = (WritesWhole contents old new (string_bytes text) ⊎ WritesLess contents old new (string_bytes text)) × (shown ≡ Ok tt)
+  ShowsText old new (Err error) shown = (new ≡ old) × (shown ≡ Err error)
 
 -- the fault's words are the line that was written, and the place is shown; or a write failed, and nothing is shown
 abbrev pub ShowsFault : {W E : Type 0} → (W → Option (List ℕ)) → Output W → Output W → (E → Option (List ℕ)) → Output E → Output E

@@ -1,30 +1,32 @@
 -- The lines of an input that is read chunk by chunk.
-use Rattle.std.specs.Prelude.{ℕ, ◌≡◌, ◌+◌, ◌*◌, ◌<◌, ◌⊎◌, ◌==◌, true, false, List, ◌∷◌, ◌++◌, length, take, drop, slice_range, ⊤, Some, None}
+use Rattle.std.specs.Prelude.{ℕ, ◌≡◌, ◌+◌, ◌*◌, ◌<◌, ◌≤◌, ◌⊎◌, true, false, List, [], ◌∷◌, ◌++◌, length, take, drop, slice_range, ⊤, Some, None}
 use Rattle.std.specs.declared.option.Option.{Option}
-use Rattle.std.specs.Io.KnownBytes.{IsAtEnd, prepend_known}
-use Rattle.std.specs.List.{All}
+use Rattle.std.specs.Io.KnownBytes.{Consumes, IsAtEnd, prepend_known}
 use Rattle.std.specs.Str.Lines.{lines}
 use Rattle.wave.specs.Counts.{CountsOne}
+use Rattle.wave.specs.Lines.{IsInOneLine}
 use Rattle.wave.specs.declared.input.RunError.{RunError}
 use Rattle.wave.specs.declared.input.RunError.TheVariants.{NotUtf8, InputFailed, OutOfMemory}
 use Rattle.wave.specs.declared.input.Input.{Input}
 use Rattle.wave.specs.declared.lines.Unread.{Unread}
 
--- the known bytes begin with this line and its end, and lose them
-abbrev pub TakesLine : Option (List ℕ) → Option (List ℕ) → List ℕ → Type 0
-TakesLine None new text = ⊤
-TakesLine (Some xs) None text = ⊥
-TakesLine (Some xs) (Some ys) text = lines xs ≡ text ∷ lines ys
+-- the bytes are whole lines, each with its end, and these are their texts: so begin the lines of whatever comes behind them
+abbrev pub AreWholeLines : List ℕ → List (List ℕ) → Type 0
+AreWholeLines bytes texts = (more : List ℕ) → lines (bytes ++ more) ≡ texts ++ lines more
 
--- the known bytes begin with these lines, and lose them
+-- the known bytes begin with these lines, whole ones or all that there are, and lose them
 abbrev pub TakesLines : Option (List ℕ) → Option (List ℕ) → List (List ℕ) → Type 0
 TakesLines None new texts = ⊤
 TakesLines (Some xs) None texts = ⊥
-TakesLines (Some xs) (Some ys) texts = lines xs ≡ texts ++ lines ys
+TakesLines (Some xs) (Some ys) texts = (taken : List ℕ) × (xs ≡ taken ++ ys) × (AreWholeLines taken texts ⊎ (ys ≡ []) × (lines taken ≡ texts))
 
--- no byte is a line feed
-abbrev pub IsInOneLine : List ℕ → Type 0
-IsInOneLine bytes = All (λ b. (b == 10) ≡ false) bytes
+-- so with one line
+abbrev pub TakesLine : Option (List ℕ) → Option (List ℕ) → List ℕ → Type 0
+TakesLine old new text = TakesLines old new (text ∷ [])
+
+-- the known bytes lose some without a line feed, and then at most n
+abbrev pub LosesPart : Option (List ℕ) → Option (List ℕ) → ℕ → Type 0
+LosesPart old new n = (begun : List ℕ) × (last : List ℕ) × Consumes old new (begun ++ last) × IsInOneLine begun × (length last ≤ n)
 
 -- a line feed stands at this place, and none before it
 abbrev pub EndsFirstLine : List ℕ → ℕ → Type 0

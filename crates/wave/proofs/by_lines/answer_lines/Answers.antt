@@ -20,15 +20,15 @@ pub returns-in-Ok-None-clause-answered : goal.returns-in-Ok-None-clause-answered
 returns-in-Ok-None-clause-answered g c =
     let so_far = released g.R.Read.remaining g.W.Write.contents g.E.Write.contents _ _ _ _ _ _ _ _ _ _ _ _ c.lines.invariant c.write_if_needed.new.output (string_bytes c.write_if_needed.new.held) (c.write_if_needed.ensures.whole c.if-not-write_if_needed.false) in
     let last = rw c.in-Ok-None.field-0-is at c.in-Ok-None.ensures.answer in
-    all_answered g.R.Read.remaining g.W.Write.contents g.E.Write.contents _ _ _ _ _ _ _ _ _ _ _ _ so_far c.next_answer.new.input c.print.new.output c.deref.result.now c.status_of.result c.print.result c.at-in-Ok-None.result
-    (search rules) last.0 last.1 c.in-Ok-None.ensures.went_well c.status_of.ensures c.deref.ensures c.print.ensures c.at-in-Ok-None.ensures.status c.at-in-Ok-None.ensures.shown
+    all_answered g.R.Read.remaining g.W.Write.contents g.E.Write.contents _ _ _ _ _ _ _ _ _ _ _ _ so_far c.next_answer.new.input c.print.new.output c.deref.result.now c.from.result c.print.result c.at-in-Ok-None.result
+    (search rules) last.0 last.1 c.in-Ok-None.ensures.went_well c.from.ensures c.deref.ensures c.print.ensures c.at-in-Ok-None.ensures.status c.at-in-Ok-None.ensures.shown
 
 pub returns-in-Err-clause-answered : goal.returns-in-Err-clause-answered
 returns-in-Err-clause-answered g c =
     let so_far = released g.R.Read.remaining g.W.Write.contents g.E.Write.contents _ _ _ _ _ _ _ _ _ _ _ _ c.lines.invariant c.write_if_needed.new.output (string_bytes c.write_if_needed.new.held) (c.write_if_needed.ensures.whole c.if-not-write_if_needed.false) in
     let (last, ends, shows) = c.fail_at-in-Err.ensures in
     cut_off g.R.Read.remaining g.W.Write.contents g.E.Write.contents _ _ _ _ _ _ _ _ _ _ _ _ so_far c.next_answer.new.input c.next_answer.new.unread c.fail_at-in-Err.new.output c.fail_at-in-Err.new.errors c.fail_at-in-Err.result
-    c.in-Err.fault c.in-Err.ensures.fault
+    c.in-Err.fault c.in-Err.ensures.fault c.next_answer.ensures.read c.in-Err.ensures.cut
     (last, subst (λ t. EndsAtFault g.W.Write.contents c.write_if_needed.new.output c.fail_at-in-Err.new.output c.in-Err.fault c.lines.number t last c.fail_at-in-Err.result) c.deref-in-Err.ensures ends, shows)
 
 pub returns-then-not-write_if_needed-2-clause-answered : goal.returns-then-not-write_if_needed-2-clause-answered

@@ -1,6 +1,6 @@
 use Rattle.std.proofs.Common.{refl}
 use Rattle.std.proofs.lemmas.Result.{err_from_is_err_and}
-use Rattle.wave.proofs.LineReading.{line_taken}
+use Rattle.wave.proofs.LineReading.{line_taken, unread_part, on_err}
 use Rattle.wave.proofs.LinesAnswered.{taken_unanswered}
 use Rattle.wave.proofs.by_lines.next_answer.Goals as goal
 
@@ -15,3 +15,9 @@ returns-in-Some-clause-answer g c =
     let taken = line_taken g.R.Read.remaining c.args.input.now c.args.unread.now c.skip.new.self c.in-Some.end c.line_before.result.now c.in-Some.ensures c.skip.ensures c.line_before.ensures in
     let (said, is, printed) = c.in_ok-answer.ensures.answer in
     (c.line_before.result.now, said, taken.0, is, printed, taken.1)
+
+pub returns-in_err-answer-clause-read : goal.returns-in_err-answer-clause-read
+returns-in_err-answer-clause-read g c = unread_part g.R.Read.remaining c.args.input.now c.args.unread.now
+
+pub returns-in-Some-clause-read : goal.returns-in-Some-clause-read
+returns-in-Some-clause-read g c = unread_part g.R.Read.remaining c.args.input.now c.args.unread.now

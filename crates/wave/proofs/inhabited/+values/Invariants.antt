@@ -9,9 +9,6 @@ use Rattle.wave.proofs.inhabited.+values.Given as goal
 abbrev pub decreases-type_has_value : goal.decreases-type_has_value
 decreases-type_has_value g l = 3 * depth (g.T.WasmType.tree l.ty.now) + 2
 
-abbrev pub decreases-elements_have_value : goal.decreases-elements_have_value
-decreases-elements_have_value g l = 3 * depth (g.T.WasmType.tree l.ty.now) + 1
-
 abbrev pub decreases-fields_have_value : goal.decreases-fields_have_value
 decreases-fields_have_value g l = 3 * depth (g.T.WasmType.tree l.ty.now) + 1
 
@@ -20,9 +17,6 @@ decreases-items_have_value g l = 3 * depth (g.T.WasmType.tree l.ty.now) + 1
 
 abbrev pub decreases-some_case_has_value : goal.decreases-some_case_has_value
 decreases-some_case_has_value g l = 3 * depth (g.T.WasmType.tree l.ty.now) + 1
-
-abbrev pub decreases-result_has_value : goal.decreases-result_has_value
-decreases-result_has_value g l = 3 * depth (g.T.WasmType.tree l.ty.now) + 1
 
 abbrev pub decreases-payload_has_value : goal.decreases-payload_has_value
 decreases-payload_has_value g l = 3 * depth_of_maybe (maybe_type (shown g.T.WasmType.tree l.payload)) + 3

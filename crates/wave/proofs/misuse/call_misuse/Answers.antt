@@ -1,26 +1,19 @@
-use Rattle.std.proofs.Common.{rules, arith, codes, sym, ◌∙◌}
-use Rattle.wave.proofs.Misused.{no_texts, length_texts, none_named, some_named, text_at, call_alone, func_said, too_many_said}
+use Rattle.std.proofs.Common.{rules, arith, codes}
+use Rattle.wave.proofs.Misused.{no_texts, length_texts, none_called, text_at, call_alone, func_said, too_many_said}
 use Rattle.wave.proofs.Requested.{one_word}
 use Rattle.wave.proofs.misuse.call_misuse.Goals as goal
 
 pub unreachable-requires : goal.unreachable-requires
 unreachable-requires c = call_alone _ (no_texts c.args.rest.now (search rules)) c.requires
 
-pub unreachable-requires-in-Some : goal.unreachable-requires-in-Some
-unreachable-requires-in-Some c =
-    some_named c.in_ok-function_at-in-len1.field-0 c.as_str.result.now c.in_ok-function_at-in-len1.ensures c.in-Some.field-0 _ c.in-Some.is
-    (one_word c.args.rest.now c.func-item.result _ c.in-len1.len_at_least c.in-len1.len_below c.func-item.is c.as_str.ensures.value) c.requires
-
 pub bad_func-requires : goal.bad_func-requires
-bad_func-requires c =
-    none_named c.in_ok-function_at-in-len1.field-0 c.as_str.result.now c.in_ok-function_at-in-len1.ensures _ c.in-None.is
-    (c.as_str-in-None.ensures.value ∙ sym c.as_str.ensures.value)
+bad_func-requires c = none_called _ _ (one_word c.args.rest.now c.func-item.result _ c.in-len1.len_at_least c.in-len1.len_below c.func-item.is c.as_str.ensures.value) c.requires
 
-pub returns-in-None : goal.returns-in-None
-returns-in-None c = func_said c.bad_func.result _ c.as_str-in-None.result.now (one_word c.args.rest.now c.func-item.result _ c.in-len1.len_at_least c.in-len1.len_below c.func-item.is c.as_str-in-None.ensures.value) c.bad_func.ensures
+pub returns-in-len1 : goal.returns-in-len1
+returns-in-len1 c = func_said c.bad_func.result _ c.as_str.result.now (one_word c.args.rest.now c.func-item.result _ c.in-len1.len_at_least c.in-len1.len_below c.func-item.is c.as_str.ensures.value) c.bad_func.ensures
 
 pub returns-in-len2-up : goal.returns-in-len2-up
 returns-in-len2-up c =
     let count = length_texts c.args.rest.now in
     let many = c.in-len2-up.len_at_least in
-    too_many_said c.too_many.result (codes "call") _ 2 c.as_str-in-len2-up.result.now (search rules) (omega (arith, count, many)) (text_at c.args.rest.now 1 c.extra-item.result _ (omega (arith, many)) c.extra-item.is c.as_str-in-len2-up.ensures.value) c.too_many.ensures
+    too_many_said c.quoting.result (codes "call") _ 2 c.as_str-in-len2-up.result.now (search rules) (omega (arith, count, many)) (text_at c.args.rest.now 1 c.extra-item.result _ (omega (arith, many)) c.extra-item.is c.as_str-in-len2-up.ensures.value) c.quoting.ensures

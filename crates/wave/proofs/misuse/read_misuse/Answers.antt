@@ -26,10 +26,10 @@ pub returns-in-len3-up : goal.returns-in-len3-up
 returns-in-len3-up c =
     let count = length_texts c.args.rest.now in
     let many = c.in-len3-up.len_at_least in
-    too_many_said c.too_many.result (codes "read") _ 3 c.as_str-in-len3-up.result.now (search rules) (omega (arith, count, many)) (text_at c.args.rest.now 2 c.extra-item.result _ (omega (arith, many)) c.extra-item.is c.as_str-in-len3-up.ensures.value) c.too_many.ensures
+    too_many_said c.quoting-in-len3-up.result (codes "read") _ 3 c.as_str-in-len3-up.result.now (search rules) (omega (arith, count, many)) (text_at c.args.rest.now 2 c.extra-item.result _ (omega (arith, many)) c.extra-item.is c.as_str-in-len3-up.ensures.value) c.quoting-in-len3-up.ensures
 
 pub returns-in-None : goal.returns-in-None
 returns-in-None c =
-    read_limit_said c.no_limit.result _ _ c.as_str-in-None.result.now
+    read_limit_said c.quoting.result _ _ c.as_str-in-None.result.now
     (two_words c.args.rest.now _ _ _ _ c.in-len2.len_at_least c.in-len2.len_below c.ty-item-then-rest-lt3.is c.limit-item.is refl c.as_str-in-None.ensures.value)
-    (subst (λ w. (n : ℕ) → IsLimitWord w n → ⊥) (c.as_str-in-len2.ensures.value ∙ sym c.as_str-in-None.ensures.value) c.in-None.ensures) c.no_limit.ensures
+    (subst (λ w. (n : ℕ) → IsLimitWord w n → ⊥) (c.as_str-in-len2.ensures.value ∙ sym c.as_str-in-None.ensures.value) c.in-None.ensures) c.quoting.ensures

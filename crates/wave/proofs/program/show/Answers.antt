@@ -1,10 +1,13 @@
-use Rattle.std.proofs.Common.{sym, subst}
-use Rattle.wave.specs.Explained.{Explains}
+use Rattle.std.proofs.Common.{◌≡◌, ◌⊎◌, Ok, refl, sym, subst}
+use Rattle.wave.specs.Private.Answers.{ShowsText}
+use Rattle.wave.specs.Written.{WritesWhole, WritesLess}
+use Rattle.wave.proofs.Reported.{written}
 use Rattle.wave.proofs.program.show.Goals as goal
 
-pub returns : goal.returns
-returns g c = (
-  c.as_str.result.now,
-  subst (λ t. Explains c.args.request.now c.args.text.now c.args.refusal.now t) (sym c.as_str.ensures.value) c.in_ok-explained.ensures,
-  c.write_text.ensures,
-)
+pub returns-in-Ok : goal.returns-in-Ok
+returns-in-Ok g c =
+    subst (λ text. ShowsText g.E.Write.contents c.args.errors.now c.write_whole.new.output text (Ok tt)) (sym c.in-Ok.is) (
+      subst (λ t. WritesWhole g.E.Write.contents c.args.errors.now c.write_whole.new.output t ⊎ WritesLess g.E.Write.contents c.args.errors.now c.write_whole.new.output t) c.as_bytes.ensures.value
+          (written c.write_whole.result c.write_whole.ensures.whole c.write_whole.ensures.cut),
+      refl,
+    )

@@ -1,6 +1,6 @@
 use Rattle.std.proofs.Common.{◌++◌, ◌∷◌, length, take, drop, sym, ap, ap₂, subst, ◌∙◌, rules}
 use Rattle.std.proofs.Math.Seq.{drop-length}
-use Rattle.wave.specs.Private.InputLines.{IsInOneLine}
+use Rattle.wave.specs.Lines.{IsInOneLine}
 use Rattle.wave.proofs.lines.Unread.move_line.Goals as goal
 
 pub returns-in_ok-extend_from_slice-in-Some : goal.returns-in_ok-extend_from_slice-in-Some
