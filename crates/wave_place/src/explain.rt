@@ -1,5 +1,5 @@
 //! A refusal of a text, as a person is shown it.
-ghost use Rattle.std.specs.Prelude.{◌≡◌, ◌-◌, ◌++◌, max, take, drop, replicate, chars, codes, false, IfOk, string_bytes};
+ghost use Rattle.std.specs.Prelude.{◌≡◌, ◌<◌, ◌-◌, ◌++◌, max, take, drop, replicate, chars, codes, false, IfOk, string_bytes};
 ghost use Rattle.std.specs.Fmt.{digits};
 ghost use Rattle.wave_lex.specs.Errors.{error_text};
 ghost use Rattle.wave_place.specs.Places.{heading, IsMarked, IsExplained};
@@ -117,8 +117,8 @@ fn marks(alloc: Global, before: &str, marked: &str) -> Result<String, AllocError
     push_shown(&mut below, marked, 0, SHOWN)?;
     let width = below.as_str().width().max(1);
     let mut text = String::new(alloc);
-    push_blanks(&mut text, before.width())?;
-    push_marks(&mut text, width)?;
+    push_times(&mut text, ' ', before.width())?;
+    push_times(&mut text, '^', width)?;
     Ok(text)
 }
 
@@ -189,22 +189,14 @@ pub fn is_invisible(scalar: char) -> bool
     }
 }
 
-/// Adds `count` blanks.
-fn push_blanks(to: &mut String, count: usize) -> Result<(), AllocError>
-    ensures { IfOk result (λ _. string_bytes to.new ≡ string_bytes to.old ++ replicate count 32) }
+/// Adds the ASCII character so many times.
+#[tactic(auto, using(std::proofs::lemmas::Str::encode_ascii))]
+fn push_times(to: &mut String, mark: char, count: usize) -> Result<(), AllocError>
+    requires { mark < 128 }
+    ensures { IfOk result (λ _. string_bytes to.new ≡ string_bytes to.old ++ replicate count mark) }
 {
-    'blanks: for _ in 0..count {
-        to.push(' ')?;
-    }
-    Ok(())
-}
-
-/// Adds `count` marks.
-fn push_marks(to: &mut String, count: usize) -> Result<(), AllocError>
-    ensures { IfOk result (λ _. string_bytes to.new ≡ string_bytes to.old ++ replicate count 94) }
-{
-    'marks: for _ in 0..count {
-        to.push('^')?;
+    'times: for _ in 0..count {
+        to.push(mark)?;
     }
     Ok(())
 }

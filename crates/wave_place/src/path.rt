@@ -66,10 +66,7 @@ fn step_to_value<'a, T: WasmType>(
         (λ p. IsTaken source.now span.now node.now (T.tree ty.now) (string_bytes path.old) (string_bytes path.new) p.0.now (T.tree p.1.now))) }
     ensures value { IfOk result (λ r. IfSome r (λ p. IsValueOf source.now p.0.now)) }
 {
-    if let Some(found) = step_to_item(node, ty, span, path)? {
-        return Ok(Some(found));
-    }
-    if let Some(found) = step_to_tuple_item(alloc, node, ty, span, path)? {
+    if let Some(found) = step_to_item(alloc, node, ty, span, path)? {
         return Ok(Some(found));
     }
     if let Some(found) = step_to_field(alloc, source, node, ty, span, path)? {
@@ -93,36 +90,8 @@ fn step_to_value<'a, T: WasmType>(
     Ok(payload_alone(node, ty, span))
 }
 
-/// A step to an item of a list.
+/// A step to an item of a list or a tuple.
 fn step_to_item<'a, T: WasmType>(
-    node: &'a Node,
-    ty: &'a T,
-    span: &Span,
-    path: &mut String,
-) -> Result<Option<(&'a Node, &'a T)>, AllocError>
-    ensures same { IfOk result (λ r. IfNone r (string_bytes path.new ≡ string_bytes path.old)) }
-    ensures none { IfOk result (λ r. IfNone r ((source : List ℕ) (i : ℕ) → type_of node.now ≡ form.List → LeadsNowhere source span.now node.now (T.tree ty.now) (step.item i))) }
-    ensures taken { IfOk result (λ r. IfSome r
-        (λ p. (source : List ℕ) → IsTaken source span.now node.now (T.tree ty.now) (string_bytes path.old) (string_bytes path.new) p.0.now (T.tree p.1.now))) }
-    ensures value { IfOk result (λ r. IfSome r (λ p. (source : List ℕ) → IsValueOf source node.now → IsValueOf source p.0.now)) }
-{
-    let Ok(items) = node.as_list() else {
-        return Ok(None);
-    };
-    let Some(element_type) = ty.list_element_type() else {
-        return Ok(None);
-    };
-    match item_at(items, items.len(), span) {
-        Some((i, item)) => {
-            push_item(path, i)?;
-            Ok(Some((item, element_type)))
-        }
-        None => Ok(None),
-    }
-}
-
-/// A step to an item of a tuple.
-fn step_to_tuple_item<'a, T: WasmType>(
     alloc: Global,
     node: &'a Node,
     ty: &'a T,
@@ -130,11 +99,22 @@ fn step_to_tuple_item<'a, T: WasmType>(
     path: &mut String,
 ) -> Result<Option<(&'a Node, &'a T)>, AllocError>
     ensures same { IfOk result (λ r. IfNone r (string_bytes path.new ≡ string_bytes path.old)) }
-    ensures none { IfOk result (λ r. IfNone r ((source : List ℕ) (i : ℕ) → type_of node.now ≡ form.Tuple → LeadsNowhere source span.now node.now (T.tree ty.now) (step.item i))) }
+    ensures list { IfOk result (λ r. IfNone r ((source : List ℕ) (i : ℕ) → type_of node.now ≡ form.List → LeadsNowhere source span.now node.now (T.tree ty.now) (step.item i))) }
+    ensures tuple { IfOk result (λ r. IfNone r ((source : List ℕ) (i : ℕ) → type_of node.now ≡ form.Tuple → LeadsNowhere source span.now node.now (T.tree ty.now) (step.item i))) }
     ensures taken { IfOk result (λ r. IfSome r
         (λ p. (source : List ℕ) → IsTaken source span.now node.now (T.tree ty.now) (string_bytes path.old) (string_bytes path.new) p.0.now (T.tree p.1.now))) }
     ensures value { IfOk result (λ r. IfSome r (λ p. (source : List ℕ) → IsValueOf source node.now → IsValueOf source p.0.now)) }
 {
+    if let Ok(items) = node.as_list() {
+        let Some(element_type) = ty.list_element_type() else {
+            return Ok(None);
+        };
+        let Some((i, item)) = item_at(items, items.len(), span) else {
+            return Ok(None);
+        };
+        push_item(path, i)?;
+        return Ok(Some((item, element_type)));
+    }
     let Ok(items) = node.as_tuple() else {
         return Ok(None);
     };
