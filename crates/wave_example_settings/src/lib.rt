@@ -7,5 +7,3 @@ pub mod bare;
 pub mod calls;
 pub mod flags;
 pub mod settings;
-#[cfg(test)]
-mod tests;

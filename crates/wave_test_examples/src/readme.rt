@@ -13,8 +13,14 @@ fn a_list_from_code(rt: HostRuntime) -> Result<(), Fail> {
 }
 
 #[test]
-fn a_refusal_from_code(rt: HostRuntime) -> Result<(), Fail> {
+fn a_char_and_a_refusal_from_code(rt: HostRuntime) -> Result<(), Fail> {
     let alloc = rt.alloc();
+    let val = from_str::<Value>(alloc, &Type::CHAR, "'\\u{1F44B}'")?;
+    assert!(rt; val == Value::from('👋'));
+    assert_eq!(rt;
+        to_string(alloc, &Value::from('\u{1F44B}'))?.as_str(),
+        "'👋'"
+    );
     let ty = Type::list(alloc, Type::U8)?;
     match from_str::<Value>(alloc, &ty, "[1, 300]") {
         Ok(_) => Err(Fail::new("taken")),
@@ -24,16 +30,4 @@ fn a_refusal_from_code(rt: HostRuntime) -> Result<(), Fail> {
             Ok(())
         }
     }
-}
-
-#[test]
-fn a_char_from_code(rt: HostRuntime) -> Result<(), Fail> {
-    let alloc = rt.alloc();
-    let val = from_str::<Value>(alloc, &Type::CHAR, "'\\u{1F44B}'")?;
-    assert!(rt; val == Value::from('👋'));
-    assert_eq!(rt;
-        to_string(alloc, &Value::from('\u{1F44B}'))?.as_str(),
-        "'👋'"
-    );
-    Ok(())
 }

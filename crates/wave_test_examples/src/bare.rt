@@ -1,5 +1,4 @@
 //! Lists of lists as a foreign type: what is written and read, and where constructors refuse.
-use crate::bare::Bare;
 use std::test::Fail;
 use wasm_wave::parser::ParserError;
 use wasm_wave::untyped::{UntypedFuncCall, UntypedValue};
@@ -7,6 +6,7 @@ use wasm_wave::value::Type;
 use wasm_wave::wasm::DisplayValue;
 use wasm_wave::writer::{Writer, WriterError};
 use wasm_wave::{from_str, to_string};
+use wave_example_settings::bare::Bare;
 
 /// The text that the writer, `to_string` and the display give of the value; none where the first two refuse
 /// it as one that has no text, and its display fails.
@@ -34,7 +34,7 @@ fn written(rt: HostRuntime, val: &Bare) -> Result<Option<String>, Fail> {
 }
 
 #[test]
-fn without_text(rt: HostRuntime) -> Result<(), Fail> {
+fn values_are_written(rt: HostRuntime) -> Result<(), Fail> {
     let mut val = Bare::Unsupported;
     for depth in 0..6 {
         if written(rt, &val)?.is_some() {
@@ -42,11 +42,6 @@ fn without_text(rt: HostRuntime) -> Result<(), Fail> {
         }
         val = Bare::List(Vec::from_array(rt.alloc(), [val])?);
     }
-    Ok(())
-}
-
-#[test]
-fn fixed_length_lists(rt: HostRuntime) -> Result<(), Fail> {
     let (first, second) = (Vec::new(rt.alloc()), Vec::new(rt.alloc()));
     let items = Vec::from_array(rt.alloc(), [Bare::List(first), Bare::List(second)])?;
     let within = Bare::List(Vec::from_array(rt.alloc(), [Bare::Fixed(items)])?);
