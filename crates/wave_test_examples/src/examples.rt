@@ -1,11 +1,10 @@
-//! Flags that keep the order of their names, calls over them, an enum, and settings: read, made, changed and written.
+//! Flags that keep the order of their names, calls over them, and settings: read, made, changed and written.
 use std::fmt::Display;
 use std::test::Fail;
+use wasm_wave::to_string;
 use wasm_wave::untyped::UntypedValue;
 use wasm_wave::value::Type;
 use wasm_wave::wasm::{DisplayType, WasmTypeKind, WasmValue, ensure_type_kind};
-use wasm_wave::{from_str, to_string};
-use wave_example_flags::level::{Level, LevelType};
 use wave_example_flags::name_set::NameSet;
 use wave_example_flags::ordered_flags::OrderedFlags;
 use wave_example_settings::calls::answer;
@@ -118,26 +117,6 @@ fn calls_are_answered(rt: HostRuntime) -> Result<(), Fail> {
         let found = match answer(alloc, types.as_slice(), &result, text) {
             Ok(text) => text,
             Err(refusal) => refusal.to_string(alloc)?,
-        };
-        assert_eq!(rt; found.as_str(), expected);
-    }
-    Ok(())
-}
-
-#[test]
-fn levels_are_read_and_written(rt: HostRuntime) -> Result<(), Fail> {
-    for (text, expected) in [
-        ("low", "low"),
-        (" %high // the upper one", "high"),
-        (
-            "middle",
-            "error converting Wasm value: unknown case \"middle\" at 0..6",
-        ),
-        ("3", "invalid value type at 0..1"),
-    ] {
-        let found = match from_str::<Level>(rt.alloc(), &LevelType, text) {
-            Ok(level) => to_string(rt.alloc(), &level)?,
-            Err(error) => error.to_string(rt.alloc())?,
         };
         assert_eq!(rt; found.as_str(), expected);
     }
