@@ -42,15 +42,17 @@ pub struct Fields<'ty, T, V> {
     behind: usize,
     /// The place and the type of the field whose key was taken.
     pub(crate) expected: Option<(usize, &'ty T)>,
-    /// The names of the fields with their places, sorted, once a field stood elsewhere than after the
-    /// last one. Any place that is taken from it is looked at.
+    /// A field of more than a few stood elsewhere than after the last one, and the type told its place.
+    is_told: bool,
+    /// The names of the fields with their places, sorted, once such a field stood where the type tells
+    /// none. Any place that is told or taken from here is looked at.
     index: Option<Box<Vec<(&'ty str, usize)>>>,
 }
 
 /// Up to this many fields are searched by their names without an index.
 const FEW: usize = 16;
 
-impl<'ty, T, V> Fields<'ty, T, V> {
+impl<'ty, T: WasmType, V> Fields<'ty, T, V> {
     /// The place of the field of this name: as a rule it stands after the last one.
     fn place(&self, name: &str) -> Option<usize>
         ensures { MatchOption result (IsNoneOf (map field_name self.now.fields.items) name.now) (IsNamedAt self.now.fields.items name.now) }
@@ -74,23 +76,35 @@ impl<'ty, T, V> Fields<'ty, T, V> {
         None
     }
 
-    /// The place that the index has for this name, where the field of this name stands there.
+    /// The place that the type or the index has for this name, where the field of this name stands
+    /// there.
     fn indexed(&self, name: &str) -> Option<usize>
         ensures { IfSome result (IsNamedAt self.now.fields.items name.now) }
     {
+        if self.is_told {
+            return self.here(self.ty.field_place(name)?, name);
+        }
         let index = self.index.as_ref()?;
         let at = index.partition_point(|entry| entry.0 < name);
         self.here(index.get(at)?.1, name)
     }
 
-    /// Keeps an index, where the field at the place stands elsewhere than after the last one and the
-    /// fields are more than a few. Without memory for it their names are searched further on.
+    /// Asks the type further on, or else keeps an index, where the field at the place stands elsewhere
+    /// than after the last one and the fields are more than a few. Without memory for an index their
+    /// names are searched.
     fn keep_index(&mut self, alloc: Global, place: usize)
         ensures ty { self.new.ty ≡ self.old.ty }
         ensures fields { self.new.fields ≡ self.old.fields }
         ensures expected { self.new.expected ≡ self.old.expected }
     {
-        if place != self.behind && self.fields.len() > FEW && self.index.is_none() {
+        let is_known = self.is_told || self.index.is_some();
+        if place == self.behind || self.fields.len() <= FEW || is_known {
+            return;
+        }
+        if let Some(field) = self.fields.get(place) {
+            self.is_told = self.ty.field_place(field.name).is_some();
+        }
+        if !self.is_told {
             self.index = index_of(alloc, &self.fields);
         }
     }
@@ -154,6 +168,7 @@ impl<'ty, V: WasmValue> Fields<'ty, V::Type, V> {
             fields,
             behind: 0,
             expected: None,
+            is_told: false,
             index: None,
         })
     }

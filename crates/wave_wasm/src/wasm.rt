@@ -198,7 +198,7 @@ impl<T: Drop> From<AllocFailed<T>> for WasmValueError {
 /// What a type answers about itself. A type means one finite tree; each call answers the parts of
 /// that tree in their order, and none for a tree of another kind.
 pub trait WasmType: Sized {
-    ghost use Rattle.std.specs.Prelude.{◌≡◌, IfOk, option_map};
+    ghost use Rattle.std.specs.Prelude.{◌≡◌, IfOk, IfSome, Some, option_map};
     ghost use Rattle.std.specs.List.{find, position};
     ghost use Rattle.std.specs.Str.{bytes_eq};
     ghost use Rattle.wave_wasm.specs.Names.{is_one_of};
@@ -285,6 +285,16 @@ pub trait WasmType: Sized {
     {
         let names = self.flags_names(alloc)?;
         Ok(names.iter().position(|other| name == *other))
+    }
+
+    /// Where the name stands first among the names of a record's fields, counted from zero, where
+    /// the type can tell that without a walk over them; the provided body never does. A reader asks
+    /// for fields that stand in another order than the type's, and searches where it is told none.
+    fn field_place(&self, name: &str) -> Option<usize>
+        ensures { IfSome result (λ place. position (λ f. bytes_eq name.now f.0) (record_parts (tree self.now)) ≡ Some place) }
+    {
+        let _ = name;
+        None
     }
 }
 

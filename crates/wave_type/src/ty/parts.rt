@@ -4,7 +4,7 @@ ghost use Rattle.wave_wasm.specs.Borrowed.{shown_all, shown_fields, shown_cases}
 ghost use Rattle.wave_type.specs.TypeModel.{by_bytes};
 
 use super::index::borrowed_names;
-use super::places::{enum_place, flag_place, variant_case, variant_place};
+use super::places::{enum_place, field_place, flag_place, variant_case, variant_place};
 use super::{Shape, SimpleType, Type};
 use std::alloc::{AllocError, Global};
 use wave_wasm::wasm::{WasmType, WasmTypeKind};
@@ -129,6 +129,10 @@ impl WasmType for Type {
 
     fn flag_place(&self, _alloc: Global, name: &str) -> Result<Option<usize>, AllocError> {
         Ok(flag_place(self, name))
+    }
+
+    fn field_place(&self, name: &str) -> Option<usize> {
+        field_place(self, name)
     }
 }
 

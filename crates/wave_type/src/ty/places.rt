@@ -118,6 +118,18 @@ pub fn fields_in(ty: &Type) -> &[(String, Type)]
     }
 }
 
+/// Where the field of this name stands first in a record, counted from zero; none where the type
+/// is no record or has no such field.
+#[tactic(auto, using(crate::proofs::TypeTrees::Lists::families))]
+pub fn field_place(ty: &Type, name: &str) -> Option<usize>
+    ensures { result ≡ position (λ f. bytes_eq name.now f.0) (record_parts ty.now) }
+{
+    match &ty.shape {
+        Shape::Record(fields) => first_place(&fields.1, name),
+        _ => None,
+    }
+}
+
 /// The name and the payload type of the case at this place of a variant, counted from zero; no
 /// text and none past the last case, and where the type is no variant.
 #[tactic(auto, using(crate::proofs::TypeTrees::Lists::families))]
