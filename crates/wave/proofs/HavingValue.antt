@@ -3,7 +3,7 @@ use Rattle.std.proofs.Common.{ℕ, zero, suc, ◌≡◌, ◌<◌, ◌≤◌, ◌
 use Rattle.std.proofs.lemmas.Bool.{or_cases, or_right}
 use Rattle.std.specs.List.{list_all, list_any}
 use Rattle.std.specs.Prelude.{pos}
-use Rattle.wave_wasm.specs.Borrowed.{shown_all}
+use Rattle.wave_wasm.specs.Borrowed.{denoted_all}
 use Rattle.wave_wasm.specs.Lists.{AllOf}
 use Rattle.wave_wasm.specs.Names.{ArePicked}
 use Rattle.wave_wasm.specs.Types as type
@@ -193,15 +193,15 @@ variant_by T parts k e =
 
 -- each type has a value where each that is left has one, and only there
 abbrev pub Tested : List (Bor TypeTree) → List TypeTree → Type 0
-Tested left all = AllOf HasValue (shown_all (λ (T : TypeTree). T) left) ↔ AllOf HasValue all
+Tested left all = AllOf HasValue (denoted_all (λ (T : TypeTree). T) left) ↔ AllOf HasValue all
 
 -- none was tested yet
-pub none_tested : (items : List (Bor TypeTree)) (all : List TypeTree) → shown_all (λ (T : TypeTree). T) items ≡ all → Tested items all
-none_tested items all same = subst (λ Ts. AllOf HasValue (shown_all (λ (T : TypeTree). T) items) ↔ AllOf HasValue Ts) same (λ have. have, λ have. have)
+pub none_tested : (items : List (Bor TypeTree)) (all : List TypeTree) → denoted_all (λ (T : TypeTree). T) items ≡ all → Tested items all
+none_tested items all same = subst (λ Ts. AllOf HasValue (denoted_all (λ (T : TypeTree). T) items) ↔ AllOf HasValue Ts) same (λ have. have, λ have. have)
 
 module _ (items : List (Bor TypeTree)) (all : List TypeTree) (i : ℕ) (tested : Tested (drop i items) all) where
-  next_left : (x : Bor TypeTree) → i < length items → x ≡ get_or items i x → shown_all (λ (T : TypeTree). T) (drop i items) ≡ x.now ∷ shown_all (λ (T : TypeTree). T) (drop (i + 1) items)
-  next_left x less is = at_item (shown_all (λ (T : TypeTree). T)) items i x less is
+  next_left : (x : Bor TypeTree) → i < length items → x ≡ get_or items i x → denoted_all (λ (T : TypeTree). T) (drop i items) ≡ x.now ∷ denoted_all (λ (T : TypeTree). T) (drop (i + 1) items)
+  next_left x less is = at_item (denoted_all (λ (T : TypeTree). T)) items i x less is
 
   -- one type more has a value
   pub one_tested : (x : Bor TypeTree) → i < length items → x ≡ get_or items i x → HasValue x.now → Tested (drop (i + 1) items) all
@@ -216,4 +216,4 @@ module _ (items : List (Bor TypeTree)) (all : List TypeTree) (i : ℕ) (tested :
 
   -- all have values
   pub all_tested : length items ≤ i → AllOf HasValue all
-  all_tested least = tested.0 (subst (AllOf HasValue) (sym (at_end (shown_all (λ (T : TypeTree). T)) items i least)) tt)
+  all_tested least = tested.0 (subst (AllOf HasValue) (sym (at_end (denoted_all (λ (T : TypeTree). T)) items i least)) tt)

@@ -3,31 +3,31 @@ use Rattle.std.proofs.Common.{ℕ, ◌≡◌, ◌≢◌, ◌++◌, List, [], Ok,
 use Rattle.wave_lex.specs.Errors.{Diagnostic}
 use Rattle.wave_lex.specs.declared.error.ParserErrorKind.TheVariants as kind
 use Rattle.wave_grammar.specs.SpannedTree.{tree_of, slice}
-use Rattle.wave_tree.specs.NodeDisplay.{shown_at}
+use Rattle.wave_tree.specs.NodeDisplay.{display_at}
 use Rattle.wave_tree.specs.ParserState.{Parsing, Finishes, first_at, limited, start_of}
 use Rattle.wave_tree.specs.Untyped.{Untyped, IsUntypedTaken, IsUntypedOf, RefusesTree}
 use Rattle.wave_tree.proofs.TextReading.TypedTexts.{whole_tree}
-use Rattle.wave_tree.proofs.Displays.Nodes.{shown_known}
-use Rattle.wave_tree.proofs.Displays.Meaning.{params_shown}
+use Rattle.wave_tree.proofs.Displays.Nodes.{display_known}
+use Rattle.wave_tree.proofs.Displays.Meaning.{params_display}
 use Rattle.wave_grammar.specs.ParserPosition.{Place}
 use Rattle.wave_grammar.specs.PrefixAutomaton.{value}
 use Rattle.wave_grammar.specs.SyntaxErrors.{LeadsBehindValue, FailsBySyntax}
-use Rattle.wave_tree.specs.UntypedCall.{Called, IsCalledOf, RefusesCall, params_at, call_shown}
+use Rattle.wave_tree.specs.UntypedCall.{Called, IsCalledOf, RefusesCall, params_at, call_display}
 use Rattle.wave.specs.declared.request.Request.TheVariants.{Value, Call}
 use Rattle.wave.specs.Answers.{Answers, IsRefused}
 
 -- the display of the tree is the answer
-pub displayed : (n : ℕ) (s : List ℕ) (u : Untyped) (answer : List ℕ) → IsUntypedOf n s u → answer ≡ shown_at u.source u.node → Answers (Value n) s answer
+pub displayed : (n : ℕ) (s : List ℕ) (u : Untyped) (answer : List ℕ) → IsUntypedOf n s u → answer ≡ display_at u.source u.node → Answers (Value n) s answer
 displayed n s u answer of same =
-    (tree_of of.placed, of.spelled, same ∙ (ap (λ source. shown_at source u.node) of.source ∙ shown_known s u.node of.placed of.is_node.0))
+    (tree_of of.placed, of.spelled, same ∙ (ap (λ source. display_at source u.node) of.source ∙ display_known s u.node of.placed of.is_node.0))
 
 -- the display of the call is the answer
-pub call_displayed : (s : List ℕ) (u : Called) (answer : List ℕ) → IsCalledOf s u → answer ≡ call_shown u → Answers Call s answer
+pub call_displayed : (s : List ℕ) (u : Called) (answer : List ℕ) → IsCalledOf s u → answer ≡ call_display u → Answers Call s answer
 call_displayed s u answer of same = (
   slice s u.name,
   of.params,
   of.call,
-  same ∙ (ap (λ source. slice source u.name ++ params_at source u.params) of.source ∙ params_shown s (slice s u.name) u.params of.params of.means),
+  same ∙ (ap (λ source. slice source u.name ++ params_at source u.params) of.source ∙ params_display s (slice s u.name) u.params of.params of.means),
 )
 
 -- a refusal states a fault of the text, which spells no tree; or it is out of memory

@@ -6,8 +6,8 @@ use Rattle.wave_wasm.specs.Values.{Value}
 use Rattle.wave_wasm.specs.Text.{text, arguments_text}
 use Rattle.wave_type.specs.FunctionType.{types_of}
 use Rattle.wave_lex.specs.Errors.{Diagnostic}
-use Rattle.wave_grammar.specs.Tree.{Tree, MaybeTree, shown}
-use Rattle.wave_grammar.specs.Calls.{IsCall, shown_call}
+use Rattle.wave_grammar.specs.Tree.{Tree, MaybeTree, display}
+use Rattle.wave_grammar.specs.Calls.{IsCall, display_call}
 use Rattle.wave_grammar.specs.Denotes.{Means, SpellsText}
 use Rattle.wave_tree.specs.FromStr.{TextFault}
 use Rattle.wave_tree.specs.Untyped.{SyntaxFault}
@@ -24,8 +24,8 @@ use Rattle.wave.specs.ReadFaults.{IsReadToEnd, IsUnread}
 -- the request on the text has the answer: the display of the tree that the text spells within n levels, that of the call that it is,
 -- the call's name and the canonical parameters at the function's types, or the canonical text of the value that it means at the type within n levels
 abbrev pub Answers : Request → List ℕ → List ℕ → Type 0
-Answers (request.Value n) whole answer = (t : Tree) × SpellsText n whole t × (answer ≡ shown t)
-Answers request.Call whole answer = (name : List ℕ) × (params : MaybeTree) × IsCall whole name params × (answer ≡ shown_call name params)
+Answers (request.Value n) whole answer = (t : Tree) × SpellsText n whole t × (answer ≡ display t)
+Answers request.Call whole answer = (name : List ℕ) × (params : MaybeTree) × IsCall whole name params × (answer ≡ display_call name params)
 Answers (request.CallAt f) whole answer =
     (name : List ℕ) × (vs : List Value) × IsCallAt (types_of f.params) whole name vs × (answer ≡ name ++ arguments_text vs)
 Answers (request.Read T n) whole answer = (v : Value) × Means T n whole v × (answer ≡ text v)

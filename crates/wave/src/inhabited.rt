@@ -1,7 +1,7 @@
 // Whether a type has a value.
 ghost use Rattle.std.specs.Prelude.{◌≡◌, ◌↔◌, IfOk, IsTrue};
 ghost use Rattle.wave_wasm.specs.Types.{kind_of, maybe_type};
-ghost use Rattle.wave_wasm.specs.Borrowed.{shown};
+ghost use Rattle.wave_wasm.specs.Borrowed.{denoted};
 ghost use Rattle.wave.specs.Types.{HasValue};
 ghost use Rattle.wave.specs.Private.Inhabited.{inhabited, payload_inhabited};
 
@@ -111,7 +111,7 @@ fn some_case_has_value<T: WasmType>(alloc: Global, ty: &T) -> Result<bool, Alloc
 /// Whether there is no payload, or its type has a value.
 #[cycle(values)]
 fn payload_has_value<T: WasmType>(alloc: Global, payload: Option<&T>) -> Result<bool, AllocError>
-    ensures { IfOk result (λ b. b ≡ payload_inhabited (maybe_type (shown T.tree payload.entry))) }
+    ensures { IfOk result (λ b. b ≡ payload_inhabited (maybe_type (denoted T.tree payload.entry))) }
 {
     match payload {
         Some(ty) => type_has_value(alloc, ty),

@@ -1,2 +1,2 @@
-pub mod OwnTypes
+pub mod RepresentableTypes
 pub mod TupleParts

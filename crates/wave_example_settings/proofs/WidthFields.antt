@@ -5,7 +5,7 @@ use Rattle.std.specs.Str.{bytes_eq}
 use Rattle.std.proofs.lemmas.Bool.{false≢true}
 use Rattle.std.proofs.lemmas.Slice.Eq.{bytes_eq-Decides}
 use Rattle.wave_wasm.specs.Lists.{SomeOf}
-use Rattle.wave_wasm.specs.Borrowed.{shown_fields}
+use Rattle.wave_wasm.specs.Borrowed.{denoted_fields}
 use Rattle.wave_wasm.specs.Values.{Value, record_fields}
 use Rattle.wave_value.specs.TypedValue.{TypedValue}
 use Rattle.wave_value.proofs.ValueModel.Lists.{some_mapped}
@@ -21,13 +21,13 @@ abbrev field_of : Bor (List ℕ) × Bor TypedValue → List ℕ × Value
 field_of x = (x.0.now, x.1.now.tree)
 
 -- a field of this name and number
-pub found : (items : Fields) (v : Value) (i n : ℕ) (x : Bor (List ℕ) × Bor TypedValue) (same : Bool) → shown_fields (λ w. w.tree) items ≡ record_fields v → (i < length items) × (x ≡ get_or items i x) → same ≡ bytes_eq x.0.now (codes "width") → same ≡ true → x.1.now.tree ≡ number n → HasWidth v n
-found items v i n x same shown at tested named is =
+pub found : (items : Fields) (v : Value) (i n : ℕ) (x : Bor (List ℕ) × Bor TypedValue) (same : Bool) → denoted_fields (λ w. w.tree) items ≡ record_fields v → (i < length items) × (x ≡ get_or items i x) → same ≡ bytes_eq x.0.now (codes "width") → same ≡ true → x.1.now.tree ≡ number n → HasWidth v n
+found items v i n x same denoted at tested named is =
     let name : x.0.now ≡ codes "width" = (bytes_eq-Decides x.0.now (codes "width")).0 (sym tested ∙ named) in
-    subst (SomeOf (IsWidth n)) shown (some_mapped field_of (IsWidth n) items i x at.0 at.1 (λ j. (name j, is j)))
+    subst (SomeOf (IsWidth n)) denoted (some_mapped field_of (IsWidth n) items i x at.0 at.1 (λ j. (name j, is j)))
 
 -- one more field, which is none
-pub none_more : (n : ℕ) (ys : Fields) (x : Bor (List ℕ) × Bor TypedValue) → (SomeOf (IsWidth n) (shown_fields (λ w. w.tree) ys) → ⊥) → (IsWidth n (field_of x) → ⊥) → SomeOf (IsWidth n) (shown_fields (λ w. w.tree) (ys ++ x ∷ [])) → ⊥
+pub none_more : (n : ℕ) (ys : Fields) (x : Bor (List ℕ) × Bor TypedValue) → (SomeOf (IsWidth n) (denoted_fields (λ w. w.tree) ys) → ⊥) → (IsWidth n (field_of x) → ⊥) → SomeOf (IsWidth n) (denoted_fields (λ w. w.tree) (ys ++ x ∷ [])) → ⊥
 none_more n [] x none other (inl is) = other is
 none_more n [] x none other (inr one) = one
 none_more n (y ∷ ys) x none other (inl is) = none (inl is)
@@ -47,6 +47,6 @@ given (y ∷ ys) (x ∷ xs) is =
     λ i. head i ∷ more i
 
 -- no field of all
-pub none_of_all : (n : ℕ) (ys items : Fields) (v : Value) → (SomeOf (IsWidth n) (shown_fields (λ w. w.tree) ys) → ⊥) → map (λ y. y) ys ≡ items → shown_fields (λ w. w.tree) items ≡ record_fields v → HasWidth v n → ⊥
-none_of_all n ys items v none all shown has =
-    none (subst (λ zs. SomeOf (IsWidth n) (shown_fields (λ w. w.tree) zs)) (sym (given ys items all)) (subst (SomeOf (IsWidth n)) (sym shown) has))
+pub none_of_all : (n : ℕ) (ys items : Fields) (v : Value) → (SomeOf (IsWidth n) (denoted_fields (λ w. w.tree) ys) → ⊥) → map (λ y. y) ys ≡ items → denoted_fields (λ w. w.tree) items ≡ record_fields v → HasWidth v n → ⊥
+none_of_all n ys items v none all denoted has =
+    none (subst (λ zs. SomeOf (IsWidth n) (denoted_fields (λ w. w.tree) zs)) (sym (given ys items all)) (subst (SomeOf (IsWidth n)) (sym denoted) has))

@@ -6,7 +6,7 @@ use Rattle.std.specs.Str.{bytes_eq}
 use Rattle.std.proofs.lemmas.Bool.{false_from_ne_true}
 use Rattle.std.proofs.lemmas.Slice.Eq.{bytes_eq-Decides}
 use Rattle.std.proofs.lemmas.List.{map-append}
-use Rattle.wave_wasm.specs.Borrowed.{named, shown_fields}
+use Rattle.wave_wasm.specs.Borrowed.{named, denoted_fields}
 use Rattle.wave_wasm.specs.Lists.{AllOf, SomeOf}
 use Rattle.wave_wasm.specs.Names.{IsOneOf, IsNoneOf, AreDistinct, AreAllOf}
 use Rattle.wave_wasm.specs.Types as type
@@ -85,9 +85,9 @@ names_of : (fs : Fields) (all : FieldValues) → HasFields fs all → first_name
 names_of type.no_fields all h = ap (λ a. first_names (value.field_list a)) h
 names_of (type.field name T more) all (w, others, at, has, is) = ap (λ a. first_names (value.field_list a)) is ∙ ap (λ ns. name ∷ ns) (names_of more others has)
 
-shown_names : (gs : List (List ℕ × TypedValue)) → first_names (map (λ g. (g.0, g.1.tree)) gs) ≡ first_names gs
-shown_names [] = refl
-shown_names (g ∷ gs) = ap (λ ns. g.0 ∷ ns) (shown_names gs)
+denoted_names : (gs : List (List ℕ × TypedValue)) → first_names (map (λ g. (g.0, g.1.tree)) gs) ≡ first_names gs
+denoted_names [] = refl
+denoted_names (g ∷ gs) = ap (λ ns. g.0 ∷ ns) (denoted_names gs)
 
 all_widened : (n : ℕ) (gs : List (List ℕ × TypedValue)) → map (widened n) gs ≡ map (with_number n) (map (λ g. (g.0, g.1.tree)) gs)
 all_widened n [] = refl
@@ -96,13 +96,13 @@ all_widened n (g ∷ gs) = ap (λ fs. widened n g ∷ fs) (all_widened n gs)
 -- the record that is made of a record's fields and the width after them
 pub has_width : (T : TypeTree) (old : Value) (gs : List (List ℕ × TypedValue)) (n : ℕ) (w v : TypedValue) → HasType T old → map (λ g. (g.0, g.1.tree)) gs ≡ record_fields old → TakesRecord T gs → w.tree ≡ number n → BuiltRecord (with_last gs w) T v
     → v.tree ≡ with_width n old
-has_width (type.record_type fs) old gs n w v (all, has, is) shown taken is_number built =
+has_width (type.record_type fs) old gs n w v (all, has, is) denoted taken is_number built =
     let fields_are : record_fields old ≡ value.field_list all = ap record_fields is in
-    let names : first_names gs ≡ first_names (field_list fs) = sym (shown_names gs) ∙ (ap first_names (shown ∙ fields_are) ∙ names_of fs all has) in
+    let names : first_names gs ≡ first_names (field_list fs) = sym (denoted_names gs) ∙ (ap first_names (denoted ∙ fields_are) ∙ names_of fs all has) in
     let under = only_under gs (subst AreDistinct (sym names) taken.0) in
     let fields = beside_widened n (last_under (with_last gs w)) (field_list fs) gs built.last names built.are_last (are_widened n w gs gs is_number under) in
-    built.built.tree ∙ ap (λ ps. value.record_value (field_values ps)) (fields ∙ (all_widened n gs ∙ ap (map (with_number n)) shown))
-has_width _ old gs n w v has shown taken is_number built = absurd taken
+    built.built.tree ∙ ap (λ ps. value.record_value (field_values ps)) (fields ∙ (all_widened n gs ∙ ap (map (with_number n)) denoted))
+has_width _ old gs n w v has denoted taken is_number built = absurd taken
 
 -- ---- where records of the type have a width
 
@@ -215,31 +215,31 @@ refuses_width words _ gs w e own taken r = absurd taken
 
 -- ---- the fields that are handed in
 
-untyped : (xs : List (Bor (List ℕ) × Bor TypedValue)) → map (λ g. (g.0, g.1.tree)) (shown_fields (λ (w : TypedValue). w) xs) ≡ shown_fields (λ w. w.tree) xs
+untyped : (xs : List (Bor (List ℕ) × Bor TypedValue)) → map (λ g. (g.0, g.1.tree)) (denoted_fields (λ (w : TypedValue). w) xs) ≡ denoted_fields (λ w. w.tree) xs
 untyped [] = refl
 untyped (x ∷ xs) = ap (λ fs. (x.0.now, x.1.now.tree) ∷ fs) (untyped xs)
 
-pub handed_in : (ys xs : List (Bor (List ℕ) × Bor TypedValue)) (fields all : List (Bor (List ℕ) × TypedValue)) (name : Bor (List ℕ)) (w : TypedValue) → named fields ≡ shown_fields (λ v. v) ys → map (λ y. y) ys ≡ xs → all ≡ fields ++ (name, w) ∷ [] → name.now ≡ width_name
-    → named all ≡ with_last (shown_fields (λ v. v) xs) w
+pub handed_in : (ys xs : List (Bor (List ℕ) × Bor TypedValue)) (fields all : List (Bor (List ℕ) × TypedValue)) (name : Bor (List ℕ)) (w : TypedValue) → named fields ≡ denoted_fields (λ v. v) ys → map (λ y. y) ys ≡ xs → all ≡ fields ++ (name, w) ∷ [] → name.now ≡ width_name
+    → named all ≡ with_last (denoted_fields (λ v. v) xs) w
 handed_in ys xs fields all name w kept end pushed is =
-    ap named pushed ∙ (map-append (λ f. (f.0.now, f.1)) fields ((name, w) ∷ []) ∙ (ap (λ fs. fs ++ (name.now, w) ∷ []) (kept ∙ ap (shown_fields (λ (v : TypedValue). v)) (given ys xs end)) ∙ ap (λ n. with_name n) is))
+    ap named pushed ∙ (map-append (λ f. (f.0.now, f.1)) fields ((name, w) ∷ []) ∙ (ap (λ fs. fs ++ (name.now, w) ∷ []) (kept ∙ ap (denoted_fields (λ (v : TypedValue). v)) (given ys xs end)) ∙ ap (λ n. with_name n) is))
   where
     with_name : List ℕ → List (List ℕ × TypedValue)
-    with_name n = shown_fields (λ v. v) xs ++ (n, w) ∷ []
+    with_name n = denoted_fields (λ v. v) xs ++ (n, w) ∷ []
 
 -- ---- together
 
-module _ (T : TypeTree) (s w : TypedValue) (n : ℕ) (xs : List (Bor (List ℕ) × Bor TypedValue)) (all : List (List ℕ × TypedValue)) (same : T ≡ s.own) (taken : TakesRecord s.own (shown_fields (λ v. v) xs)) (handed : all ≡ with_last (shown_fields (λ v. v) xs) w) (leaf : w ≡ typed_leaf (value.whole type.u32 (pos n))) where
+module _ (T : TypeTree) (s w : TypedValue) (n : ℕ) (xs : List (Bor (List ℕ) × Bor TypedValue)) (all : List (List ℕ × TypedValue)) (same : T ≡ s.own) (taken : TakesRecord s.own (denoted_fields (λ v. v) xs)) (handed : all ≡ with_last (denoted_fields (λ v. v) xs) w) (leaf : w ≡ typed_leaf (value.whole type.u32 (pos n))) where
   -- what is made
-  pub changed : (v : TypedValue) → IsTyped s → shown_fields (λ v. v.tree) xs ≡ record_fields s.tree → BuiltRecord all T v → v.tree ≡ with_width n s.tree
-  changed v typed shown built =
-      has_width s.own s.tree (shown_fields (λ v. v) xs) n w v typed (untyped xs ∙ shown) taken (ap (λ u. u.tree) leaf) (subst (λ U. BuiltRecord (with_last (shown_fields (λ v. v) xs) w) U v) same (subst (λ gs. BuiltRecord gs T v) handed built))
+  pub changed : (v : TypedValue) → IsTyped s → denoted_fields (λ v. v.tree) xs ≡ record_fields s.tree → BuiltRecord all T v → v.tree ≡ with_width n s.tree
+  changed v typed denoted built =
+      has_width s.own s.tree (denoted_fields (λ v. v) xs) n w v typed (untyped xs ∙ denoted) taken (ap (λ u. u.tree) leaf) (subst (λ U. BuiltRecord (with_last (denoted_fields (λ v. v) xs) w) U v) same (subst (λ gs. BuiltRecord gs T v) handed built))
 
   -- where it is made
   pub has_one : TakesRecord T all → TakesWidth s.own
-  has_one made = takes_width s.own (shown_fields (λ v. v) xs) w (ap (λ u. u.own) leaf) (subst (λ U. TakesRecord U (with_last (shown_fields (λ v. v) xs) w)) same (subst (TakesRecord T) handed made))
+  has_one made = takes_width s.own (denoted_fields (λ v. v) xs) w (ap (λ u. u.own) leaf) (subst (λ U. TakesRecord U (with_last (denoted_fields (λ v. v) xs) w)) same (subst (TakesRecord T) handed made))
 
   -- and where it is refused
   pub has_none : (words : TypedValue → List ℕ) (e : WasmValueError) → RefusesRecord words T all e → RefusesWidth s.own e
   has_none words e refused =
-      refuses_width words s.own (shown_fields (λ v. v) xs) w e (ap (λ u. u.own) leaf) taken (subst (λ U. RefusesRecord words U (with_last (shown_fields (λ v. v) xs) w) e) same (subst (λ gs. RefusesRecord words T gs e) handed refused))
+      refuses_width words s.own (denoted_fields (λ v. v) xs) w e (ap (λ u. u.own) leaf) taken (subst (λ U. RefusesRecord words U (with_last (denoted_fields (λ v. v) xs) w) e) same (subst (λ gs. RefusesRecord words T gs e) handed refused))

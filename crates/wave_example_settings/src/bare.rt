@@ -3,7 +3,7 @@ ghost use Rattle.std.specs.Prelude.{◌≡◌, ◌≢◌, IfOk, IsTrue, map};
 ghost use Rattle.wave_wasm.specs.Lists.{AllOf};
 ghost use Rattle.wave_wasm.specs.Values.{kind_of};
 ghost use Rattle.wave_wasm.specs.HasType.{HasType};
-ghost use Rattle.wave_wasm.specs.Borrowed.{shown_all};
+ghost use Rattle.wave_wasm.specs.Borrowed.{denoted_all};
 ghost use Rattle.wave_example_settings.specs.BareTree.{tree};
 ghost use Rattle.wave_example_settings.specs.Refusals.{AreElements, MakesNone};
 
@@ -368,7 +368,7 @@ fn are_at(items: &Vec<Bare>, ty: &Type) -> bool
 
 // The items, in their order.
 fn borrowed(alloc: Global, items: &Vec<Bare>) -> Result<Vec<&Bare>, AllocError>
-    ensures { IfOk result (λ v. shown_all tree v.items ≡ map tree items.now.items) }
+    ensures { IfOk result (λ v. denoted_all tree v.items ≡ map tree items.now.items) }
 {
     let mut answer = Vec::new(alloc);
     for item in items {

@@ -6,7 +6,7 @@ use Rattle.std.specs.declared.ops.Range.{Range}
 use Rattle.std.proofs.lemmas.List.{length-map}
 use Rattle.std.proofs.lemmas.Option.{slice_get-map, slice_get_read, slice_get_past, slice_get_within}
 use Rattle.wave_wasm.specs.Types.{TypeTree}
-use Rattle.wave_wasm.specs.Borrowed.{texts, shown_all}
+use Rattle.wave_wasm.specs.Borrowed.{texts, denoted_all}
 use Rattle.wave_wasm.specs.TypeText.{Func}
 use Rattle.wave_lex.specs.Errors.{Diagnostic}
 use Rattle.wave_lex.specs.declared.error.ParserErrorKind.{ParserErrorKind}
@@ -60,14 +60,14 @@ ok_with (Err e) f p q = tt
 
 module _ {S : Type 0} (tree : S → TypeTree) where
   -- the type of a parameter, by the item of the types that were answered
-  pub has_type : (types : List TypeTree) (items : List (Bor S)) (n i : ℕ) (t : Bor S) → n ≡ length items → i < n → t ≡ get_or items i t → shown_all tree items ≡ types → slice_get types i ≡ Some (tree t.now)
+  pub has_type : (types : List TypeTree) (items : List (Bor S)) (n i : ℕ) (t : Bor S) → n ≡ length items → i < n → t ≡ get_or items i t → denoted_all tree items ≡ types → slice_get types i ≡ Some (tree t.now)
   has_type types items n i t count lt is parts =
       ap (λ ts. slice_get ts i) (sym parts)
       ∙ (slice_get-map (λ (b : Bor S). tree b.now) items i
       ∙ ap (option_map (λ (b : Bor S). tree b.now)) (slice_get_read items n i t count lt is))
 
   -- as many as were answered
-  pub as_many : (types : List TypeTree) (items : List (Bor S)) (n : ℕ) → n ≡ length items → shown_all tree items ≡ types → n ≡ length types
+  pub as_many : (types : List TypeTree) (items : List (Bor S)) (n : ℕ) → n ≡ length items → denoted_all tree items ≡ types → n ≡ length types
   as_many types items n count parts = count ∙ (sym (length-map items (λ (b : Bor S). tree b.now)) ∙ ap length parts)
 
 -- what a block of a call tells by its path and its lines

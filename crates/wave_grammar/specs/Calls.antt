@@ -1,9 +1,9 @@
--- The text of a call, and how it is shown.
+-- The text of a call, and its display.
 use Rattle.std.specs.Prelude.{ℕ, ◌<◌, ◌≡◌, ◌⊎◌, ◌++◌, List, [], ◌∷◌, length, take, drop, codes}
 use Rattle.wave_lex.specs.FunctionName.{IsName}
 use Rattle.wave_grammar.specs.Token.{Token, TokenizesTo, paren_open, paren_close}
 use Rattle.wave_grammar.specs.CommaSeparated.{Items}
-use Rattle.wave_grammar.specs.Tree.{Tree, MaybeTree, no_tree, a_tree, tuple, trees, Takes, shown}
+use Rattle.wave_grammar.specs.Tree.{Tree, MaybeTree, no_tree, a_tree, tuple, trees, Takes, display}
 
 -- `()`; or `(` values `)`, each within n levels
 abbrev pub SpellsParams : ℕ → List Token → MaybeTree → Type 0
@@ -22,6 +22,6 @@ pub record IsCall (s name : List ℕ) (params : MaybeTree) : Type 0 where
   pub spelled : SpellsParams 100 tokens params
 
 -- the name and the tuple, or the name and `()`
-abbrev pub shown_call : List ℕ → MaybeTree → List ℕ
-shown_call name no_tree = name ++ codes "()"
-shown_call name (a_tree t) = name ++ shown t
+abbrev pub display_call : List ℕ → MaybeTree → List ℕ
+display_call name no_tree = name ++ codes "()"
+display_call name (a_tree t) = name ++ display t

@@ -40,8 +40,8 @@ GivesBool n (Ok b) = type_of n ≡ bool_type b
 GivesBool n (Err e) = ((b : Bool) → type_of n ≢ bool_type b) × RefusedAs InvalidType n e
 
 -- the nodes behind a reference, where there is one
-abbrev pub shown_node : Option (Bor NodeTree) → Option NodeTree
-shown_node o = option_map (λ n. n.now) o
+abbrev pub denoted_node : Option (Bor NodeTree) → Option NodeTree
+denoted_node o = option_map (λ n. n.now) o
 
 -- the first of the nodes, where there is one
 abbrev pub first_of : List NodeTree → Option NodeTree
@@ -65,14 +65,14 @@ GivesNodes ty n (Err e) = (type_of n ≢ ty) × RefusedAs InvalidType n e
 -- the payload of `some`, or nothing at `none`; or `InvalidType` at another node
 abbrev pub GivesOption : NodeTree → Result (Option (Bor NodeTree)) Diagnostic → Type 0
 GivesOption n (Ok o) =
-    (type_of n ≡ kind.OptionSome) × (shown_node o ≡ first_of (children_of n)) × IsValueWithin n (shown_node o)
-    ⊎ (type_of n ≡ kind.OptionNone) × (shown_node o ≡ None)
+    (type_of n ≡ kind.OptionSome) × (denoted_node o ≡ first_of (children_of n)) × IsValueWithin n (denoted_node o)
+    ⊎ (type_of n ≡ kind.OptionNone) × (denoted_node o ≡ None)
 GivesOption n (Err e) = (type_of n ≢ kind.OptionSome) × (type_of n ≢ kind.OptionNone) × RefusedAs InvalidType n e
 
 -- the payload of `ok` or of `err`, where it has one; or `InvalidType` at another node
 abbrev pub GivesResult : NodeTree → Result (Result (Option (Bor NodeTree)) (Option (Bor NodeTree))) Diagnostic → Type 0
-GivesResult n (Ok (Ok o)) = (type_of n ≡ kind.ResultOk) × (shown_node o ≡ first_of (children_of n)) × IsValueWithin n (shown_node o)
-GivesResult n (Ok (Err o)) = (type_of n ≡ kind.ResultErr) × (shown_node o ≡ first_of (children_of n)) × IsValueWithin n (shown_node o)
+GivesResult n (Ok (Ok o)) = (type_of n ≡ kind.ResultOk) × (denoted_node o ≡ first_of (children_of n)) × IsValueWithin n (denoted_node o)
+GivesResult n (Ok (Err o)) = (type_of n ≡ kind.ResultErr) × (denoted_node o ≡ first_of (children_of n)) × IsValueWithin n (denoted_node o)
 GivesResult n (Err e) = (type_of n ≢ kind.ResultOk) × (type_of n ≢ kind.ResultErr) × RefusedAs InvalidType n e
 
 -- the name of a label alone; or `InvalidType` at another node
@@ -83,9 +83,9 @@ GivesLabel source n (Err e) = (type_of n ≢ kind.Label) × RefusedAs InvalidTyp
 -- the name and the payload of a case, which is a value; or `InvalidType` at another node
 abbrev pub GivesVariant : List ℕ → NodeTree → Result (Bor (List ℕ) × Option (Bor NodeTree)) Diagnostic → Type 0
 GivesVariant source n (Ok (name, payload)) =
-    (type_of n ≡ kind.Label) × (name.now ≡ name_of (node_text source n)) × (shown_node payload ≡ None)
+    (type_of n ≡ kind.Label) × (name.now ≡ name_of (node_text source n)) × (denoted_node payload ≡ None)
     ⊎ ((c : NodeTree) × (t : NodeTree) × (type_of n ≡ kind.VariantWithPayload) × (children_of n ≡ c ∷ t ∷ [])
-    × (name.now ≡ name_of (node_text source c)) × (shown_node payload ≡ Some t) × IsValueOf source t)
+    × (name.now ≡ name_of (node_text source c)) × (denoted_node payload ≡ Some t) × IsValueOf source t)
 GivesVariant source n (Err e) = (type_of n ≢ kind.Label) × (type_of n ≢ kind.VariantWithPayload) × RefusedAs InvalidType n e
 
 -- the nodes two by two
@@ -94,8 +94,8 @@ node_pairs (key ∷ value ∷ more) = (key, value) ∷ node_pairs more
 node_pairs _ = []
 
 -- the nodes behind two references
-abbrev pub shown_nodes : Bor NodeTree × Bor NodeTree → NodeTree × NodeTree
-shown_nodes e = (e.0.now, e.1.now)
+abbrev pub denoted_nodes : Bor NodeTree × Bor NodeTree → NodeTree × NodeTree
+denoted_nodes e = (e.0.now, e.1.now)
 
 -- a key and a value
 abbrev pub IsEntryOf : List ℕ → NodeTree × NodeTree → Type 0

@@ -63,8 +63,8 @@ abbrev pub GivesRecord : List ℕ → NodeTree → Result (List (List ℕ × Nod
 GivesRecord source n r = MatchResult r (IsFieldsOf source n) (RefusesFields source n)
 
 -- a name and a node, behind two references
-abbrev pub shown_field : Bor (List ℕ) × Bor NodeTree → List ℕ × NodeTree
-shown_field f = (f.0.now, f.1.now)
+abbrev pub denoted_field : Bor (List ℕ) × Bor NodeTree → List ℕ × NodeTree
+denoted_field f = (f.0.now, f.1.now)
 
 -- the name of a key that is a label; or its refusal
 abbrev pub GivesName : List ℕ → NodeTree → Result (Bor (List ℕ)) Diagnostic → Type 0

@@ -182,42 +182,42 @@ abbrev mutual
   levels_of_entries no_entries = 0
   levels_of_entries (entry key t more) = max (levels t) (levels_of_entries more)
 
--- the text that shows a tree
+-- the display of a tree
 abbrev mutual
-  pub shown : Tree → List ℕ
-  shown (one t) = text_of t
-  shown (tuple ts) = in_parens (commas.joined (shown_trees ts))
-  shown (list ts) = in_brackets (commas.joined (shown_trees ts))
-  shown empty_braces = codes "{}"
-  shown no_fields = codes "{:}"
-  shown (entries es) = in_braces (commas.joined (shown_entries es))
-  shown (flags texts) = in_braces (commas.joined (map name_of texts))
-  -- a label alone is shown as it stands
-  shown (label text payload) = shown_label payload text
-  shown none = codes "none"
-  shown (some t) = codes "some" ++ in_parens (shown t)
-  shown (ok payload) = codes "ok" ++ shown_maybe payload
-  shown (err payload) = codes "err" ++ shown_maybe payload
+  pub display : Tree → List ℕ
+  display (one t) = text_of t
+  display (tuple ts) = in_parens (commas.joined (display_trees ts))
+  display (list ts) = in_brackets (commas.joined (display_trees ts))
+  display empty_braces = codes "{}"
+  display no_fields = codes "{:}"
+  display (entries es) = in_braces (commas.joined (display_entries es))
+  display (flags texts) = in_braces (commas.joined (map name_of texts))
+  -- a label alone is displayed as it stands
+  display (label text payload) = display_label payload text
+  display none = codes "none"
+  display (some t) = codes "some" ++ in_parens (display t)
+  display (ok payload) = codes "ok" ++ display_maybe payload
+  display (err payload) = codes "err" ++ display_maybe payload
 
   -- a label alone as it stands; before a payload with a `%` only where it is a keyword
-  pub shown_label : MaybeTree → List ℕ → List ℕ
-  shown_label no_tree text = text
-  shown_label (a_tree t) text = case_label (name_of text) ++ in_parens (shown t)
+  pub display_label : MaybeTree → List ℕ → List ℕ
+  display_label no_tree text = text
+  display_label (a_tree t) text = case_label (name_of text) ++ in_parens (display t)
 
   -- `(a)`, or nothing
-  pub shown_maybe : MaybeTree → List ℕ
-  shown_maybe no_tree = []
-  shown_maybe (a_tree t) = in_parens (shown t)
+  pub display_maybe : MaybeTree → List ℕ
+  display_maybe no_tree = []
+  display_maybe (a_tree t) = in_parens (display t)
 
-  -- the items, shown
-  pub shown_trees : Trees → List (List ℕ)
-  shown_trees no_trees = []
-  shown_trees (tree_and t more) = shown t ∷ shown_trees more
+  -- the displays of the items
+  pub display_trees : Trees → List (List ℕ)
+  display_trees no_trees = []
+  display_trees (tree_and t more) = display t ∷ display_trees more
 
-  -- the entries, shown
-  pub shown_entries : TreeEntries → List (List ℕ)
-  shown_entries no_entries = []
-  shown_entries (entry key t more) = behind_name (text_of key) (shown t) ∷ shown_entries more
+  -- the displays of the entries
+  pub display_entries : TreeEntries → List (List ℕ)
+  display_entries no_entries = []
+  display_entries (entry key t more) = behind_name (text_of key) (display t) ∷ display_entries more
 
 -- no `(` stands first
 abbrev pub NoParen : List Token → Type 0

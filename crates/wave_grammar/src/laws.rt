@@ -2,7 +2,7 @@
 ghost use Rattle.wave_wasm.specs.Types.{TypeTree, HasDistinctNames};
 ghost use Rattle.wave_grammar.specs.UnambiguityLaws.{OneReading};
 ghost use Rattle.wave_grammar.specs.TreeLaws.{OneTree, HasItsLevels, ReadsByTree, TreeIsRead, ParamsAreByTree};
-ghost use Rattle.wave_grammar.specs.DisplayLaws.{ShownKeepsMeaning, ShownCallKeepsMeaning};
+ghost use Rattle.wave_grammar.specs.DisplayLaws.{DisplayKeepsMeaning, DisplayCallKeepsMeaning};
 ghost use Rattle.wave_grammar.specs.EquivalenceLaws.{SameTokensMeanTheSame, SameTreeMeansTheSame, LastCommasMayGo, LastCommasMeanNothing};
 ghost use Rattle.wave_grammar.specs.OrderLaws.{FieldsInAnyOrder, FlagsInAnyOrder};
 ghost use Rattle.wave_grammar.specs.FaultLaws.{OneFault, AnswersAreFaults, NoAnswerNoFault, OrdersAgree, LoneFaultIsAnswered};
@@ -99,13 +99,13 @@ pub fn order_means_nothing()
 /// The display of a parsed tree spells a tree of as many levels and of the same display, and means at
 /// every type what the text means that was parsed.
 pub fn shown_keeps_meaning()
-    ensures { ShownKeepsMeaning }
+    ensures { DisplayKeepsMeaning }
 {}
 
 /// The display of a parsed call is a call of the same name and of the same display, and its tokens are
 /// the same parameters at all types.
 pub fn shown_call_keeps_meaning()
-    ensures { ShownCallKeepsMeaning }
+    ensures { DisplayCallKeepsMeaning }
 {}
 
 /// In each order at most one fault is answered: one refusal, at one span.

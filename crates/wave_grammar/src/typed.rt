@@ -2,7 +2,7 @@
 ghost use Rattle.std.specs.Prelude.{◌≡◌, ◌≢◌, ◌↔◌, map, IsTrue, IfOk};
 ghost use Rattle.std.specs.Bool.{OnTrue};
 ghost use Rattle.std.specs.Str.{bytes_eq};
-ghost use Rattle.wave_wasm.specs.Borrowed.{shown};
+ghost use Rattle.wave_wasm.specs.Borrowed.{denoted};
 ghost use Rattle.wave_wasm.specs.Merge.{merge};
 ghost use Rattle.wave_wasm.specs.Names.{AreDistinct};
 ghost use Rattle.wave_wasm.specs.Fingerprints.{fingerprint};
@@ -83,7 +83,7 @@ pub fn is_flat(kind: WasmTypeKind) -> bool
 
 /// The type of a payload that may stand alone for `ok` of itself.
 pub fn flat_type<T: WasmType>(payload: Option<&T>) -> Option<&T>
-    ensures { GivesFlat (shown T.tree payload.entry) (shown T.tree result) }
+    ensures { GivesFlat (denoted T.tree payload.entry) (denoted T.tree result) }
 {
     match payload {
         Some(ty) if is_flat(ty.kind()) => Some(ty),

@@ -1,6 +1,6 @@
 //! How a fault of a value at its type may be mended.
+use crate::author::{inside, without_percent, word_before};
 use crate::names::{missing_line, push_names, push_quoted};
-use crate::own::{inside, without_percent, word_before};
 use crate::rows::{FORMS, NUMBERS, PAYLOADS, line, row_hint};
 use crate::word::word_hint;
 use std::alloc::{AllocError, Global};

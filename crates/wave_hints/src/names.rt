@@ -1,5 +1,5 @@
 //! The names that there are, and the one that is nearest to a name that isn't among them.
-use crate::own::SHOWN;
+use crate::author::SHOWN;
 use std::alloc::{AllocError, Global};
 use strsim::levenshtein;
 use wave_place::path::push_first;

@@ -1,8 +1,8 @@
 //! Hints as rows: what is met, where which types are expected, which of the author's words are shown, and
 //! what is said.
-use crate::own::{Own, is_number, push_own, words_of};
+use crate::author::{AuthorWords, is_number, push_author_words, words_of};
+use AuthorWords::*;
 use Met::*;
-use Own::*;
 use std::alloc::{AllocError, Global};
 use wave_node::ast::{Node, NodeType as Form};
 use wave_wasm::wasm::WasmTypeKind as Kind;
@@ -28,12 +28,12 @@ pub(crate) enum Met {
 /// A hint: what is met; the kinds of types that are expected there, or none for any; which of the author's
 /// words are shown where `@` stands; and what is said, where what follows the first colon is left out if
 /// there are no such words.
-pub(crate) struct Row(Met, &'static [Kind], Own, &'static str);
+pub(crate) struct Row(Met, &'static [Kind], AuthorWords, &'static str);
 
 /// Rows, each on a line.
 macro_rules! rows {
-    ($($met:expr, $expected:expr, $own:expr, $hint:expr;)*) => {
-        &[$(Row($met, $expected, $own, $hint)),*]
+    ($($met:expr, $expected:expr, $words:expr, $hint:expr;)*) => {
+        &[$(Row($met, $expected, $words, $hint)),*]
     };
 }
 
@@ -106,7 +106,7 @@ pub fn line(alloc: Global, hint: &str, words: Option<&str>) -> Result<String, Al
         Some(words) => {
             for (i, part) in hint.split('@').enumerate() {
                 if i > 0 {
-                    push_own(&mut line, words)?;
+                    push_author_words(&mut line, words)?;
                 }
                 line.push_str(part)?;
             }

@@ -2,7 +2,7 @@
 ghost use Rattle.std.specs.Prelude.{ℕ, ◌≡◌, ◌≤◌, ◌<◌, ◌-◌, length, IfSome, IsTrue, ◌↔◌, slice_index};
 ghost use Rattle.wave_hints.specs.WordMarks.{IsOfWord, IsWordMark, IsName};
 
-use crate::own::DECIMALS;
+use crate::author::DECIMALS;
 use crate::rows::{DIGITS, KEYWORDS, line, row_for, row_hint};
 use std::alloc::{AllocError, Global};
 use wave_lex::lex::Span;

@@ -39,8 +39,8 @@ error_at p (reason.TupleValues k want got) = error_with k p (detail.Cause (error
 error_at p (reason.Cause k cause) = error_with k p (detail.Cause cause.value)
 
 -- the words are none of those that are written in the program, so that they need memory to be kept
-abbrev pub AreOwnWords : List ℕ → Type 0
-AreOwnWords words = (d : StaticDetail) → words ≡ static_words d → ⊥
+abbrev pub AreNoStaticWords : List ℕ → Type 0
+AreNoStaticWords words = (d : StaticDetail) → words ≡ static_words d → ⊥
 
 -- the cause has a text, likewise
 abbrev pub CauseHasText : WasmValueError → Type 0
@@ -52,13 +52,13 @@ CauseHasText e = Unit {0}
 -- the detail has a text of its own
 abbrev pub HasText : Detail → Type 0
 HasText detail.None = ⊥
-HasText (detail.Static s) = AreOwnWords s.now
-HasText (detail.Owned s) = AreOwnWords (string_bytes s)
+HasText (detail.Static s) = AreNoStaticWords s.now
+HasText (detail.Owned s) = AreNoStaticWords (string_bytes s)
 HasText (detail.Cause e) = CauseHasText e
 
 -- the detail or the cause of the error has a text of its own
 abbrev pub NeedsMemory : Diagnostic → Type 0
-NeedsMemory e = MatchOption e.detail ⊥ AreOwnWords ⊎ MatchOption e.cause ⊥ CauseHasText
+NeedsMemory e = MatchOption e.detail ⊥ AreNoStaticWords ⊎ MatchOption e.cause ⊥ CauseHasText
 
 -- the same error; or, where it has such a text, one for lack of memory where it stands
 abbrev pub IsSameOrMemory : Diagnostic → Diagnostic → Type 0

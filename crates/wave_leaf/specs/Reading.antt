@@ -11,7 +11,7 @@ use Rattle.wave_grammar.specs.declared.form.NodeType.TheVariants as kind
 use Rattle.wave_grammar.specs.TypedReading.{Answers, IsValueOf}
 use Rattle.wave_grammar.specs.ErrorSpans.{RefusesIn}
 use Rattle.wave_leaf.specs.Leaves.{leaf_node, IsLeafIn, IsSimpleOrUnreadable}
-use Rattle.wave_leaf.specs.declared.leaf.Leaf.{Leaf}
+use Rattle.wave_leaf.specs.declared.leaf.LeafToken.{LeafToken}
 
 -- a value that was read is of the type, where its names are distinct
 abbrev pub IsOfType : {V : Type 0} → (V → TypeTree → Type 0) → TypeTree → Result V Diagnostic → Type 0
@@ -31,7 +31,7 @@ module _ {V : Type 0} (tree : V → Value) (of : V → TypeTree → Type 0) (Ful
 
 module _ {V : Type 0} (tree : V → Value) (of : V → TypeTree → Type 0) (Full : TypeTree → Type 0) where
   -- so of the node that the leaf would be, in any text that has the leaf and in whatever orders
-  abbrev pub IsReadOfLeaf : TypeTree → Leaf → Result V Diagnostic → Type 0
+  abbrev pub IsReadOfLeaf : TypeTree → LeafToken → Result V Diagnostic → Type 0
   IsReadOfLeaf T leaf r =
       (o w : Order) (source : List ℕ) → IsOneToken leaf.ty → IsLeafIn source leaf → IsReadAs tree of Full o w T source (leaf_node leaf) r
 

@@ -10,7 +10,7 @@ ghost use Rattle.wave_lex.specs.Errors.{Says, class_name, plainly, refusal_of, r
 ghost use Rattle.wave_lex.specs.ErrorDetails.{error_with};
 ghost use Rattle.wave_lex.specs.declared.error.Detail.TheVariants as detail_as;
 ghost use Rattle.wave_lex.specs.declared.error.ParserErrorKind.TheVariants as kind_as;
-ghost use Rattle.wave_leaf.specs.Errors.{AreOwnWords, IsRefusedBy, IsSameOrMemory, error_at, static_words};
+ghost use Rattle.wave_leaf.specs.Errors.{AreNoStaticWords, IsRefusedBy, IsSameOrMemory, error_at, static_words};
 ghost use Rattle.wave_leaf.specs.Private.Errors.{IsErrorOf};
 ghost use Rattle.wave_leaf.specs.declared.error.StaticDetail.{StaticDetail};
 
@@ -121,7 +121,7 @@ impl Reason {
 
     /// This kind with these words, of no `StaticDetail`; where there is no memory for them, out of memory.
     fn with_words(alloc: Global, kind: ParserErrorKind, words: String) -> Reason
-        ensures { AreOwnWords (string_bytes words) → (p : Range ℕ) → IsErrorOf kind p (detail_as.Owned words) (error_at p result) }
+        ensures { AreNoStaticWords (string_bytes words) → (p : Range ℕ) → IsErrorOf kind p (detail_as.Owned words) (error_at p result) }
     {
         match Box::new(alloc, words) {
             Ok(words) => Reason::Words(kind, words),

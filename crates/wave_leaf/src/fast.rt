@@ -7,14 +7,14 @@ ghost use Rattle.wave_grammar.specs.FaultOrder.{Order};
 ghost use Rattle.wave_leaf.specs.Leaves.{leaf_node, IsLeafIn};
 ghost use Rattle.wave_leaf.specs.Reading.{IsReadAs};
 
-use crate::leaf::Leaf;
+use crate::leaf::LeafToken;
 use std::alloc::Global;
 use wave_grammar::form::NodeType;
 use wave_grammar::number::WholeNumber;
 use wave_grammar::text::char_in;
 use wave_wasm::wasm::{WasmType, WasmTypeKind, WasmValue, WasmValueError};
 
-impl<'src> Leaf<'src> {
+impl<'src> LeafToken<'src> {
     /// The bool, whole number or char, or the string in one line without escapes, where a value of
     /// that type is expected, read and made. Nothing is said of why there is none.
     #[inline(always)]

@@ -10,7 +10,7 @@ ghost use Rattle.wave_leaf.specs.Leaves.{leaf_node, IsLeafIn};
 ghost use Rattle.wave_leaf.specs.Reading.{IsOfType};
 
 use crate::error::ReadError;
-use crate::leaf::Leaf;
+use crate::leaf::LeafToken;
 use std::alloc::{AllocError, Global};
 use std::borrow::CowStr;
 use std::boxed::Box;
@@ -18,7 +18,7 @@ use wave_grammar::form::NodeType;
 use wave_lex::error::ParserErrorKind;
 use wave_wasm::wasm::{DisplayType, WasmType, WasmTypeKind, WasmValue};
 
-impl<'src> Leaf<'src> {
+impl<'src> LeafToken<'src> {
     /// A key of a map. Of a label that spells none the refusal says what it should be.
     pub fn read_key<V: WasmValue>(&self, alloc: Global, ty: &V::Type) -> Result<V, ReadError>
         ensures answer { IsMapKeyReadOf V.tree V.is_of V.is_full (V.Type.tree ty.now) self.now result }

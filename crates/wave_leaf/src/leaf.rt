@@ -21,13 +21,13 @@ use wave_wasm::wasm::{WasmTypeKind, WasmValue, WasmValueError};
 
 /// What would be a node of one token: its type, where it stands, and its text.
 #[derive(Drop)]
-pub struct Leaf<'src> {
+pub struct LeafToken<'src> {
     pub ty: NodeType,
     pub span: Span,
     pub text: &'src str,
 }
 
-impl<'src> Leaf<'src> {
+impl<'src> LeafToken<'src> {
     /// A whole number, of a type of this kind. A type of another kind is refused as one that can't be
     /// read.
     #[inline(always)]

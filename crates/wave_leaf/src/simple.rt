@@ -7,14 +7,14 @@ ghost use Rattle.wave_leaf.specs.PlainReading.{IsPlain};
 ghost use Rattle.wave_leaf.specs.Reading.{IsReadOfLeaf, IsReadOfForm};
 
 use crate::error::ReadError;
-use crate::leaf::Leaf;
+use crate::leaf::LeafToken;
 use std::alloc::Global;
 use wave_grammar::form::NodeType;
 use wave_lex::error::ParserErrorKind;
 use wave_lex::lex::Span;
 use wave_wasm::wasm::{WasmType, WasmTypeKind, WasmValue};
 
-impl<'src> Leaf<'src> {
+impl<'src> LeafToken<'src> {
     /// A bool, a whole number, a char or a string. A type that has no values is refused.
     #[inline(always)]
     pub fn read_simple<V: WasmValue>(&self, alloc: Global, ty: &V::Type) -> Result<V, ReadError>

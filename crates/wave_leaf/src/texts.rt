@@ -12,7 +12,7 @@ ghost use Rattle.wave_leaf.specs.Leaves.{leaf_node, HasQuotes, IsLeafIn};
 ghost use Rattle.wave_leaf.specs.Reading.{IsReadOfLeaf};
 
 use crate::error::ReadError;
-use crate::leaf::Leaf;
+use crate::leaf::LeafToken;
 use std::alloc::Global;
 use std::borrow::CowStr;
 use wave_grammar::form::NodeType;
@@ -21,7 +21,7 @@ use wave_lex::error::{ParserError, ParserErrorKind};
 use wave_lex::strings::StringPartsIter;
 use wave_wasm::wasm::WasmValue;
 
-impl<'src> Leaf<'src> {
+impl<'src> LeafToken<'src> {
     /// A string.
     pub fn read_string<V: WasmValue>(&self, alloc: Global) -> Result<V, ReadError>
         ensures { IsReadOfLeaf V.tree V.is_of V.is_full (type.simple type.string) self.now result }

@@ -18,7 +18,7 @@ pub use wave_grammar::form::NodeType;
 use wave_grammar::label::label_name;
 use wave_grammar::number::WholeNumber;
 use wave_leaf::error::or_error;
-use wave_leaf::leaf::Leaf;
+use wave_leaf::leaf::LeafToken;
 use wave_lex::error::{ParserError, ParserErrorKind};
 use wave_lex::lex::Span;
 use wave_lex::strings::StringPartsIter;
@@ -225,7 +225,7 @@ impl Node {
     }
 
     /// The node, read as one token.
-    pub(crate) fn leaf<'src>(&self, src: &'src str) -> Leaf<'src>
+    pub(crate) fn leaf<'src>(&self, src: &'src str) -> LeafToken<'src>
         requires { IsParsedFrom src.now self.now }
         ensures text { IsLeafIn src.now result }
         ensures node { leaf_node result ≡ node (type_of self.now) (place_of self.now) no_nodes }
@@ -236,11 +236,11 @@ impl Node {
     }
 
     /// The node, read as one token of this text.
-    fn with_text<'src>(&self, text: &'src str) -> Leaf<'src>
+    fn with_text<'src>(&self, text: &'src str) -> LeafToken<'src>
         ensures text { result.text.now ≡ text.now }
         ensures node { leaf_node result ≡ node (type_of self.now) (place_of self.now) no_nodes }
     {
-        Leaf {
+        LeafToken {
             ty: self.ty(),
             span: self.span(),
             text,
@@ -306,11 +306,11 @@ impl<'this> Iterator for MapEntries<'this> {
     ghost use Rattle.std.specs.Prelude.{◌≡◌, Some, IfSome, length};
     ghost use Rattle.std.specs.Iterator.{YieldsFirstBy, UpTo, item_count};
     ghost use Rattle.std.specs.Iterator.SizeHint.{IsWithinCount};
-    ghost use Rattle.wave_grammar.specs.NodeAccessors.{shown_nodes};
+    ghost use Rattle.wave_grammar.specs.NodeAccessors.{denoted_nodes};
 
     type Item = (&'this Node, &'this Node);
 
-    ghost next_gives = { YieldsFirstBy shown_nodes (λ e. e) };
+    ghost next_gives = { YieldsFirstBy denoted_nodes (λ e. e) };
 
     ghost remaining = { item_count (λ e. e) };
 

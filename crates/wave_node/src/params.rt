@@ -28,15 +28,15 @@ pub trait ParamType<T: WasmType> {
     ghost use Rattle.wave_wasm.specs.Types.{TypeTree};
 
     /// What the type means.
-    ghost shown: { Self → TypeTree };
+    ghost denoted: { Self → TypeTree };
 
     /// The type.
     fn as_type(&self) -> &T
-        ensures { T.tree result.now ≡ shown self.now };
+        ensures { T.tree result.now ≡ denoted self.now };
 }
 
 impl<T: WasmType> ParamType<T> for T {
-    ghost shown = { λ ty. T.tree ty };
+    ghost denoted = { λ ty. T.tree ty };
 
     fn as_type(&self) -> &T {
         self
@@ -44,7 +44,7 @@ impl<T: WasmType> ParamType<T> for T {
 }
 
 impl<T: WasmType> ParamType<T> for &T {
-    ghost shown = { λ ty. T.tree ty.now };
+    ghost denoted = { λ ty. T.tree ty.now };
 
     fn as_type(&self) -> &T {
         *self
@@ -87,9 +87,9 @@ impl Node {
         requires { IsParsedFrom src.now self.now }
         ensures count { IfOk result (λ vs. length vs.items ≡ length types.now) }
         ensures values { (t : SpannedTree) → IsNodeOf src.now self.now t
-            → IfOk result (λ vs. GivesParams V.tree V.is_of (map P.shown types.now) self.now t vs.items) }
+            → IfOk result (λ vs. GivesParams V.tree V.is_of (map P.denoted types.now) self.now t vs.items) }
         ensures refused { (t : SpannedTree) → IsNodeOf src.now self.now t
-            → IfErr result (RefusesParams V.is_full (map P.shown types.now) self.now t) }
+            → IfErr result (RefusesParams V.is_full (map P.denoted types.now) self.now t) }
         ensures form { type_of self.now ≢ Tuple → IsErrAnd result (RefusedAs InvalidType self.now) }
         ensures kind { IfErr result HasParamsKind }
         ensures within { IfErr result (λ e. LiesInText src.now e.span) }
@@ -138,7 +138,7 @@ impl Node {
 
 /// Whether all types are options.
 fn are_options<T: WasmType, P: ParamType<T>>(types: &[P]) -> bool
-    ensures { MatchBool result (AllOf IsOption (map P.shown types.now)) (SomeOf IsNoOption (map P.shown types.now)) }
+    ensures { MatchBool result (AllOf IsOption (map P.denoted types.now)) (SomeOf IsNoOption (map P.denoted types.now)) }
 {
     for ty in types {
         if !is_option(ty.as_type().kind()) {
@@ -162,10 +162,10 @@ fn push_omitted<V: WasmValue, P: ParamType<V::Type>>(
     at: Span,
     vals: &mut Vec<V>,
 ) -> Result<(), ParserError>
-    requires { AllOf IsOption (map P.shown types.now) }
+    requires { AllOf IsOption (map P.denoted types.now) }
     ensures values { IfOk result (λ _. (others : List V) × (vals.new.items ≡ vals.old.items ++ others)
-        × AreOmitted V.tree V.is_of (map P.shown types.now) others) }
-    ensures refused { IfErr result (RefusesOmitted V.is_full (map P.shown types.now) at) }
+        × AreOmitted V.tree V.is_of (map P.denoted types.now) others) }
+    ensures refused { IfErr result (RefusesOmitted V.is_full (map P.denoted types.now) at) }
     ensures within { IfErr result (IsAtPlace at) }
 {
     for ty in types {
@@ -186,8 +186,8 @@ pub fn omitted_params<V: WasmValue, P: ParamType<V::Type>>(
     at: Span,
 ) -> Result<Vec<V>, ParserError>
     ensures count { IfOk result (λ vs. length vs.items ≡ length types.now) }
-    ensures values { IfOk result (λ vs. AreOmitted V.tree V.is_of (map P.shown types.now) vs.items) }
-    ensures refused { IfErr result (RefusesNone V.is_full (map P.shown types.now) at) }
+    ensures values { IfOk result (λ vs. AreOmitted V.tree V.is_of (map P.denoted types.now) vs.items) }
+    ensures refused { IfErr result (RefusesNone V.is_full (map P.denoted types.now) at) }
     ensures within { IfErr result (IsAtPlace at) }
 {
     if !are_options::<V::Type, P>(types) {
@@ -231,9 +231,9 @@ pub fn read_params<V: WasmValue, P: ParamType<V::Type>>(
     requires { IsParsedFrom src.now node.now }
     ensures count { IfOk result (λ vs. length vs.items ≡ length types.now) }
     ensures values { (t : SpannedTree) → IsNodeOf src.now node.now t
-        → IfOk result (λ vs. GivesParams V.tree V.is_of (map P.shown types.now) node.now t vs.items) }
+        → IfOk result (λ vs. GivesParams V.tree V.is_of (map P.denoted types.now) node.now t vs.items) }
     ensures refused { (t : SpannedTree) → IsNodeOf src.now node.now t
-        → IfErr result (RefusesParams V.is_full (map P.shown types.now) node.now t) }
+        → IfErr result (RefusesParams V.is_full (map P.denoted types.now) node.now t) }
     ensures form { type_of node.now ≢ Tuple → IsErrAnd result (RefusedAs InvalidType node.now) }
     ensures kind { IfErr result HasParamsKind }
     ensures within { IfErr result (λ e. LiesInText src.now e.span) }

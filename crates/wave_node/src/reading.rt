@@ -1,11 +1,11 @@
 //! What is read of nodes, in the order of their types.
 ghost use Rattle.std.specs.Prelude.{ℕ, List, [], ◌≡◌, ◌≢◌, ◌<◌, Option, Some, Err, take, length, IfOk, IfErr, IfSome, IfNone, MatchBool};
 ghost use Rattle.wave_wasm.specs.Types.{TypeTree, kind_of};
-ghost use Rattle.wave_wasm.specs.Borrowed.{shown};
+ghost use Rattle.wave_wasm.specs.Borrowed.{denoted};
 ghost use Rattle.wave_grammar.specs.FaultOrder.{Order, by_type};
 ghost use Rattle.wave_grammar.specs.NodeTree.{node, type_of, place_of, children_of};
 ghost use Rattle.wave_grammar.specs.TypedReading.{IsValueOf};
-ghost use Rattle.wave_grammar.specs.NodeAccessors.{RefusedAs, shown_node};
+ghost use Rattle.wave_grammar.specs.NodeAccessors.{RefusedAs, denoted_node};
 ghost use Rattle.wave_grammar.specs.ErrorSpans.{RefusesInPart};
 ghost use Rattle.wave_grammar.specs.NodeFields.{AnswersField, IsFieldNode};
 ghost use Rattle.wave_grammar.specs.FlagParts.{AreFlagsOf, flag_nodes};
@@ -58,7 +58,7 @@ impl Node {
         src: &str,
     ) -> Result<Result<V, ReadError>, AllocError>
         requires { IsValueOf src.now self.now }
-        ensures { IfOk result (IsReadSparing V.tree V.is_of V.is_full by_type by_type (shown V.Type.tree builder.entry.expected) src.now self.now) }
+        ensures { IfOk result (IsReadSparing V.tree V.is_of V.is_full by_type by_type (denoted V.Type.tree builder.entry.expected) src.now self.now) }
     {
         if self.is_of(NodeType::Flags) {
             return self.make_of_flags(alloc, builder, src);
@@ -83,7 +83,7 @@ impl Node {
     ) -> Result<V, ReadError>
         requires value { IsValueOf src.now self.now }
         requires form { IsOfOneToken self.now }
-        ensures { IsReadSparing V.tree V.is_of V.is_full by_type by_type (shown V.Type.tree builder.entry.expected) src.now self.now result }
+        ensures { IsReadSparing V.tree V.is_of V.is_full by_type by_type (denoted V.Type.tree builder.entry.expected) src.now self.now result }
     {
         builder.leaf(alloc, self.ty(), self.span(), self.slice(src))
     }
@@ -98,7 +98,7 @@ impl Node {
     ) -> Result<Result<V, ReadError>, AllocError>
         requires value { IsValueOf src.now self.now }
         requires form { type_of self.now ≡ NodeType.Flags }
-        ensures { IfOk result (IsReadSparing V.tree V.is_of V.is_full by_type by_type (shown V.Type.tree builder.entry.expected) src.now self.now) }
+        ensures { IfOk result (IsReadSparing V.tree V.is_of V.is_full by_type by_type (denoted V.Type.tree builder.entry.expected) src.now self.now) }
     {
         if let Some(built) = builder.no_flags(alloc, self.span()) {
             return Ok(built);
@@ -137,8 +137,8 @@ impl Node {
     ) -> Result<Result<V, ReadError>, AllocError>
         requires value { IsValueOf src.now self.now }
         requires form { IsOfParts (type_of self.now) }
-        requires no_record { (T : TypeTree) → shown V.Type.tree builder.expected ≡ Some T → ReadsNoRecord T (type_of self.now) }
-        ensures { IfOk result (IsReadSparing V.tree V.is_of V.is_full by_type by_type (shown V.Type.tree builder.entry.expected) src.now self.now) }
+        requires no_record { (T : TypeTree) → denoted V.Type.tree builder.expected ≡ Some T → ReadsNoRecord T (type_of self.now) }
+        ensures { IfOk result (IsReadSparing V.tree V.is_of V.is_full by_type by_type (denoted V.Type.tree builder.entry.expected) src.now self.now) }
     {
         let ty = self.ty();
         let mut parts = builder.parts(alloc, ty);
@@ -226,9 +226,9 @@ impl Node {
         node: Option<&Node>,
         src: &str,
     ) -> Result<V, ReadError>
-        requires { IsFieldNode src.now (shown_node node) }
-        ensures answer { AnswersField V.tree V.is_of V.is_full by_type (V.Type.tree ty.now) src.now name.now self.now (shown_node node.entry) result }
-        ensures within { IfErr result (RefusesInPart self.now (shown_node node.entry)) }
+        requires { IsFieldNode src.now (denoted_node node) }
+        ensures answer { AnswersField V.tree V.is_of V.is_full by_type (V.Type.tree ty.now) src.now name.now self.now (denoted_node node.entry) result }
+        ensures within { IfErr result (RefusesInPart self.now (denoted_node node.entry)) }
     {
         match node {
             Some(node) => node.read(alloc, ty, src),

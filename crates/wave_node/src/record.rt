@@ -141,11 +141,11 @@ impl<'this, 'src> Iterator for RecordFields<'this, 'src> {
     ghost use Rattle.std.specs.Prelude.{◌≡◌, Some, IfSome, length};
     ghost use Rattle.std.specs.Iterator.{YieldsFirstBy, UpTo, item_count};
     ghost use Rattle.std.specs.Iterator.SizeHint.{IsWithinCount};
-    ghost use Rattle.wave_grammar.specs.NodeFields.{shown_field};
+    ghost use Rattle.wave_grammar.specs.NodeFields.{denoted_field};
 
     type Item = (&'src str, &'this Node);
 
-    ghost next_gives = { YieldsFirstBy shown_field (λ f. f) };
+    ghost next_gives = { YieldsFirstBy denoted_field (λ f. f) };
 
     ghost remaining = { item_count (λ f. f) };
 

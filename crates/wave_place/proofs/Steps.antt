@@ -16,7 +16,7 @@ use Rattle.wave_grammar.specs.NodeTree.{NodeTree, type_of, children_of}
 use Rattle.wave_grammar.specs.NodeAccessors.{node_pairs, node_text, first_of, GivesOption, GivesResult, GivesVariant}
 use Rattle.wave_grammar.specs.TypedReading.{IsValueOf}
 use Rattle.wave_grammar.specs.declared.form.NodeType.TheVariants as form
-use Rattle.wave_wasm.specs.Borrowed.{shown_all, shown_fields}
+use Rattle.wave_wasm.specs.Borrowed.{denoted_all, denoted_fields}
 use Rattle.wave_wasm.proofs.Names.MappedSearch.{find-map}
 use Rattle.wave_grammar.specs.ErrorSpans.{LiesInNode}
 use Rattle.wave_place.specs.Paths.{Step, field, case, entry, key, item, some, ok, err, alone, field_type, case_type, StepsTo, IsDeepest, IsPartAt, StandsAlone, HoldsAlone, step_text, path_text}
@@ -259,16 +259,16 @@ case_payload source n name p (inr (c, t, is, parts, named, shows, value)) =
 
 module _ {S : Type 0} (tree : S → TypeTree) where
   -- the type of a field, by the first of the fields that has the name
-  pub field_found : (T : TypeTree) (name : List ℕ) (items : List (Bor (List ℕ) × Bor S)) (o : Option (Bor (List ℕ) × Bor S)) → o ≡ find (λ d. bytes_eq name d.0.now) items → shown_fields tree items ≡ record_parts T → option_map (λ d. tree d.1.now) o ≡ field_type name T
+  pub field_found : (T : TypeTree) (name : List ℕ) (items : List (Bor (List ℕ) × Bor S)) (o : Option (Bor (List ℕ) × Bor S)) → o ≡ find (λ d. bytes_eq name d.0.now) items → denoted_fields tree items ≡ record_parts T → option_map (λ d. tree d.1.now) o ≡ field_type name T
   field_found T name items o found parts =
       ap (option_map (λ d. tree d.1.now)) found
-      ∙ (sym (shown_type (find (λ d. bytes_eq name d.0.now) items))
+      ∙ (sym (denoted_type (find (λ d. bytes_eq name d.0.now) items))
       ∙ (ap (option_map (λ f. f.1)) (sym (find-map (λ f. bytes_eq name f.0) (λ d. (d.0.now, tree d.1.now)) items))
       ∙ ap (λ fs. option_map (λ f. f.1) (find (λ f. bytes_eq name f.0) fs)) parts))
     where
-      shown_type : (o : Option (Bor (List ℕ) × Bor S)) → option_map (λ (f : List ℕ × TypeTree). f.1) (option_map (λ d. (d.0.now, tree d.1.now)) o) ≡ option_map (λ d. tree d.1.now) o
-      shown_type None = refl
-      shown_type (Some d) = refl
+      denoted_type : (o : Option (Bor (List ℕ) × Bor S)) → option_map (λ (f : List ℕ × TypeTree). f.1) (option_map (λ d. (d.0.now, tree d.1.now)) o) ≡ option_map (λ d. tree d.1.now) o
+      denoted_type None = refl
+      denoted_type (Some d) = refl
 
 -- the first case that has the name is none
 pub no_case : (T : TypeTree) (name : List ℕ) → None ≡ find (λ c. bytes_eq name c.0) (variant_parts T) → (U : TypeTree) → case_type name T ≡ Some (Some U) → ⊥
@@ -281,14 +281,14 @@ key_found source span n T old mid new k K same (taken, deepest) =
 
 module _ {S : Type 0} (tree : S → TypeTree) where
   -- the type of an item of a tuple, by the item of the types that were answered
-  pub type_at : (T : TypeTree) (items : List (Bor S)) (n i : ℕ) (t : Bor S) → n ≡ length items → i < n → t ≡ get_or items i t → shown_all tree items ≡ tuple_parts T → slice_get (tuple_parts T) i ≡ Some (tree t.now)
+  pub type_at : (T : TypeTree) (items : List (Bor S)) (n i : ℕ) (t : Bor S) → n ≡ length items → i < n → t ≡ get_or items i t → denoted_all tree items ≡ tuple_parts T → slice_get (tuple_parts T) i ≡ Some (tree t.now)
   type_at T items n i t count lt is parts =
       ap (λ ts. slice_get ts i) (sym parts)
       ∙ (slice_get-map (λ t. tree t.now) items i
       ∙ ap (option_map (λ t. tree t.now)) (slice_get_read items n i t count lt is))
 
   -- a type of an item is one of those that were answered
-  pub type_within : (T : TypeTree) (items : List (Bor S)) (n i : ℕ) (U : TypeTree) → n ≡ length items → shown_all tree items ≡ tuple_parts T → slice_get (tuple_parts T) i ≡ Some U → i < n
+  pub type_within : (T : TypeTree) (items : List (Bor S)) (n i : ℕ) (U : TypeTree) → n ≡ length items → denoted_all tree items ≡ tuple_parts T → slice_get (tuple_parts T) i ≡ Some U → i < n
   type_within T items n i U count parts at =
       let same : length items ≡ length (tuple_parts T) = sym (length-map items (λ (t : Bor S). tree t.now)) ∙ ap length parts in
       omega (arith, slice_get_within (tuple_parts T) i U at, same, count)

@@ -4,7 +4,7 @@ ghost use Rattle.std.specs.String.{string_bytes};
 ghost use Rattle.std.specs.Fmt.{decimal};
 ghost use Rattle.wave_wasm.specs.Lists.{AllOf, SomeOf};
 ghost use Rattle.wave_wasm.specs.Types.{TypeTree};
-ghost use Rattle.wave_wasm.specs.Borrowed.{shown};
+ghost use Rattle.wave_wasm.specs.Borrowed.{denoted};
 ghost use Rattle.wave_grammar.specs.Nodes.{IsParsedFrom};
 ghost use Rattle.wave_grammar.specs.NodeTree.{NodeTree, type_of};
 ghost use Rattle.wave_grammar.specs.NodeAccessors.{node_text, IsEntryOf};
@@ -184,7 +184,7 @@ pub fn type_of_field<'a, T: WasmType>(
     ty: &'a T,
     name: &str,
 ) -> Result<Option<&'a T>, AllocError>
-    ensures { IfOk result (λ r. shown T.tree r ≡ field_type name.now (T.tree ty.now)) }
+    ensures { IfOk result (λ r. denoted T.tree r ≡ field_type name.now (T.tree ty.now)) }
 {
     let fields = ty.record_fields(alloc)?;
     match fields.iter().find(|field| name == field.0).copied() {

@@ -3,7 +3,7 @@ use Rattle.std.specs.Prelude.{ℕ, ◌≡◌, List, Option, Some, None}
 use Rattle.std.specs.Borrow.{Bor}
 use Rattle.wave_wasm.specs.Types.{TypeTree}
 use Rattle.wave_wasm.specs.Values.{Value}
-use Rattle.wave_wasm.specs.Borrowed.{shown}
+use Rattle.wave_wasm.specs.Borrowed.{denoted}
 use Rattle.wave_grammar.specs.FaultOrder.{Order}
 use Rattle.wave_grammar.specs.NodeTree.{NodeTree}
 use Rattle.wave_grammar.specs.declared.form.NodeType.{NodeType}
@@ -30,18 +30,18 @@ module _ {S V : Type 0} (type_tree : S → TypeTree) (tree : V → Value) (of : 
   AreKeptWhereExpected (Some T) source ty children kept = AreKept T source ty children kept × (IsPlain T → IsSimpleAt type_tree T kept.parts)
 
   -- where nothing is kept, nothing is expected
-  none_next : (x : Partial S V) → IsBare x → TakesMemory (shown type_tree (next_expected x)) → ⊥
+  none_next : (x : Partial S V) → IsBare x → TakesMemory (denoted type_tree (next_expected x)) → ⊥
   none_next (parts.Faulty f) bare takes = takes
   none_next (parts.Simple y) bare takes = takes
   none_next _ bare takes = absurd bare
 
-  simple_next : (T : TypeTree) (x : Partial S V) → IsSimpleAt type_tree T x → TakesMemory (shown type_tree (next_expected x)) → ⊥
+  simple_next : (T : TypeTree) (x : Partial S V) → IsSimpleAt type_tree T x → TakesMemory (denoted type_tree (next_expected x)) → ⊥
   simple_next T (parts.Simple y) simple takes = takes
   simple_next T _ simple takes = absurd simple
 
   -- where memory is taken for the parts of the next part, it is taken for parts
   pub next_takes : (expected : Option TypeTree) (source : List ℕ) (ty : NodeType) (children : List NodeTree) (kept : Frame S V)
-      → AreKeptWhereExpected expected source ty children kept → TakesMemory (shown type_tree (next_expected kept.parts)) → TakesMemory expected
+      → AreKeptWhereExpected expected source ty children kept → TakesMemory (denoted type_tree (next_expected kept.parts)) → TakesMemory expected
   next_takes None source ty children kept are takes = none_next kept.parts are.0 takes
   next_takes (Some T) source ty children kept are takes = λ plain. simple_next T kept.parts (are.1 plain) takes
 

@@ -4,7 +4,7 @@ use Rattle.std.specs.Borrow.{Bor}
 use Rattle.wave_wasm.specs.Types as type
 use Rattle.wave_wasm.specs.Types.{TypeTree, result_parts}
 use Rattle.wave_wasm.specs.Values.{Value}
-use Rattle.wave_wasm.specs.Borrowed.{shown}
+use Rattle.wave_wasm.specs.Borrowed.{denoted}
 use Rattle.wave_lex.specs.Errors.{Diagnostic}
 use Rattle.wave_grammar.specs.NodeTree.{NodeTree}
 use Rattle.wave_grammar.specs.declared.form.NodeType.{NodeType}
@@ -48,5 +48,5 @@ module _ {S V : Type 0} (type_tree : S → TypeTree) (tree : V → Value) (of : 
   -- the children of a node of `ok` or of `err`, at a result
   pub record AreOfResult (T : TypeTree) (source : List ℕ) (children : List NodeTree) (x : ResultPayload S V) : Type 0 where
     pub ty : T ≡ type_tree x.ty.now
-    pub expected : (parts : Option TypeTree × Option TypeTree) × (result_parts T ≡ Some parts) × (shown type_tree x.expected ≡ payload_of x.is_ok parts)
-    pub read : IsReadPayload tree of Full w (shown type_tree x.expected) source children x.built
+    pub expected : (parts : Option TypeTree × Option TypeTree) × (result_parts T ≡ Some parts) × (denoted type_tree x.expected ≡ payload_of x.is_ok parts)
+    pub read : IsReadPayload tree of Full w (denoted type_tree x.expected) source children x.built

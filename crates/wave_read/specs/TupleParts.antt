@@ -5,7 +5,7 @@ use Rattle.std.specs.Borrow.{Bor}
 use Rattle.wave_wasm.specs.Types.{TypeTree, tuple_parts, kind_of}
 use Rattle.wave_wasm.specs.declared.wasm.WasmTypeKind.TheVariants as kinds
 use Rattle.wave_wasm.specs.Values.{Value}
-use Rattle.wave_wasm.specs.Borrowed.{shown_all}
+use Rattle.wave_wasm.specs.Borrowed.{denoted_all}
 use Rattle.wave_grammar.specs.FaultOrder.{Order}
 use Rattle.wave_grammar.specs.NodeTree.{NodeTree}
 use Rattle.wave_leaf.specs.Reading.{IsReadAs}
@@ -28,6 +28,6 @@ module _ {S V : Type 0} (type_tree : S → TypeTree) (tree : V → Value) (of : 
   pub record IsRow (T : TypeTree) (source : List ℕ) (children : List NodeTree) (x : TupleItems S V) : Type 0 where
     pub is : type_tree x.ty.now ≡ T
     pub kind : kind_of T ≡ kinds.Tuple
-    pub parts : shown_all type_tree x.types.items ≡ tuple_parts T
+    pub parts : denoted_all type_tree x.types.items ≡ tuple_parts T
     pub count : x.count ≡ length children
-    pub read : AreReadEach tree of Full w (shown_all type_tree x.types.items) source children x.items.items
+    pub read : AreReadEach tree of Full w (denoted_all type_tree x.types.items) source children x.items.items

@@ -11,13 +11,13 @@ use std::alloc::Global;
 use wave_grammar::form::NodeType;
 use wave_grammar::label::label_name;
 use wave_leaf::error::ReadError;
-use wave_leaf::leaf::Leaf;
+use wave_leaf::leaf::LeafToken;
 use wave_lex::error::ParserErrorKind;
 use wave_wasm::wasm::{WasmType, WasmTypeKind, WasmValue, WasmValueError};
 
 /// An enum: the name of one of its cases.
 pub(crate) fn read_enum<V: WasmValue>(
-    leaf: &Leaf<'_>,
+    leaf: &LeafToken<'_>,
     alloc: Global,
     ty: &V::Type,
 ) -> Result<V, ReadError>
@@ -39,7 +39,7 @@ pub(crate) fn read_enum<V: WasmValue>(
 }
 
 /// A refusal at the leaf because the type has no case of this name.
-pub(crate) fn no_case(leaf: &Leaf<'_>, alloc: Global, name: &str) -> ReadError
+pub(crate) fn no_case(leaf: &LeafToken<'_>, alloc: Global, name: &str) -> ReadError
     ensures cause { IsCaused (unknown_case name.now) (leaf_node leaf.now) result }
     ensures span { result.span ≡ place_of (leaf_node leaf.now) }
 {

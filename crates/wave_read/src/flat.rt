@@ -1,7 +1,7 @@
 //! Values that stand for an option or a result of themselves.
 ghost use Rattle.std.specs.Prelude.{ℕ, List, ◌≡◌};
 ghost use Rattle.wave_wasm.specs.Types.{TypeTree};
-ghost use Rattle.wave_wasm.specs.Borrowed.{shown};
+ghost use Rattle.wave_wasm.specs.Borrowed.{denoted};
 ghost use Rattle.wave_grammar.specs.FaultOrder.{Order};
 ghost use Rattle.wave_grammar.specs.NodeTree.{NodeTree, type_of, place_of};
 ghost use Rattle.wave_leaf.specs.Reading.{IsReadAs};
@@ -20,7 +20,7 @@ use wave_wasm::wasm::{WasmType, WasmTypeKind, WasmValue};
 /// The type of the payload that a node of this type stands for alone, where the type is an option or
 /// a result.
 pub(crate) fn flat_payload<'ty, T: WasmType>(ty: &'ty T, node: NodeType) -> Option<&'ty T>
-    ensures { GivesFlatAt (T.tree ty.now) node (shown T.tree result) }
+    ensures { GivesFlatAt (T.tree ty.now) node (denoted T.tree result) }
 {
     match ty.kind() {
         WasmTypeKind::Option => match node {

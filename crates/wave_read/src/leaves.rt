@@ -19,7 +19,7 @@ use std::alloc::Global;
 use std::collections::BTreeMap;
 use wave_grammar::form::NodeType;
 use wave_leaf::error::ReadError;
-use wave_leaf::leaf::Leaf;
+use wave_leaf::leaf::LeafToken;
 use wave_leaf::simple::refuse_form;
 use wave_lex::error::ParserErrorKind;
 use wave_lex::lex::Span;
@@ -28,7 +28,7 @@ use wave_wasm::wasm::{WasmType, WasmTypeKind, WasmValue};
 /// The value of one token, which stands in some text, at the type.
 #[inline(never)]
 pub(crate) fn read_leaf<V: WasmValue>(
-    leaf: &Leaf<'_>,
+    leaf: &LeafToken<'_>,
     alloc: Global,
     ty: &V::Type,
 ) -> Result<V, ReadError>
@@ -46,7 +46,11 @@ pub(crate) fn read_leaf<V: WasmValue>(
 
 /// The value of one token at the type, which is none of a flat payload.
 #[inline(always)]
-fn read_directly<V: WasmValue>(leaf: &Leaf<'_>, alloc: Global, ty: &V::Type) -> Result<V, ReadError>
+fn read_directly<V: WasmValue>(
+    leaf: &LeafToken<'_>,
+    alloc: Global,
+    ty: &V::Type,
+) -> Result<V, ReadError>
     requires { (U : TypeTree) → IsFlatAt (V.Type.tree ty.now) leaf.now.ty U → ⊥ }
     ensures { IsReadOfLeaf V.tree V.is_of V.is_full (V.Type.tree ty.now) leaf.now result }
 {

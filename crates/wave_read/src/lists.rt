@@ -13,7 +13,7 @@ use std::alloc::{AllocError, Global};
 use wave_grammar::form::NodeType;
 use wave_leaf::error::{ReadError, Reason};
 use wave_leaf::fault::or_error_at;
-use wave_leaf::leaf::Leaf;
+use wave_leaf::leaf::LeafToken;
 use wave_lex::error::ParserErrorKind;
 use wave_lex::lex::Span;
 use wave_wasm::wasm::{WasmType, WasmValue};
@@ -82,7 +82,11 @@ impl<'ty, V: WasmValue> Items<'ty, V::Type, V> {
 
     /// Adds the item of one token, where it is read at once; says whether it was.
     #[inline(always)]
-    pub(crate) fn push_fast(&mut self, alloc: Global, leaf: &Leaf<'_>) -> Result<bool, AllocError>
+    pub(crate) fn push_fast(
+        &mut self,
+        alloc: Global,
+        leaf: &LeafToken<'_>,
+    ) -> Result<bool, AllocError>
         ensures { IfOk result (λ added. MatchBool added
             ((w : Order) (T : TypeTree) (source : List ℕ) (children : List NodeTree) → IsLeafIn source leaf.now
             → AreItems V.Type.tree V.tree V.is_of V.is_full w T source children self.old

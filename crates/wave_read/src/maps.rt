@@ -10,7 +10,7 @@ use wave_grammar::form::NodeType;
 use wave_grammar::typed::merged;
 use wave_leaf::error::ReadError;
 use wave_leaf::fault::{Fault, or_error_at};
-use wave_leaf::leaf::Leaf;
+use wave_leaf::leaf::LeafToken;
 use wave_lex::error::ParserErrorKind;
 use wave_lex::lex::Span;
 use wave_wasm::wasm::{WasmType, WasmTypeKind, WasmValue};
@@ -51,7 +51,7 @@ impl<'ty, V: WasmValue> Entries<'ty, V::Type, V> {
     ) -> Result<Option<Fault>, AllocError>
         ensures { IfOk result (AddsKey AreEntries V.Type.tree V.tree V.is_of V.is_full NodeType.TupleSet self.old ty span text.now self.new) }
     {
-        let leaf = Leaf { ty, span, text };
+        let leaf = LeafToken { ty, span, text };
         match leaf.read_key::<V>(alloc, self.key_type) {
             Ok(key) => {
                 drop(self.key.replace(key));

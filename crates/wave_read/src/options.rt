@@ -11,7 +11,7 @@ ghost use Rattle.wave_read.specs.Private.PartSteps.{AddsPart, FinishesAs, WereRe
 use std::alloc::{AllocError, Global};
 use wave_leaf::error::ReadError;
 use wave_leaf::fault::or_error_at;
-use wave_leaf::leaf::Leaf;
+use wave_leaf::leaf::LeafToken;
 use wave_lex::error::ParserErrorKind;
 use wave_lex::lex::Span;
 use wave_wasm::wasm::{WasmType, WasmTypeKind, WasmValue};
@@ -80,7 +80,7 @@ impl<'ty, V: WasmValue> SomePayload<'ty, V::Type, V> {
 
 /// `none`.
 pub(crate) fn read_none<V: WasmValue>(
-    leaf: &Leaf<'_>,
+    leaf: &LeafToken<'_>,
     alloc: Global,
     ty: &V::Type,
 ) -> Result<V, ReadError>

@@ -2,7 +2,7 @@
 ghost use Rattle.std.specs.Prelude.{ℕ, ◌≡◌, ◌++◌, List, [], ◌∷◌, None, Ok, Err, IfOk, IfErr, IsOk, MatchBool, MatchOption};
 ghost use Rattle.wave_wasm.specs.Types.{TypeTree, kind_of};
 ghost use Rattle.wave_wasm.specs.ConstructorContracts.{IsOfListKind};
-ghost use Rattle.wave_wasm.specs.Borrowed.{shown};
+ghost use Rattle.wave_wasm.specs.Borrowed.{denoted};
 ghost use Rattle.wave_grammar.specs.SpannedTree.{slice};
 ghost use Rattle.wave_grammar.specs.FaultOrder.{Order, in_text};
 ghost use Rattle.wave_grammar.specs.NodeTree.{NodeTree, node, no_nodes, node_trees};
@@ -33,7 +33,7 @@ use std::collections::BTreeMap;
 use wave_grammar::form::NodeType;
 use wave_leaf::error::{ReadError, Reason};
 use wave_leaf::fault::{Fault, or_error_at};
-use wave_leaf::leaf::Leaf;
+use wave_leaf::leaf::LeafToken;
 use wave_leaf::simple::refuse_form;
 use wave_lex::error::ParserErrorKind;
 use wave_lex::lex::Span;
@@ -243,7 +243,7 @@ impl<'ty, V: WasmValue> Partial<'ty, V::Type, V> {
     ) -> Result<(), AllocError>
         ensures grown { IfOk result (λ _. (w : Order) (T : TypeTree) (source : List ℕ) (of : NodeType) (children : List NodeTree) (n : NodeTree)
             → TakesPart of children → AreParts V.Type.tree V.tree V.is_of V.is_full w T source of children self.old
-            → IsReadWhereExpected V.tree V.is_of V.is_full w w (shown V.Type.tree (next_expected self.old)) source n built
+            → IsReadWhereExpected V.tree V.is_of V.is_full w w (denoted V.Type.tree (next_expected self.old)) source n built
             → AreParts V.Type.tree V.tree V.is_of V.is_full w T source of (children ++ n ∷ []) self.new) }
         ensures bare { IsBare self.old → (self.new ≡ self.old) × IsOk result }
     {
@@ -259,7 +259,11 @@ impl<'ty, V: WasmValue> Partial<'ty, V::Type, V> {
     /// Adds the next value, of one token, where it is read at once; says whether it was. An item of a list is
     /// added where this is called.
     #[inline(always)]
-    pub(crate) fn push_fast(&mut self, alloc: Global, leaf: &Leaf<'_>) -> Result<bool, AllocError>
+    pub(crate) fn push_fast(
+        &mut self,
+        alloc: Global,
+        leaf: &LeafToken<'_>,
+    ) -> Result<bool, AllocError>
         ensures grown { IfOk result (λ added. MatchBool added
             ((w : Order) (T : TypeTree) (source : List ℕ) (of : NodeType) (children : List NodeTree) → IsLeafIn source leaf.now
             → TakesPart of children → AreParts V.Type.tree V.tree V.is_of V.is_full w T source of children self.old
@@ -275,7 +279,7 @@ impl<'ty, V: WasmValue> Partial<'ty, V::Type, V> {
 
     /// The same for the parts of a value that is no list.
     #[inline(never)]
-    fn push_other_fast(&mut self, alloc: Global, leaf: &Leaf<'_>) -> Result<bool, AllocError>
+    fn push_other_fast(&mut self, alloc: Global, leaf: &LeafToken<'_>) -> Result<bool, AllocError>
         requires { AreNoItems self.now }
         ensures grown { IfOk result (λ added. MatchBool added
             ((w : Order) (T : TypeTree) (source : List ℕ) (of : NodeType) (children : List NodeTree) → IsLeafIn source leaf.now
@@ -303,7 +307,7 @@ impl<'ty, V: WasmValue> Partial<'ty, V::Type, V> {
         requires { AreNoItems self.now }
         ensures grown { IfOk result (λ _. (w : Order) (T : TypeTree) (source : List ℕ) (of : NodeType) (children : List NodeTree) (n : NodeTree)
             → TakesPart of children → AreParts V.Type.tree V.tree V.is_of V.is_full w T source of children self.old
-            → IsReadWhereExpected V.tree V.is_of V.is_full w w (shown V.Type.tree (next_expected self.old)) source n (Ok val)
+            → IsReadWhereExpected V.tree V.is_of V.is_full w w (denoted V.Type.tree (next_expected self.old)) source n (Ok val)
             → AreParts V.Type.tree V.tree V.is_of V.is_full w T source of (children ++ n ∷ []) self.new) }
         ensures bare { IsBare self.old → (self.new ≡ self.old) × IsOk result }
     {
@@ -331,7 +335,7 @@ impl<'ty, V: WasmValue> Partial<'ty, V::Type, V> {
         requires { AreNoItems self.now }
         ensures grown { IfOk result (λ _. (w : Order) (T : TypeTree) (source : List ℕ) (of : NodeType) (children : List NodeTree) (n : NodeTree)
             → TakesPart of children → AreParts V.Type.tree V.tree V.is_of V.is_full w T source of children self.old
-            → IsReadWhereExpected V.tree V.is_of V.is_full w w (shown V.Type.tree (next_expected self.old)) source n (Err error)
+            → IsReadWhereExpected V.tree V.is_of V.is_full w w (denoted V.Type.tree (next_expected self.old)) source n (Err error)
             → AreParts V.Type.tree V.tree V.is_of V.is_full w T source of (children ++ n ∷ []) self.new) }
         ensures bare { IsBare self.old → (self.new ≡ self.old) × IsOk result }
     {

@@ -1,7 +1,7 @@
 //! Results, read at their types.
 ghost use Rattle.std.specs.Prelude.{ℕ, List, [], ◌≡◌, IfOk, IfErr, None};
 ghost use Rattle.wave_wasm.specs.Types.{TypeTree, kind_of};
-ghost use Rattle.wave_wasm.specs.Borrowed.{shown};
+ghost use Rattle.wave_wasm.specs.Borrowed.{denoted};
 ghost use Rattle.wave_grammar.specs.FaultOrder.{Order};
 ghost use Rattle.wave_grammar.specs.NodeTree.{NodeTree, node, node_trees, place_of};
 ghost use Rattle.wave_grammar.specs.NodeAccessors.{first_of};
@@ -16,7 +16,7 @@ ghost use Rattle.wave_read.specs.Private.PartSteps.{AddsPart, WereRead};
 use std::alloc::{AllocError, Global};
 use wave_leaf::error::ReadError;
 use wave_leaf::fault::or_error_at;
-use wave_leaf::leaf::Leaf;
+use wave_leaf::leaf::LeafToken;
 use wave_lex::lex::Span;
 use wave_wasm::wasm::{WasmType, WasmTypeKind, WasmValue, WasmValueError};
 
@@ -112,7 +112,7 @@ fn case_with<V>(is_ok: bool, payload: Option<V>) -> Result<Option<V>, Option<V>>
 
 /// `ok` or `err` without a payload.
 pub(crate) fn read_alone<V: WasmValue>(
-    leaf: &Leaf<'_>,
+    leaf: &LeafToken<'_>,
     alloc: Global,
     ty: &V::Type,
     is_ok: bool,
@@ -134,14 +134,14 @@ fn read_payload<V: WasmValue>(
     span: Span,
 ) -> Result<Option<V>, ReadError>
     ensures answer { (w : Order) (source : List ℕ) (children : List NodeTree) (n : NodeTree) → place_of n ≡ span
-        → IsReadPayload V.tree V.is_of V.is_full w (shown V.Type.tree expected.entry) source children built
-        → AnswersPayload V.tree V.is_of V.is_full w name.now (shown V.Type.tree expected.entry) source n (first_of children) result }
+        → IsReadPayload V.tree V.is_of V.is_full w (denoted V.Type.tree expected.entry) source children built
+        → AnswersPayload V.tree V.is_of V.is_full w name.now (denoted V.Type.tree expected.entry) source n (first_of children) result }
     ensures within { (w : Order) (source : List ℕ) (children : List NodeTree) (n : NodeTree) → place_of n ≡ span
-        → IsReadPayload V.tree V.is_of V.is_full w (shown V.Type.tree expected.entry) source children built
+        → IsReadPayload V.tree V.is_of V.is_full w (denoted V.Type.tree expected.entry) source children built
         → IsPayloadOf source (first_of children) → IfErr result (RefusesInPart n (first_of children)) }
     ensures typed { (w : Order) (source : List ℕ) (children : List NodeTree)
-        → IsReadPayload V.tree V.is_of V.is_full w (shown V.Type.tree expected.entry) source children built
-        → IfOk result (IsOfPayloadType V.is_of (shown V.Type.tree expected.entry)) }
+        → IsReadPayload V.tree V.is_of V.is_full w (denoted V.Type.tree expected.entry) source children built
+        → IfOk result (IsOfPayloadType V.is_of (denoted V.Type.tree expected.entry)) }
 {
     match expected {
         Some(_) => match built {

@@ -1,7 +1,7 @@
 //! The builder that reads values of a type.
 ghost use Rattle.std.specs.Prelude.{ℕ, ◌≡◌, ◌++◌, List, [], ◌∷◌, length, Option, Some, Err, IfOk, IfErr, IfSome, IfNone};
 ghost use Rattle.wave_wasm.specs.Types.{TypeTree, kind_of};
-ghost use Rattle.wave_wasm.specs.Borrowed.{shown};
+ghost use Rattle.wave_wasm.specs.Borrowed.{denoted};
 ghost use Rattle.wave_grammar.specs.SpannedTree.{slice};
 ghost use Rattle.wave_grammar.specs.FaultOrder.{Order, in_text, by_type};
 ghost use Rattle.wave_grammar.specs.FlagParts.{AreFlagsOf, flag_nodes};
@@ -26,7 +26,7 @@ use wave_grammar::builder::Builder;
 use wave_grammar::form::NodeType;
 use wave_leaf::error::{ReadError, Reason};
 use wave_leaf::fault::Fault;
-use wave_leaf::leaf::Leaf;
+use wave_leaf::leaf::LeafToken;
 use wave_lex::error::ParserErrorKind;
 use wave_lex::lex::Span;
 use wave_wasm::wasm::{WasmType, WasmTypeKind, WasmValue};
@@ -50,9 +50,9 @@ impl<'ty, V: WasmValue> ValueBuilder<'ty, V> {
     /// wraps it.
     pub fn record(self, node: NodeType) -> Option<(Option<&'ty V::Type>, &'ty V::Type)>
         ensures node { IfSome result (λ _. node ≡ node_type.TupleSet) }
-        ensures wrapper { IfSome result (λ found. IsWrapperWhereExpected V.Type.tree (shown V.Type.tree self.entry.expected) node_type.TupleSet found.0 found.1) }
+        ensures wrapper { IfSome result (λ found. IsWrapperWhereExpected V.Type.tree (denoted V.Type.tree self.entry.expected) node_type.TupleSet found.0 found.1) }
         ensures kind { IfSome result (λ found. kind_of (V.Type.tree found.1.now) ≡ WasmTypeKind.Record) }
-        ensures none { IfNone result ((T : TypeTree) → shown V.Type.tree self.entry.expected ≡ Some T → ReadsNoRecord T node) }
+        ensures none { IfNone result ((T : TypeTree) → denoted V.Type.tree self.entry.expected ≡ Some T → ReadsNoRecord T node) }
     {
         if node != NodeType::TupleSet {
             return None;
@@ -67,8 +67,8 @@ impl<'ty, V: WasmValue> ValueBuilder<'ty, V> {
     /// What is read of a node of flags that stands here, where no flags are expected.
     pub fn no_flags(self, alloc: Global, span: Span) -> Option<Result<V, ReadError>>
         ensures read { IfSome result (λ built. (o w : Order) (source : List ℕ) (n : NodeTree) → type_of n ≡ node_type.Flags → place_of n ≡ span
-            → IsReadSparing V.tree V.is_of V.is_full o w (shown V.Type.tree self.entry.expected) source n built) }
-        ensures expected { IfNone result ((T : TypeTree) → shown V.Type.tree self.entry.expected ≡ Some T → ReadsFlags T) }
+            → IsReadSparing V.tree V.is_of V.is_full o w (denoted V.Type.tree self.entry.expected) source n built) }
+        ensures expected { IfNone result ((T : TypeTree) → denoted V.Type.tree self.entry.expected ≡ Some T → ReadsFlags T) }
     {
         let expected = match self.expected {
             Some(expected) => expected,
@@ -88,7 +88,7 @@ impl<'ty, V: WasmValue> ValueBuilder<'ty, V> {
         self,
         alloc: Global,
         parts: &mut Frame<'ty, V::Type, V>,
-        leaf: &Leaf<'_>,
+        leaf: &LeafToken<'_>,
     ) -> Result<(), AllocError>
         requires { IsTokenOfSome leaf.now }
         ensures kept { IfOk result (λ _. (w : Order) (expected : Option TypeTree) (source : List ℕ) (whole : NodeType) (children : List NodeTree)
@@ -170,32 +170,32 @@ impl<'ty, V: WasmValue> Builder for ValueBuilder<'ty, V> {
 
     type Parts = Frame<'ty, V::Type, V>;
 
-    ghost use Rattle.wave_wasm.specs.Borrowed.{shown};
+    ghost use Rattle.wave_wasm.specs.Borrowed.{denoted};
     ghost use Rattle.wave_grammar.specs.FaultOrder.{in_text};
     ghost use Rattle.wave_leaf.specs.PlainReading.{IsReadSparing, TakesMemory};
     ghost use Rattle.wave_read.specs.KeptParts.{AreKeptWhereExpected, next_takes};
     ghost use Rattle.wave_read.specs.PartsOfKinds.{next_expected};
 
-    ghost is_built = { λ builder source n built. IsReadSparing V.tree V.is_of V.is_full in_text in_text (shown V.Type.tree builder.expected) source n built };
+    ghost is_built = { λ builder source n built. IsReadSparing V.tree V.is_of V.is_full in_text in_text (denoted V.Type.tree builder.expected) source n built };
 
     ghost are_parts = { λ builder source ty children kept.
-        AreKeptWhereExpected V.Type.tree V.tree V.is_of V.is_full in_text (shown V.Type.tree builder.expected) source ty children kept };
+        AreKeptWhereExpected V.Type.tree V.tree V.is_of V.is_full in_text (denoted V.Type.tree builder.expected) source ty children kept };
 
     ghost next = { λ builder kept. record builder { expected = next_expected kept.parts } };
 
-    ghost takes_memory = { λ builder. TakesMemory (shown V.Type.tree builder.expected) };
+    ghost takes_memory = { λ builder. TakesMemory (denoted V.Type.tree builder.expected) };
 
     ghost next_takes = { λ builder source ty children kept are takes.
-        next_takes V.Type.tree V.tree V.is_of V.is_full in_text (shown V.Type.tree builder.expected) source ty children kept are takes };
+        next_takes V.Type.tree V.tree V.is_of V.is_full in_text (denoted V.Type.tree builder.expected) source ty children kept are takes };
 
     #[inline(always)]
     fn leaf(self, alloc: Global, ty: NodeType, span: Span, text: &str) -> Result<V, ReadError>
         requires one { IsOneToken ty }
         requires text { (source : List ℕ) × (text.now ≡ slice source span) }
         ensures { (o w : Order) (source : List ℕ) → IsOneToken ty → text.now ≡ slice source span
-            → IsReadSparing V.tree V.is_of V.is_full o w (shown V.Type.tree self.entry.expected) source (node ty span no_nodes) result }
+            → IsReadSparing V.tree V.is_of V.is_full o w (denoted V.Type.tree self.entry.expected) source (node ty span no_nodes) result }
     {
-        let leaf = Leaf { ty, span, text };
+        let leaf = LeafToken { ty, span, text };
         match self.expected {
             Some(expected) => match leaf.read_fast(alloc, expected) {
                 Some(val) => Ok(val),
@@ -208,8 +208,8 @@ impl<'ty, V: WasmValue> Builder for ValueBuilder<'ty, V> {
     #[inline(always)]
     fn parts(self, alloc: Global, ty: NodeType) -> Frame<'ty, V::Type, V>
         ensures begun { (w : Order) (source : List ℕ) → IsOfParts ty
-            → AreKeptWhereExpected V.Type.tree V.tree V.is_of V.is_full w (shown V.Type.tree self.entry.expected) source ty [] result }
-        ensures rejected { (T : TypeTree) → shown V.Type.tree self.entry.expected ≡ Some T → AreRefusedAtOnce V.Type.tree V.tree V.is_of V.is_full T ty result.parts }
+            → AreKeptWhereExpected V.Type.tree V.tree V.is_of V.is_full w (denoted V.Type.tree self.entry.expected) source ty [] result }
+        ensures rejected { (T : TypeTree) → denoted V.Type.tree self.entry.expected ≡ Some T → AreRefusedAtOnce V.Type.tree V.tree V.is_of V.is_full T ty result.parts }
     {
         match self.expected {
             Some(expected) => Frame::new(alloc, expected, ty),
@@ -255,7 +255,7 @@ impl<'ty, V: WasmValue> Builder for ValueBuilder<'ty, V> {
     ) -> Result<(), AllocError>
         ensures kept { IfOk result (λ _. (w : Order) (expected : Option TypeTree) (source : List ℕ) (whole : NodeType) (children : List NodeTree) (n : NodeTree)
             → TakesPart whole children → AreKeptWhereExpected V.Type.tree V.tree V.is_of V.is_full w expected source whole children parts.old
-            → IsReadSparing V.tree V.is_of V.is_full w w (shown V.Type.tree (next_expected parts.old.parts)) source n built
+            → IsReadSparing V.tree V.is_of V.is_full w w (denoted V.Type.tree (next_expected parts.old.parts)) source n built
             → AreKeptWhereExpected V.Type.tree V.tree V.is_of V.is_full w expected source whole (children ++ n ∷ []) parts.new) }
         ensures memory { IfErr result (λ _. (w : Order) (expected : Option TypeTree) (source : List ℕ) (whole : NodeType) (children : List NodeTree)
             → AreKeptWhereExpected V.Type.tree V.tree V.is_of V.is_full w expected source whole children parts.old → TakesMemory expected) }
@@ -272,7 +272,7 @@ impl<'ty, V: WasmValue> Builder for ValueBuilder<'ty, V> {
         span: Span,
         text: &str,
     ) -> Result<(), AllocError> {
-        let leaf = Leaf { ty, span, text };
+        let leaf = LeafToken { ty, span, text };
         if parts.parts.push_fast(alloc, &leaf)? {
             return Ok(());
         }
@@ -313,7 +313,7 @@ impl<'ty, V: WasmValue> Builder for ValueBuilder<'ty, V> {
         flags: BTreeMap<&str, Span>,
     ) -> Result<Result<V, ReadError>, AllocError>
         ensures { IfOk result (λ built. (o w : Order) (source : List ℕ) → AreFlagsOf source flags.entry
-            → IsReadSparing V.tree V.is_of V.is_full o w (shown V.Type.tree self.entry.expected) source (node node_type.Flags span (flag_nodes flags.entry)) built) }
+            → IsReadSparing V.tree V.is_of V.is_full o w (denoted V.Type.tree self.entry.expected) source (node node_type.Flags span (flag_nodes flags.entry)) built) }
     {
         let Some(expected) = self.expected else {
             return Ok(Err(ReadError::new(ParserErrorKind::InvalidType, span)));

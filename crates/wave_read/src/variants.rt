@@ -17,7 +17,7 @@ use wave_grammar::form::NodeType;
 use wave_grammar::label::label_name;
 use wave_leaf::error::ReadError;
 use wave_leaf::fault::{Fault, caused, or_error_at};
-use wave_leaf::leaf::Leaf;
+use wave_leaf::leaf::LeafToken;
 use wave_lex::error::ParserErrorKind;
 use wave_lex::lex::Span;
 use wave_wasm::wasm::{WasmType, WasmTypeKind, WasmValue, WasmValueError};
@@ -104,7 +104,7 @@ impl<'ty, V: WasmValue> CasePayload<'ty, V::Type, V> {
 
 /// A variant of a case without a payload.
 pub(crate) fn read_case<V: WasmValue>(
-    leaf: &Leaf<'_>,
+    leaf: &LeafToken<'_>,
     alloc: Global,
     ty: &V::Type,
 ) -> Result<V, ReadError>
@@ -127,7 +127,7 @@ pub(crate) fn read_case<V: WasmValue>(
 }
 
 /// A refusal at the leaf because the case of this name has a payload.
-fn no_payload(leaf: &Leaf<'_>, alloc: Global, name: &str) -> ReadError
+fn no_payload(leaf: &LeafToken<'_>, alloc: Global, name: &str) -> ReadError
     ensures cause { IsCaused (missing_payload name.now) (leaf_node leaf.now) result }
     ensures span { result.span ≡ place_of (leaf_node leaf.now) }
 {

@@ -2,8 +2,8 @@
 use Rattle.std.specs.Prelude.{ℕ, ◌≡◌, ◌↔◌, List}
 use Rattle.wave_wasm.specs.Types.{TypeTree}
 use Rattle.wave_wasm.specs.Values.{Value}
-use Rattle.wave_grammar.specs.Tree.{shown}
-use Rattle.wave_grammar.specs.Calls.{shown_call}
+use Rattle.wave_grammar.specs.Tree.{display}
+use Rattle.wave_grammar.specs.Calls.{display_call}
 use Rattle.wave_grammar.specs.Params.{Params}
 use Rattle.wave_grammar.specs.SpannedTree.{SpannedTree, slice, tree_of}
 use Rattle.wave_grammar.specs.NodeTree.{NodeTree, place_of}
@@ -15,12 +15,12 @@ use Rattle.wave_tree.specs.UntypedCall.{Called, IsCalledOf}
 abbrev pub IsKeptByDisplay : List ℕ → NodeTree → List ℕ → Type 0
 IsKeptByDisplay source n text =
     (t : SpannedTree) → IsNodeOf source n t
-    → (text ≡ shown (tree_of t)) × ShowsAgain (tree_of t) × MeanTheSame (slice source (place_of n)) text
+    → (text ≡ display (tree_of t)) × ShowsAgain (tree_of t) × MeanTheSame (slice source (place_of n)) text
 
 -- of a call that is its whole source, the text is its display, a call of the same name and the same display, with the same parameters at all types
 abbrev pub IsCallKeptByDisplay : Called → List ℕ → Type 0
 IsCallKeptByDisplay u text =
     (c : IsCalledOf u.source u)
-    → (text ≡ shown_call (slice u.source u.name) c.params)
+    → (text ≡ display_call (slice u.source u.name) c.params)
     × ((again : ShowsCallAgain (slice u.source u.name) c.params)
     × ((Ts : List TypeTree) (vs : List Value) → Params Ts c.call.tokens vs ↔ Params Ts again.call.tokens vs))

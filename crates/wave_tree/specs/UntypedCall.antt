@@ -23,7 +23,7 @@ use Rattle.wave_grammar.specs.Nodes.{IsNodeOf}
 use Rattle.wave_grammar.specs.TypedReading.{IsValueOf}
 use Rattle.wave_tree.specs.ParsedNodes.{TakesClass, StandsBetween}
 use Rattle.wave_tree.specs.ParserState.{Fails, IsTrailing}
-use Rattle.wave_tree.specs.NodeDisplay.{shown_at}
+use Rattle.wave_tree.specs.NodeDisplay.{display_at}
 use Rattle.wave_grammar.specs.NodeParams.{GivesParams, RefusesParams, AreOmitted, RefusesNone}
 use Rattle.wave_grammar.specs.declared.form.NodeType.TheVariants as kind
 
@@ -113,11 +113,11 @@ MemoryAtName s e = e.kind ≡ OutOfMemory → (k : ℕ) × IsName s k × Says e 
 -- the text that shows the parameters
 abbrev pub params_at : List ℕ → Option NodeTree → List ℕ
 params_at source None = codes "()"
-params_at source (Some n) = shown_at source n
+params_at source (Some n) = display_at source n
 
 -- the text that shows a call: its name and its parameters
-abbrev pub call_shown : Called → List ℕ
-call_shown u = slice u.source u.name ++ params_at u.source u.params
+abbrev pub call_display : Called → List ℕ
+call_display u = slice u.source u.name ++ params_at u.source u.params
 
 -- a refusal of the parameters at the types
 abbrev pub RefusesParamsAt : (TypeTree → Type 0) → List TypeTree → List ℕ → Range ℕ → Option NodeTree → Diagnostic → Type 0

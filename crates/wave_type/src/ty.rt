@@ -351,7 +351,7 @@ impl Type {
 // Whether no name stands twice within a payload's type, where there is one. It has a tree of a type.
 fn payload_is_distinct(payload: &Option<Type>) -> bool
     ensures distinct { IsTrue result ↔ EachNamesOfMaybe AreDistinct (maybe_type payload.now) }
-    ensures own { every_maybe can_be_built (maybe_type payload.now) ≡ true }
+    ensures representable { every_maybe can_be_built (maybe_type payload.now) ≡ true }
 {
     match payload {
         Some(ty) => {

@@ -204,7 +204,7 @@ pub trait WasmType: Sized {
     ghost use Rattle.wave_wasm.specs.Names.{is_one_of};
     ghost use Rattle.wave_wasm.specs.Types.{TypeTree, kind_of, list_part, list_length, record_parts, tuple_parts, variant_parts};
     ghost use Rattle.wave_wasm.specs.Types.{enum_names, option_part, result_parts, flags_names, map_parts};
-    ghost use Rattle.wave_wasm.specs.Borrowed.{texts, shown, shown_all, shown_fields, shown_case, shown_cases, shown_result, shown_pair};
+    ghost use Rattle.wave_wasm.specs.Borrowed.{texts, denoted, denoted_all, denoted_fields, denoted_case, denoted_cases, denoted_result, denoted_pair};
 
     /// The tree that the type means.
     ghost tree: { Self → TypeTree };
@@ -215,7 +215,7 @@ pub trait WasmType: Sized {
 
     /// The element type of a list or fixed-length list.
     fn list_element_type(&self) -> Option<&Self>
-        ensures { shown tree result ≡ list_part (tree self.now) };
+        ensures { denoted tree result ≡ list_part (tree self.now) };
 
     /// The number of elements of a fixed-length list.
     fn list_length(&self) -> Option<u32>
@@ -223,15 +223,15 @@ pub trait WasmType: Sized {
 
     /// The names and types of a record's fields.
     fn record_fields(&self, alloc: Global) -> Result<Vec<(&str, &Self)>, AllocError>
-        ensures { IfOk result (λ v. shown_fields tree v.items ≡ record_parts (tree self.now)) };
+        ensures { IfOk result (λ v. denoted_fields tree v.items ≡ record_parts (tree self.now)) };
 
     /// The types of a tuple's items.
     fn tuple_element_types(&self, alloc: Global) -> Result<Vec<&Self>, AllocError>
-        ensures { IfOk result (λ v. shown_all tree v.items ≡ tuple_parts (tree self.now)) };
+        ensures { IfOk result (λ v. denoted_all tree v.items ≡ tuple_parts (tree self.now)) };
 
     /// The names and payload types of a variant's cases.
     fn variant_cases(&self, alloc: Global) -> Result<Vec<(&str, Option<&Self>)>, AllocError>
-        ensures { IfOk result (λ v. shown_cases tree v.items ≡ variant_parts (tree self.now)) };
+        ensures { IfOk result (λ v. denoted_cases tree v.items ≡ variant_parts (tree self.now)) };
 
     /// The names of an enum's cases.
     fn enum_cases(&self, alloc: Global) -> Result<Vec<&str>, AllocError>
@@ -239,11 +239,11 @@ pub trait WasmType: Sized {
 
     /// The payload type of an option.
     fn option_some_type(&self) -> Option<&Self>
-        ensures { shown tree result ≡ option_part (tree self.now) };
+        ensures { denoted tree result ≡ option_part (tree self.now) };
 
     /// The payload types of a result, for `ok` and for `err`.
     fn result_types(&self) -> Option<(Option<&Self>, Option<&Self>)>
-        ensures { shown_result tree result ≡ result_parts (tree self.now) };
+        ensures { denoted_result tree result ≡ result_parts (tree self.now) };
 
     /// The names of flags.
     fn flags_names(&self, alloc: Global) -> Result<Vec<&str>, AllocError>
@@ -251,7 +251,7 @@ pub trait WasmType: Sized {
 
     /// The key type and the value type of a map.
     fn map_key_value_types(&self) -> Option<(&Self, &Self)>
-        ensures { shown_pair tree result ≡ map_parts (tree self.now) };
+        ensures { denoted_pair tree result ≡ map_parts (tree self.now) };
 
     /// The first case of this name of a variant, with the type of its payload; none where there is
     /// no such case. The provided body walks over `variant_cases`. A type that knows where its
@@ -262,7 +262,7 @@ pub trait WasmType: Sized {
         name: &str,
     ) -> Result<Option<(&str, Option<&Self>)>, AllocError>
         ensures { IfOk result
-            (λ case. option_map (shown_case tree) case ≡ find (λ c. bytes_eq name.now c.0) (variant_parts (tree self.now))) }
+            (λ case. option_map (denoted_case tree) case ≡ find (λ c. bytes_eq name.now c.0) (variant_parts (tree self.now))) }
     {
         let cases = self.variant_cases(alloc)?;
         Ok(cases.iter().find(|case| name == case.0).copied())
@@ -310,7 +310,7 @@ pub trait WasmValue: Sized + Drop {
     ghost use Rattle.wave_wasm.specs.Values as value;
     ghost use Rattle.wave_wasm.specs.Values.{Value, kind_of, maybe_value, list_items, tuple_items, record_fields, flags_names, map_entries, IsWellFormed};
     ghost use Rattle.wave_wasm.specs.HasType.{HasType};
-    ghost use Rattle.wave_wasm.specs.Borrowed.{texts, shown, shown_all, shown_fields, shown_pairs, shown_either};
+    ghost use Rattle.wave_wasm.specs.Borrowed.{texts, denoted, denoted_all, denoted_fields, denoted_pairs, denoted_either};
     ghost use Rattle.wave_wasm.specs.ConstructorContracts.{IsOfListKind, result_value, leaf_entries, HasFullParts};
     ghost use Rattle.wave_wasm.specs.ConstructorContracts.{MakesLeaf, MakesList, MakesTuple, MakesRecord, MakesVariant};
     ghost use Rattle.wave_wasm.specs.ConstructorContracts.{MakesEnum, MakesOption, MakesResult, MakesFlags, MakesMap};
@@ -617,22 +617,22 @@ pub trait WasmValue: Sized + Drop {
     /// The items. It asks for a list or a fixed-length list.
     fn unwrap_list(&self, alloc: Global) -> Result<Vec<&Self>, AllocError>
         requires { IsOfListKind (kind_of (tree self.now)) }
-        ensures { IfOk result (λ v. shown_all tree v.items ≡ list_items (tree self.now)) };
+        ensures { IfOk result (λ v. denoted_all tree v.items ≡ list_items (tree self.now)) };
 
     /// The items. It asks for a tuple.
     fn unwrap_tuple(&self, alloc: Global) -> Result<Vec<&Self>, AllocError>
         requires { kind_of (tree self.now) ≡ WasmTypeKind.Tuple }
-        ensures { IfOk result (λ v. shown_all tree v.items ≡ tuple_items (tree self.now)) };
+        ensures { IfOk result (λ v. denoted_all tree v.items ≡ tuple_items (tree self.now)) };
 
     /// The names and values of the fields in their order. It asks for a record.
     fn unwrap_record(&self, alloc: Global) -> Result<Vec<(&str, &Self)>, AllocError>
         requires { kind_of (tree self.now) ≡ WasmTypeKind.Record }
-        ensures { IfOk result (λ v. shown_fields tree v.items ≡ record_fields (tree self.now)) };
+        ensures { IfOk result (λ v. denoted_fields tree v.items ≡ record_fields (tree self.now)) };
 
     /// The case and its payload. It asks for a variant.
     fn unwrap_variant(&self) -> (&str, Option<&Self>)
         requires { kind_of (tree self.now) ≡ WasmTypeKind.Variant }
-        ensures { tree self.now ≡ value.variant result.0.now (maybe_value (shown tree result.1)) };
+        ensures { tree self.now ≡ value.variant result.0.now (maybe_value (denoted tree result.1)) };
 
     /// The case. It asks for an enum.
     fn unwrap_enum(&self) -> &str
@@ -642,12 +642,12 @@ pub trait WasmValue: Sized + Drop {
     /// The payload of `some`, or none. It asks for an option.
     fn unwrap_option(&self) -> Option<&Self>
         requires { kind_of (tree self.now) ≡ WasmTypeKind.Option }
-        ensures { tree self.now ≡ value.option (maybe_value (shown tree result)) };
+        ensures { tree self.now ≡ value.option (maybe_value (denoted tree result)) };
 
     /// The payload of `ok` or of `err`. It asks for a result.
     fn unwrap_result(&self) -> Result<Option<&Self>, Option<&Self>>
         requires { kind_of (tree self.now) ≡ WasmTypeKind.Result }
-        ensures { tree self.now ≡ result_value (shown_either tree result) };
+        ensures { tree self.now ≡ result_value (denoted_either tree result) };
 
     /// The names of the flags in their order. It asks for flags.
     fn unwrap_flags(&self, alloc: Global) -> Result<Vec<&str>, AllocError>
@@ -658,7 +658,7 @@ pub trait WasmValue: Sized + Drop {
     fn unwrap_map(&self, alloc: Global) -> Result<Vec<(&Self, &Self)>, AllocError>
         requires { kind_of (tree self.now) ≡ WasmTypeKind.Map }
         ensures { IfOk result
-            (λ v. shown_pairs tree v.items ≡ leaf_entries (map_entries (tree self.now))) };
+            (λ v. denoted_pairs tree v.items ≡ leaf_entries (map_entries (tree self.now))) };
 
     ghost of_fits: { (v : Self) → (T : TypeTree) → is_of v T → HasType T (tree v) };
 

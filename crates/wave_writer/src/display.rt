@@ -2,7 +2,7 @@
 ghost use Rattle.std.specs.Prelude.{◌≡◌, List, OnOk, Some, true, map};
 ghost use Rattle.std.specs.Fmt.{DisplaysOnOk};
 ghost use Rattle.std.specs.List.{list_all};
-ghost use Rattle.wave_wasm.specs.Borrowed.{shown_all};
+ghost use Rattle.wave_wasm.specs.Borrowed.{denoted_all};
 ghost use Rattle.wave_wasm.specs.Text.{text, has_text, arguments_text, results_text};
 
 use crate::writer::{arguments_to_string, results_to_string, to_string};

@@ -124,7 +124,7 @@ impl<W: TextWrite> Writer<W> {
     ghost use Rattle.wave_wasm.specs.Commas.{enclosed};
     ghost use Rattle.wave_wasm.specs.Lists.{AllOf};
     ghost use Rattle.wave_wasm.specs.ConstructorContracts.{IsOfListKind};
-    ghost use Rattle.wave_wasm.specs.Borrowed.{texts, shown, shown_all};
+    ghost use Rattle.wave_wasm.specs.Borrowed.{texts, denoted, denoted_all};
     ghost use Rattle.wave_wasm.specs.Text.{bool_text, escaped, quoted, quoted_char, text, has_text};
     ghost use Rattle.wave_wasm.specs.TextParts.{number_escape, payload_text, has_payload_text};
 
@@ -210,8 +210,8 @@ impl<W: TextWrite> Writer<W> {
         closing: &str,
     ) -> Result<(), WriterError>
         ensures { Writes
-            (enclosed opening.now (map text (shown_all V.tree items.entry.items)) closing.now)
-            (list_all has_text (shown_all V.tree items.entry.items))
+            (enclosed opening.now (map text (denoted_all V.tree items.entry.items)) closing.now)
+            (list_all has_text (denoted_all V.tree items.entry.items))
             result (W.output self.old) (W.output self.new) }
     {
         self.write_text(opening)?;
@@ -303,8 +303,8 @@ impl<W: TextWrite> Writer<W> {
         payload: Option<&V>,
     ) -> Result<(), WriterError>
         ensures { Writes
-            (payload_text (shown V.tree payload.entry))
-            (has_payload_text (shown V.tree payload.entry))
+            (payload_text (denoted V.tree payload.entry))
+            (has_payload_text (denoted V.tree payload.entry))
             result (W.output self.old) (W.output self.new) }
     {
         match payload {
@@ -491,7 +491,7 @@ impl<W: TextWrite> Writer<W> {
     fn write_scalar(&mut self, c: char) -> Result<(), WriterError>
         ensures { Writes (escaped c) true result (W.output self.old) (W.output self.new) }
     {
-        match short_escape(c) {
+        match named_escape(c) {
             Some(escape) => self.write_text(escape),
             None if is_escaped(c) => self.write_number_escape(c),
             None => {
@@ -671,12 +671,12 @@ fn is_none<V: WasmValue>(val: &V) -> bool
 fn is_plain(c: char) -> bool
     ensures { result ≡ true → escaped c ≡ encode_utf8 c }
 {
-    short_escape(c).is_none() && !is_escaped(c)
+    named_escape(c).is_none() && !is_escaped(c)
 }
 
 /// The escape by a `\` and a letter or the scalar itself, for the scalars that have one.
 #[tactic(auto, unfolding(wave_wasm::specs::Text::escaped))]
-fn short_escape(c: char) -> Option<&'static str>
+fn named_escape(c: char) -> Option<&'static str>
     ensures short { IfSome result (λ s. s.now ≡ escaped c) }
     ensures long { IsNone result → escaped c ≡ (if is_escaped c then number_escape c else encode_utf8 c) }
 {

@@ -10,4 +10,4 @@ pub returns-clause-reading : goal.returns-clause-reading
 returns-clause-reading g c = one_reading _
 
 pub returns-clause-twice : goal.returns-clause-twice
-returns-clause-twice g c = λ labelled own. reads_back_within_twice _ labelled own
+returns-clause-twice g c = λ labelled representable. reads_back_within_twice _ labelled representable

@@ -17,10 +17,10 @@ pub returns-clause-equal : goal.returns-clause-equal
 returns-clause-equal g c = λ T labelled of other also. equal_texts T labelled _ other of also
 
 pub returns-clause-back : goal.returns-clause-back
-returns-clause-back g c = λ T labelled own of. reads_back T labelled own _ of
+returns-clause-back g c = λ T labelled representable of. reads_back T labelled representable _ of
 
 pub returns-clause-again : goal.returns-clause-again
 returns-clause-again g c = λ T n back low. text_means T n _ back low
 
 pub returns-clause-twice : goal.returns-clause-twice
-returns-clause-twice g c = λ T labelled own. reads_back_within_twice T labelled own
+returns-clause-twice g c = λ T labelled representable. reads_back_within_twice T labelled representable

@@ -71,13 +71,13 @@ impl<T: IntoValue, U: IntoValue> IntoValue for Result<T, U> {
     ghost use Rattle.wave_wasm.specs.Types as type;
     ghost use Rattle.wave_wasm.specs.Types.{a_type};
     ghost use Rattle.wave_convert.specs.RustValues.{outcome_value};
-    ghost use Rattle.wave_convert.specs.Private.OwnTypes.{result_is_own};
+    ghost use Rattle.wave_convert.specs.Private.RepresentableTypes.{result_is_representable};
 
     ghost own = { type.result (a_type T.own) (a_type U.own) };
 
     ghost tree = { outcome_value T.tree U.tree };
 
-    ghost is_representable = { result_is_own T.own U.own T.is_representable U.is_representable };
+    ghost is_representable = { result_is_representable T.own U.own T.is_representable U.is_representable };
 
     fn value_type(alloc: Global) -> Result<Type, AllocError> {
         let ok = T::value_type(alloc)?;

@@ -103,13 +103,13 @@ impl<A: IntoValue> IntoValue for (A,) {
     ghost use Rattle.wave_wasm.specs.Types as type;
     ghost use Rattle.wave_wasm.specs.Types.{types_of};
     ghost use Rattle.wave_convert.specs.RustValues.{tuple_value};
-    ghost use Rattle.wave_convert.specs.Private.OwnTypes.{tuple_is_own};
+    ghost use Rattle.wave_convert.specs.Private.RepresentableTypes.{tuple_is_representable};
 
     ghost own = { type.tuple (types_of (A.own ∷ [])) };
 
     ghost tree = { λ parts. tuple_value (A.tree parts.0 ∷ []) };
 
-    ghost is_representable = { tuple_is_own A.own [] (A.is_representable, tt) };
+    ghost is_representable = { tuple_is_representable A.own [] (A.is_representable, tt) };
 
     fn value_type(alloc: Global) -> Result<Type, AllocError> {
         type_of::<A, ()>(alloc)
@@ -126,13 +126,13 @@ impl<A: IntoValue, B: IntoValue> IntoValue for (A, B) {
     ghost use Rattle.wave_wasm.specs.Types as type;
     ghost use Rattle.wave_wasm.specs.Types.{types_of};
     ghost use Rattle.wave_convert.specs.RustValues.{tuple_value};
-    ghost use Rattle.wave_convert.specs.Private.OwnTypes.{tuple_is_own};
+    ghost use Rattle.wave_convert.specs.Private.RepresentableTypes.{tuple_is_representable};
 
     ghost own = { type.tuple (types_of (A.own ∷ B.own ∷ [])) };
 
     ghost tree = { λ parts. tuple_value (A.tree parts.0 ∷ B.tree parts.1 ∷ []) };
 
-    ghost is_representable = { tuple_is_own A.own (B.own ∷ []) (A.is_representable, (B.is_representable, tt)) };
+    ghost is_representable = { tuple_is_representable A.own (B.own ∷ []) (A.is_representable, (B.is_representable, tt)) };
 
     fn value_type(alloc: Global) -> Result<Type, AllocError> {
         type_of::<A, (B, ())>(alloc)
@@ -149,13 +149,13 @@ impl<A: IntoValue, B: IntoValue, C: IntoValue> IntoValue for (A, B, C) {
     ghost use Rattle.wave_wasm.specs.Types as type;
     ghost use Rattle.wave_wasm.specs.Types.{types_of};
     ghost use Rattle.wave_convert.specs.RustValues.{tuple_value};
-    ghost use Rattle.wave_convert.specs.Private.OwnTypes.{tuple_is_own};
+    ghost use Rattle.wave_convert.specs.Private.RepresentableTypes.{tuple_is_representable};
 
     ghost own = { type.tuple (types_of (A.own ∷ B.own ∷ C.own ∷ [])) };
 
     ghost tree = { λ parts. tuple_value (A.tree parts.0 ∷ B.tree parts.1 ∷ C.tree parts.2 ∷ []) };
 
-    ghost is_representable = { tuple_is_own A.own (B.own ∷ C.own ∷ []) (A.is_representable, (B.is_representable, (C.is_representable, tt))) };
+    ghost is_representable = { tuple_is_representable A.own (B.own ∷ C.own ∷ []) (A.is_representable, (B.is_representable, (C.is_representable, tt))) };
 
     fn value_type(alloc: Global) -> Result<Type, AllocError> {
         type_of::<A, (B, (C, ()))>(alloc)
@@ -172,13 +172,13 @@ impl<A: IntoValue, B: IntoValue, C: IntoValue, D: IntoValue> IntoValue for (A, B
     ghost use Rattle.wave_wasm.specs.Types as type;
     ghost use Rattle.wave_wasm.specs.Types.{types_of};
     ghost use Rattle.wave_convert.specs.RustValues.{tuple_value};
-    ghost use Rattle.wave_convert.specs.Private.OwnTypes.{tuple_is_own};
+    ghost use Rattle.wave_convert.specs.Private.RepresentableTypes.{tuple_is_representable};
 
     ghost own = { type.tuple (types_of (A.own ∷ B.own ∷ C.own ∷ D.own ∷ [])) };
 
     ghost tree = { λ parts. tuple_value (A.tree parts.0 ∷ B.tree parts.1 ∷ C.tree parts.2 ∷ D.tree parts.3 ∷ []) };
 
-    ghost is_representable = { tuple_is_own A.own (B.own ∷ C.own ∷ D.own ∷ []) (A.is_representable, (B.is_representable, (C.is_representable, (D.is_representable, tt)))) };
+    ghost is_representable = { tuple_is_representable A.own (B.own ∷ C.own ∷ D.own ∷ []) (A.is_representable, (B.is_representable, (C.is_representable, (D.is_representable, tt)))) };
 
     fn value_type(alloc: Global) -> Result<Type, AllocError> {
         type_of::<A, (B, (C, (D, ())))>(alloc)
@@ -196,13 +196,13 @@ impl<A: IntoValue, B: IntoValue, C: IntoValue, D: IntoValue, E: IntoValue> IntoV
     ghost use Rattle.wave_wasm.specs.Types as type;
     ghost use Rattle.wave_wasm.specs.Types.{types_of};
     ghost use Rattle.wave_convert.specs.RustValues.{tuple_value};
-    ghost use Rattle.wave_convert.specs.Private.OwnTypes.{tuple_is_own};
+    ghost use Rattle.wave_convert.specs.Private.RepresentableTypes.{tuple_is_representable};
 
     ghost own = { type.tuple (types_of (A.own ∷ B.own ∷ C.own ∷ D.own ∷ E.own ∷ [])) };
 
     ghost tree = { λ parts. tuple_value (A.tree parts.0 ∷ B.tree parts.1 ∷ C.tree parts.2 ∷ D.tree parts.3 ∷ E.tree parts.4 ∷ []) };
 
-    ghost is_representable = { tuple_is_own A.own (B.own ∷ C.own ∷ D.own ∷ E.own ∷ []) (A.is_representable, (B.is_representable, (C.is_representable, (D.is_representable, (E.is_representable, tt))))) };
+    ghost is_representable = { tuple_is_representable A.own (B.own ∷ C.own ∷ D.own ∷ E.own ∷ []) (A.is_representable, (B.is_representable, (C.is_representable, (D.is_representable, (E.is_representable, tt))))) };
 
     fn value_type(alloc: Global) -> Result<Type, AllocError> {
         type_of::<A, (B, (C, (D, (E, ()))))>(alloc)
@@ -220,13 +220,13 @@ impl<A: IntoValue, B: IntoValue, C: IntoValue, D: IntoValue, E: IntoValue, F: In
     ghost use Rattle.wave_wasm.specs.Types as type;
     ghost use Rattle.wave_wasm.specs.Types.{types_of};
     ghost use Rattle.wave_convert.specs.RustValues.{tuple_value};
-    ghost use Rattle.wave_convert.specs.Private.OwnTypes.{tuple_is_own};
+    ghost use Rattle.wave_convert.specs.Private.RepresentableTypes.{tuple_is_representable};
 
     ghost own = { type.tuple (types_of (A.own ∷ B.own ∷ C.own ∷ D.own ∷ E.own ∷ F.own ∷ [])) };
 
     ghost tree = { λ parts. tuple_value (A.tree parts.0 ∷ B.tree parts.1 ∷ C.tree parts.2 ∷ D.tree parts.3 ∷ E.tree parts.4 ∷ F.tree parts.5 ∷ []) };
 
-    ghost is_representable = { tuple_is_own A.own (B.own ∷ C.own ∷ D.own ∷ E.own ∷ F.own ∷ [])
+    ghost is_representable = { tuple_is_representable A.own (B.own ∷ C.own ∷ D.own ∷ E.own ∷ F.own ∷ [])
         (A.is_representable, (B.is_representable, (C.is_representable, (D.is_representable, (E.is_representable, (F.is_representable, tt)))))) };
 
     fn value_type(alloc: Global) -> Result<Type, AllocError> {

@@ -7,7 +7,7 @@ use Rattle.wave_wasm.specs.Types as type
 use Rattle.wave_wasm.specs.Types.{TypeTree, Types, HasDistinctNames, EachNamesOfTypes, tuple_parts, type_list, count_of, kind_of}
 use Rattle.wave_wasm.specs.Values as value
 use Rattle.wave_wasm.specs.Values.{Value, values}
-use Rattle.wave_wasm.specs.Borrowed.{shown_all}
+use Rattle.wave_wasm.specs.Borrowed.{denoted_all}
 use Rattle.wave_wasm.specs.ValueErrors.{wrong_number}
 use Rattle.wave_wasm.specs.ConstructorContracts.{IsMemory, MakesTuple, FullTuple, AreOf, HasFullParts}
 use Rattle.wave_wasm.specs.declared.wasm.WasmValueError.{WasmValueError}
@@ -66,9 +66,9 @@ all_has P (y ∷ ys) zero x all h = subst P h all.0
 all_has P (y ∷ ys) (suc i) x all h = all_has P ys i x all.1 h
 
 -- there are as many types as references
-pub as_shown : {S : Type 0} (type_tree : S → TypeTree) (xs : List (Bor S)) → length (shown_all type_tree xs) ≡ length xs
-as_shown type_tree [] = refl
-as_shown type_tree (x ∷ xs) = ap suc (as_shown type_tree xs)
+pub as_denoted : {S : Type 0} (type_tree : S → TypeTree) (xs : List (Bor S)) → length (denoted_all type_tree xs) ≡ length xs
+as_denoted type_tree [] = refl
+as_denoted type_tree (x ∷ xs) = ap suc (as_denoted type_tree xs)
 
 distinct_all : (Ts : Types) → EachNamesOfTypes AreDistinct Ts → AllOf HasDistinctNames (type_list Ts)
 distinct_all type.no_types h = tt

@@ -4,7 +4,7 @@ use Rattle.wave_wasm.specs.Lists.{AllOf}
 use Rattle.wave_grammar.specs.SpannedTree.{SpannedTree, MaybePlaced, no_placed, a_placed, PlacedEntry, entry_list}
 use Rattle.wave_grammar.specs.NodeTree.{NodeTree, type_of, children_of}
 use Rattle.wave_grammar.specs.Nodes.{IsNodeOf, IsParsedFrom}
-use Rattle.wave_grammar.specs.NodeAccessors.{first_of, shown_node, node_pairs, AreValuesWithin, IsValueWithin, IsEntryOf, AreEntriesWithin}
+use Rattle.wave_grammar.specs.NodeAccessors.{first_of, denoted_node, node_pairs, AreValuesWithin, IsValueWithin, IsEntryOf, AreEntriesWithin}
 use Rattle.wave_grammar.specs.TypedReading.{IsValueOf}
 use Rattle.wave_grammar.specs.PartReading.{IsPayloadNodeOf}
 use Rattle.wave_grammar.specs.NodeFields.{IsFieldsOf, field_of}
@@ -50,7 +50,7 @@ entries_within n entries e is = λ source v.
     subst (AllOf (IsEntryOf source)) (sym is) (all_entries source (node_pairs (children_of n)) (entry_list nodes.given) nodes.nodes)
 
 -- the payload of `some`
-pub some_within : (n : NodeTree) (o : Option (Bor NodeTree)) → type_of n ≡ kind.OptionSome → shown_node o ≡ first_of (children_of n) → IsValueWithin n (shown_node o)
+pub some_within : (n : NodeTree) (o : Option (Bor NodeTree)) → type_of n ≡ kind.OptionSome → denoted_node o ≡ first_of (children_of n) → IsValueWithin n (denoted_node o)
 some_within n None e is = tt
 some_within n (Some x) e is = λ source v.
     let k = some_node source n v.0 v.1 e in
@@ -61,14 +61,14 @@ payload_value source m no_placed h = absurd h
 payload_value source m (a_placed t) h = (t, h)
 
 -- the payload of `ok`
-pub ok_within : (n : NodeTree) (o : Option (Bor NodeTree)) → type_of n ≡ kind.ResultOk → shown_node o ≡ first_of (children_of n) → IsValueWithin n (shown_node o)
+pub ok_within : (n : NodeTree) (o : Option (Bor NodeTree)) → type_of n ≡ kind.ResultOk → denoted_node o ≡ first_of (children_of n) → IsValueWithin n (denoted_node o)
 ok_within n None e is = tt
 ok_within n (Some x) e is = λ source v.
     let k = ok_node source n v.0 v.1 e in
     payload_value source x.now k.0 (subst (λ (m : Option NodeTree). IsPayloadNodeOf source m k.0) (sym is) k.2)
 
 -- the payload of `err`
-pub err_within : (n : NodeTree) (o : Option (Bor NodeTree)) → type_of n ≡ kind.ResultErr → shown_node o ≡ first_of (children_of n) → IsValueWithin n (shown_node o)
+pub err_within : (n : NodeTree) (o : Option (Bor NodeTree)) → type_of n ≡ kind.ResultErr → denoted_node o ≡ first_of (children_of n) → IsValueWithin n (denoted_node o)
 err_within n None e is = tt
 err_within n (Some x) e is = λ source v.
     let k = err_node source n v.0 v.1 e in

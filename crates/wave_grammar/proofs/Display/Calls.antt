@@ -25,9 +25,9 @@ use Rattle.wave_lex.proofs.Tokenization.TokenEnds.{EndsBefore, no_longer, prefix
 use Rattle.wave_grammar.specs.Token.{Token, TokenizesTo, paren_open, paren_close}
 use Rattle.wave_grammar.specs.CommaSeparated.{Items}
 use Rattle.wave_grammar.specs.Params.{Params}
-use Rattle.wave_grammar.specs.Tree.{Tree, MaybeTree, no_tree, a_tree, tuple, trees, Takes, levels_of_trees, shown_trees}
+use Rattle.wave_grammar.specs.Tree.{Tree, MaybeTree, no_tree, a_tree, tuple, trees, Takes, levels_of_trees, display_trees}
 use Rattle.wave_grammar.specs.Calls.{SpellsParams, IsCall}
-use Rattle.wave_grammar.specs.DisplayLaws.{ShowsCallAgain, ShownCallKeepsMeaning}
+use Rattle.wave_grammar.specs.DisplayLaws.{ShowsCallAgain, DisplayCallKeepsMeaning}
 use Rattle.wave_grammar.proofs.Unambiguity.Levels.{takes-levels, all-within}
 use Rattle.wave_grammar.proofs.RoundTrip.Tokens.{end_cut}
 use Rattle.wave_grammar.proofs.RoundTrip.Injective.{paren_open_cut, paren_close_cut}
@@ -35,7 +35,7 @@ use Rattle.wave_grammar.proofs.Display.Tokens.{HasShape, cut_shapes}
 use Rattle.wave_grammar.proofs.Display.Trees.{Sound, AreSound, takes_sound, items_keep, sound_trees}
 use Rattle.wave_grammar.proofs.Display.Items.{listed_show}
 use Rattle.wave_grammar.proofs.Display.Tidy.{tidied, parens, shows_all}
-use Rattle.wave_grammar.proofs.Display.Reading.{shown_tidied}
+use Rattle.wave_grammar.proofs.Display.Reading.{display_tidied}
 use Rattle.wave_grammar.proofs.Display.Meaning.{alike_tidy}
 use Rattle.wave_grammar.proofs.Equivalence.LabelSpelling.{AllAlike, alike_back, carries}
 use Rattle.wave_grammar.specs.ParamElaboration.{TreeParams}
@@ -111,7 +111,7 @@ keeps_none : (s name : List ℕ) (params : MaybeTree) (call : IsCall s name para
 keeps_none s name params call e =
     let cut : TokenizesTo (40 ∷ 41 ∷ []) (paren_open ∷ paren_close ∷ []) = paren_open_cut (41 ∷ []) (paren_close ∷ []) (paren_close_cut [] [] end_cut) in
     let (other, same) = call_of s name params no_tree (41 ∷ []) (paren_open ∷ paren_close ∷ []) call cut (inl (refl, refl)) in (
-      record { others = no_tree; call = other; shown = refl },
+      record { others = no_tree; call = other; display = refl },
       λ Ts vs. (λ p. subst (λ (z : List Token). Params Ts z vs) (e ∙ sym same) p, λ p. subst (λ (z : List Token). Params Ts z vs) (same ∙ sym e) p),
     )
 
@@ -122,8 +122,8 @@ keeps_items s name params call prefix items e l h =
     let all : AreSound (trees items) = sound_trees items sound in
     let low : levels_of_trees (trees items) ≤ 100 = all-within 100 paren_close (Takes 100) (takes-levels 100) prefix items [] h in
     let us : List Tree = tidied (trees items) in
-    let x : List ℕ = joined (shown_trees (trees items)) ++ 41 ∷ [] in
-    let (tokens, c, i) = listed_show paren_open paren_close 40 41 (Takes 100) paren_open_cut parens (shown_trees (trees items)) us (shows_all 100 (trees items) all low) [] [] end_cut in
+    let x : List ℕ = joined (display_trees (trees items)) ++ 41 ∷ [] in
+    let (tokens, c, i) = listed_show paren_open paren_close 40 41 (Takes 100) paren_open_cut parens (display_trees (trees items)) us (shows_all 100 (trees items) all low) [] [] end_cut in
     let cut : TokenizesTo (40 ∷ x) (paren_open ∷ tokens) = subst (λ (z : List ℕ). TokenizesTo z (paren_open ∷ tokens)) (append-nil (40 ∷ x)) c in
     let some_items : 0 < length us = as_many items l in
     let alike : AllAlike items us = all_alike items sound in
@@ -131,7 +131,7 @@ keeps_items s name params call prefix items e l h =
       record {
         others = a_tree (tuple (trees us));
         call = other;
-        shown = ap (λ (xs : List (List ℕ)). name ++ in_parens (joined xs)) (shown_tidied (trees items) all);
+        display = ap (λ (xs : List (List ℕ)). name ++ in_parens (joined xs)) (display_tidied (trees items) all);
       },
       λ Ts vs. (
         λ p. subst (λ (z : List Token). Params Ts z vs) (sym same) (params_from Ts 100 tokens us vs some_items i (params_carried Ts items us vs alike (params_to Ts 100 prefix items vs l h (subst (λ (z : List Token). Params Ts z vs) e p)))),
@@ -140,8 +140,8 @@ keeps_items s name params call prefix items e l h =
     )
 
 -- the display of a parsed call
-pub shown_call_keeps : ShownCallKeepsMeaning
-shown_call_keeps s name params call =
+pub display_call_keeps : DisplayCallKeepsMeaning
+display_call_keeps s name params call =
     elim call.spelled [
       | inl (e, f) ↦ subst (Keeps name call.tokens) (sym f) (keeps_none s name params call e)
       | inr (prefix, items, e, l, h, f) ↦ subst (Keeps name call.tokens) (sym f) (keeps_items s name params call prefix items e l h)

@@ -75,7 +75,7 @@ parens_show Item x a p r rest cut =
       (tokens, refl, i),
     )
 
--- a label and what is shown after it
+-- a label and what is displayed after it
 pub label_show : (text : List ℕ) → IsOneToken text (label text) → {A : Type 0} (Inner : Spelling A) (x : List ℕ) (a : A) → StopsFirst x → Shows Inner x a
     → (r : List ℕ) (rest : List Token) → Stops r → TokenizesTo r rest → NoParen rest → (behind : List Token) × TokenizesTo ((text ++ x) ++ r) (label text ∷ behind) × Inner behind a rest
 label_show text one Inner x a first p r rest s cut bare =

@@ -4,10 +4,10 @@ use Rattle.std.proofs.lemmas.List.{append-nil}
 use Rattle.wave_wasm.specs.Types.{TypeTree}
 use Rattle.wave_wasm.specs.Values.{Value}
 use Rattle.wave_grammar.specs.Token.{Token, TokenizesTo}
-use Rattle.wave_grammar.specs.Tree.{Tree, MaybeTree, Trees, TreeEntries, one, tuple, list, empty_braces, no_fields, entries, flags, label, none, some, ok, err, no_tree, a_tree, no_trees, tree_and, no_entries, entry, trees, tree_entries, Takes, levels, shown}
+use Rattle.wave_grammar.specs.Tree.{Tree, MaybeTree, Trees, TreeEntries, one, tuple, list, empty_braces, no_fields, entries, flags, label, none, some, ok, err, no_tree, a_tree, no_trees, tree_and, no_entries, entry, trees, tree_entries, Takes, levels, display}
 use Rattle.wave_grammar.specs.Elaborates.{TreeReads}
 use Rattle.wave_grammar.specs.Denotes.{Means}
-use Rattle.wave_grammar.specs.DisplayLaws.{ShownKeepsMeaning}
+use Rattle.wave_grammar.specs.DisplayLaws.{DisplayKeepsMeaning}
 use Rattle.wave_grammar.proofs.Unambiguity.Levels.{takes-levels, takes-within}
 use Rattle.wave_grammar.proofs.Elaboration.GrammarToTree.{through}
 use Rattle.wave_grammar.proofs.Elaboration.TreeToGrammar.{back}
@@ -18,7 +18,7 @@ use Rattle.wave_grammar.proofs.Display.Tokens.{cut_shapes}
 use Rattle.wave_grammar.proofs.Display.Flags.{names_stay}
 use Rattle.wave_grammar.proofs.Display.Trees.{Sound, MaybeSound, AreSound, AreSoundEntries, takes_sound}
 use Rattle.wave_grammar.proofs.Display.Tidy.{tidy, tidy_maybe, tidied, tidied_entries, are_names, shows}
-use Rattle.wave_grammar.proofs.Display.Reading.{same_name, shown_tidy, levels_tidy}
+use Rattle.wave_grammar.proofs.Display.Reading.{same_name, display_tidy, levels_tidy}
 use Rattle.wave_grammar.proofs.Equivalence.LabelSpelling.{Alike, MaybeAlike, AreAlike, EntriesAlike, alike_back, carries}
 
 mutual
@@ -65,16 +65,16 @@ carried T limit s d n m ts us t u v cut takes other_cut other_takes as_deep alik
     (us, other_cut, back T limit us u v [] stands (carries T t u v alike (subst (λ (z : Tree). TreeReads T z v) (sym is) q)))
 
 -- the display of a parsed tree
-pub shown_keeps : ShownKeepsMeaning
-shown_keeps s t (tokens, cut, (n, takes)) =
+pub display_keeps : DisplayKeepsMeaning
+display_keeps s t (tokens, cut, (n, takes)) =
     let sound : Sound t = (takes_sound n tokens t [] takes (cut_shapes s tokens cut)).0 in
     let (others, other_cut, other_takes) = shows n t sound (takes-levels n tokens t [] takes) [] [] tt end_cut (λ more e. cc) in
-    let again : TokenizesTo (shown t) others = subst (λ (z : List ℕ). TokenizesTo z others) (append-nil (shown t)) other_cut in
+    let again : TokenizesTo (display t) others = subst (λ (z : List ℕ). TokenizesTo z others) (append-nil (display t)) other_cut in
     let deep : levels (tidy t) ≡ levels t = levels_tidy t in
     let alike : Alike t (tidy t) = alike_tidy t sound in (
-      record { tree = tidy t; text = (others, again, (n, other_takes)); levels = deep; shown = shown_tidy t sound },
+      record { tree = tidy t; text = (others, again, (n, other_takes)); levels = deep; display = display_tidy t sound },
       λ T limit v. (
-        carried T limit s (shown t) n n tokens others t (tidy t) v cut takes again other_takes deep alike,
-        carried T limit (shown t) s n n others tokens (tidy t) t v again other_takes cut takes (sym deep) (alike_back t (tidy t) alike),
+        carried T limit s (display t) n n tokens others t (tidy t) v cut takes again other_takes deep alike,
+        carried T limit (display t) s n n others tokens (tidy t) t v again other_takes cut takes (sym deep) (alike_back t (tidy t) alike),
       ),
     )

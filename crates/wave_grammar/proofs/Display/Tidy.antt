@@ -1,4 +1,4 @@
--- What is shown of a tree spells the tree with its names written as they are shown.
+-- The display of a tree spells the tree with its names written as they are displayed.
 use Rattle.std.proofs.Common.{◌≡◌, ℕ, zero, suc, ◌<◌, ◌≤◌, List, [], ◌∷◌, ◌++◌, inl, inr, refl, sym, ap, subst, map, length, append_assoc, arith}
 use Rattle.std.specs.Prelude.{codes}
 use Rattle.wave_wasm.specs.Lists.{AllOf}
@@ -10,7 +10,7 @@ use Rattle.wave_lex.proofs.RegularShapes.Derivatives.{matches_from}
 use Rattle.wave_grammar.specs.Token as token
 use Rattle.wave_grammar.specs.Token.{Token, TokenizesTo, text_of, brace_open, brace_close, paren_open, paren_close, bracket_open, bracket_close, colon}
 use Rattle.wave_grammar.specs.LeafTokens.{name_of}
-use Rattle.wave_grammar.specs.Tree.{Tree, MaybeTree, Trees, TreeEntries, one, tuple, list, empty_braces, no_fields, entries, flags, label, none, some, ok, err, no_tree, a_tree, no_trees, tree_and, no_entries, entry, trees, tree_entries, case_word, word_of, IsKey, KeyAnd, Label, MaybeInParens, BehindWord, Takes, levels, levels_of_maybe, levels_of_trees, levels_of_entries, shown, shown_maybe, shown_trees, shown_entries}
+use Rattle.wave_grammar.specs.Tree.{Tree, MaybeTree, Trees, TreeEntries, one, tuple, list, empty_braces, no_fields, entries, flags, label, none, some, ok, err, no_tree, a_tree, no_trees, tree_and, no_entries, entry, trees, tree_entries, case_word, word_of, IsKey, KeyAnd, Label, MaybeInParens, BehindWord, Takes, levels, levels_of_maybe, levels_of_trees, levels_of_entries, display, display_maybe, display_trees, display_entries}
 use Rattle.wave_grammar.specs.TypedGrammar.{InParens}
 use Rattle.wave_grammar.proofs.Elaboration.GrammarToTree.{not-keyword}
 use Rattle.wave_grammar.proofs.Unambiguity.Levels.{some-level}
@@ -22,7 +22,7 @@ use Rattle.wave_grammar.proofs.Display.Trees.{Sound, MaybeSound, AreSound, AreSo
 use Rattle.wave_grammar.proofs.RoundTrip.Items.{StopsFirst}
 use Rattle.wave_grammar.proofs.Display.Items.{Shows, AllShow, IsClosing, listed_show, parens_show, label_show}
 
--- a label as it is shown
+-- a label as it is displayed
 abbrev pub tidy_label : MaybeTree → List ℕ → List ℕ
 tidy_label no_tree text = text
 tidy_label (a_tree t) text = case_label (name_of text)
@@ -91,7 +91,7 @@ as_many : (texts : List (List ℕ)) → 0 < length texts → 0 < length (map nam
 as_many [] l = l
 as_many (x ∷ more) l = omega arith
 
-flags_show : (n : ℕ) (texts : List (List ℕ)) → Sound (flags texts) → Shows (Takes (suc n)) (shown (flags texts)) (flags (map name_of texts))
+flags_show : (n : ℕ) (texts : List (List ℕ)) → Sound (flags texts) → Shows (Takes (suc n)) (display (flags texts)) (flags (map name_of texts))
 flags_show n texts (l, all, o) r rest s cut bare =
     let (tokens, c, i) = listed_show brace_open brace_close 123 125 Label brace_open_cut braces (map name_of texts) (map name_of texts) (names_show texts all) r rest cut in
     let are : AreNames texts = are_names texts all in (
@@ -120,7 +120,7 @@ ok_token = label_cut (codes "ok") (matches_from (codes "ok") label_or_keyword re
 err_token : IsOneToken (codes "err") (token.label (codes "err"))
 err_token = label_cut (codes "err") (matches_from (codes "err") label_or_keyword refl)
 
-maybe_first : (payload : MaybeTree) → StopsFirst (shown_maybe payload)
+maybe_first : (payload : MaybeTree) → StopsFirst (display_maybe payload)
 maybe_first no_tree r s = s
 maybe_first (a_tree t) r s = refl
 
@@ -132,14 +132,14 @@ some_shows n x t p r rest s cut bare =
     let (behind, c, i) = label_show (codes "some") some_token (InParens (Takes n)) (in_parens x) t (λ q s. refl) (λ q more s cut bare. parens_show (Takes n) x t p q more cut) r rest s cut bare in
     (token.label (codes "some") ∷ behind, c, (t, i, refl))
 
-ok_shows : (n : ℕ) (payload : MaybeTree) → Shows (MaybeInParens (Takes n)) (shown_maybe payload) (tidy_maybe payload) → Shows (Takes (suc n)) (codes "ok" ++ shown_maybe payload) (ok (tidy_maybe payload))
+ok_shows : (n : ℕ) (payload : MaybeTree) → Shows (MaybeInParens (Takes n)) (display_maybe payload) (tidy_maybe payload) → Shows (Takes (suc n)) (codes "ok" ++ display_maybe payload) (ok (tidy_maybe payload))
 ok_shows n payload p r rest s cut bare =
-    let (behind, c, i) = label_show (codes "ok") ok_token (MaybeInParens (Takes n)) (shown_maybe payload) (tidy_maybe payload) (maybe_first payload) p r rest s cut bare in
+    let (behind, c, i) = label_show (codes "ok") ok_token (MaybeInParens (Takes n)) (display_maybe payload) (tidy_maybe payload) (maybe_first payload) p r rest s cut bare in
     (token.label (codes "ok") ∷ behind, c, (tidy_maybe payload, i, refl))
 
-err_shows : (n : ℕ) (payload : MaybeTree) → Shows (MaybeInParens (Takes n)) (shown_maybe payload) (tidy_maybe payload) → Shows (Takes (suc n)) (codes "err" ++ shown_maybe payload) (err (tidy_maybe payload))
+err_shows : (n : ℕ) (payload : MaybeTree) → Shows (MaybeInParens (Takes n)) (display_maybe payload) (tidy_maybe payload) → Shows (Takes (suc n)) (codes "err" ++ display_maybe payload) (err (tidy_maybe payload))
 err_shows n payload p r rest s cut bare =
-    let (behind, c, i) = label_show (codes "err") err_token (MaybeInParens (Takes n)) (shown_maybe payload) (tidy_maybe payload) (maybe_first payload) p r rest s cut bare in
+    let (behind, c, i) = label_show (codes "err") err_token (MaybeInParens (Takes n)) (display_maybe payload) (tidy_maybe payload) (maybe_first payload) p r rest s cut bare in
     (token.label (codes "err") ∷ behind, c, (tidy_maybe payload, i, refl))
 
 bare_shows : (n : ℕ) (text : List ℕ) → HasShape (token.label text) → word_of text ≡ case_word → Shows (Takes (suc n)) text (label text no_tree)
@@ -188,33 +188,33 @@ no_fields_show n r rest s cut bare =
     (brace_open ∷ colon ∷ brace_close ∷ rest, brace_open_cut (58 ∷ 125 ∷ r) (colon ∷ brace_close ∷ rest) (bare_colon_cut (125 ∷ r) (brace_close ∷ rest) (brace_close_cut r rest cut)), inr (inl (refl, refl)))
 
 mutual
-  -- what is shown of a tree spells the tidy one, within the tree's levels
-  pub shows : (n : ℕ) (t : Tree) → Sound t → levels t ≤ n → Shows (Takes n) (shown t) (tidy t)
+  -- the display of a tree spells the tidy one, within the tree's levels
+  pub shows : (n : ℕ) (t : Tree) → Sound t → levels t ≤ n → Shows (Takes n) (display t) (tidy t)
   shows zero t sound l = absurd (omega (arith, some-level t, l))
   shows (suc n) (one t) (shape, leaf) l = leaf_shows n t shape leaf
   shows (suc n) (tuple no_trees) sound l = absurd sound
-  shows (suc n) (tuple (tree_and t more)) sound l = tuple_shows n (shown_trees (tree_and t more)) (tidied (tree_and t more)) (omega arith) (shows_all n (tree_and t more) sound (omega (arith, l)))
-  shows (suc n) (list ts) sound l = list_shows n (shown_trees ts) (tidied ts) (shows_all n ts sound (omega (arith, l)))
+  shows (suc n) (tuple (tree_and t more)) sound l = tuple_shows n (display_trees (tree_and t more)) (tidied (tree_and t more)) (omega arith) (shows_all n (tree_and t more) sound (omega (arith, l)))
+  shows (suc n) (list ts) sound l = list_shows n (display_trees ts) (tidied ts) (shows_all n ts sound (omega (arith, l)))
   shows (suc n) empty_braces sound l = empty_shows n
   shows (suc n) no_fields sound l = no_fields_show n
   shows (suc n) (entries no_entries) sound l = absurd sound
-  shows (suc n) (entries (entry key t more)) sound l = entries_show n (shown_entries (entry key t more)) (tidied_entries (entry key t more)) (omega arith) (shows_entries n (entry key t more) sound (omega (arith, l)))
+  shows (suc n) (entries (entry key t more)) sound l = entries_show n (display_entries (entry key t more)) (tidied_entries (entry key t more)) (omega arith) (shows_entries n (entry key t more) sound (omega (arith, l)))
   shows (suc n) (flags texts) sound l = flags_show n texts sound
   shows (suc n) (label text no_tree) (shape, is, sound) l = bare_shows n text shape is
-  shows (suc n) (label text (a_tree t)) (shape, is, sound) l = case_shows n text (shown t) (tidy t) shape (shows n t sound (omega (arith, l)))
+  shows (suc n) (label text (a_tree t)) (shape, is, sound) l = case_shows n text (display t) (tidy t) shape (shows n t sound (omega (arith, l)))
   shows (suc n) none sound l = none_shows n
-  shows (suc n) (some t) sound l = some_shows n (shown t) (tidy t) (shows n t sound (omega (arith, l)))
+  shows (suc n) (some t) sound l = some_shows n (display t) (tidy t) (shows n t sound (omega (arith, l)))
   shows (suc n) (ok payload) sound l = ok_shows n payload (shows_maybe n payload sound (omega (arith, l)))
   shows (suc n) (err payload) sound l = err_shows n payload (shows_maybe n payload sound (omega (arith, l)))
 
-  shows_maybe : (n : ℕ) (payload : MaybeTree) → MaybeSound payload → levels_of_maybe payload ≤ n → Shows (MaybeInParens (Takes n)) (shown_maybe payload) (tidy_maybe payload)
+  shows_maybe : (n : ℕ) (payload : MaybeTree) → MaybeSound payload → levels_of_maybe payload ≤ n → Shows (MaybeInParens (Takes n)) (display_maybe payload) (tidy_maybe payload)
   shows_maybe n no_tree sound l r rest s cut bare = (rest, cut, inl (refl, bare, refl))
-  shows_maybe n (a_tree t) sound l r rest s cut bare = let (tokens, c, i) = parens_show (Takes n) (shown t) (tidy t) (shows n t sound l) r rest cut in (tokens, c, inr (tidy t, i, refl))
+  shows_maybe n (a_tree t) sound l r rest s cut bare = let (tokens, c, i) = parens_show (Takes n) (display t) (tidy t) (shows n t sound l) r rest cut in (tokens, c, inr (tidy t, i, refl))
 
-  pub shows_all : (n : ℕ) (ts : Trees) → AreSound ts → levels_of_trees ts ≤ n → AllShow (Takes n) (shown_trees ts) (tidied ts)
+  pub shows_all : (n : ℕ) (ts : Trees) → AreSound ts → levels_of_trees ts ≤ n → AllShow (Takes n) (display_trees ts) (tidied ts)
   shows_all n no_trees sound l = tt
   shows_all n (tree_and t more) sound l = (shows n t sound.0 (omega (arith, l)), shows_all n more sound.1 (omega (arith, l)))
 
-  shows_entries : (n : ℕ) (es : TreeEntries) → AreSoundEntries es → levels_of_entries es ≤ n → AllShow (KeyAnd (Takes n)) (shown_entries es) (tidied_entries es)
+  shows_entries : (n : ℕ) (es : TreeEntries) → AreSoundEntries es → levels_of_entries es ≤ n → AllShow (KeyAnd (Takes n)) (display_entries es) (tidied_entries es)
   shows_entries n no_entries sound l = tt
-  shows_entries n (entry key t more) (shape, is, sound, others) l = (entry_shows n key (shown t) (tidy t) shape is (shows n t sound (omega (arith, l))), shows_entries n more others (omega (arith, l)))
+  shows_entries n (entry key t more) (shape, is, sound, others) l = (entry_shows n key (display t) (tidy t) shape is (shows n t sound (omega (arith, l))), shows_entries n more others (omega (arith, l)))

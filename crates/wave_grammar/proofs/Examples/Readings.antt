@@ -20,9 +20,9 @@ use Rattle.wave_lex.proofs.LongestPrefix.ByComputing.{longest_here, token_here}
 use Rattle.wave_grammar.specs.Denotes.{Means}
 use Rattle.wave_grammar.specs.Params.{Params}
 use Rattle.wave_grammar.specs.Tree as tree
-use Rattle.wave_grammar.specs.Tree.{Tree, Takes, word_of, leaf_word, none_word, some_word, ok_word, err_word, case_word, in_order, shown, trees, tree_entries, levels}
+use Rattle.wave_grammar.specs.Tree.{Tree, Takes, word_of, leaf_word, none_word, some_word, ok_word, err_word, case_word, in_order, display, trees, tree_entries, levels}
 use Rattle.wave_grammar.specs.Elaborates.{TreeReads}
-use Rattle.wave_grammar.specs.Calls.{SpellsParams, IsCall, shown_call}
+use Rattle.wave_grammar.specs.Calls.{SpellsParams, IsCall, display_call}
 use Rattle.wave_grammar.proofs.Unambiguity.Values.{apart}
 use Rattle.wave_grammar.proofs.Elaboration.TreeToGrammar.{trees-injective}
 use Rattle.wave_wasm.proofs.Names.NameTests.{none_of}
@@ -212,10 +212,10 @@ labels = (refl, refl)
 -- leaves and keys stand as in the source, flags lose their `%`, a label with a payload keeps it where it is a keyword, one alone keeps it always
 levels_and_displays : (map levels (tree.flags (codes "a" ∷ []) ∷ tree.entries (tree_entries ((one, one_tree) ∷ [])) ∷ tree.label (codes "a") tree.no_tree ∷ tree.some (tree.ok (tree.a_tree tree.none)) ∷ tree.err tree.no_tree ∷ tree.empty_braces ∷ tree.no_fields
     ∷ tree.tuple (trees (one_tree ∷ tree.list (trees (tree.list tree.no_trees ∷ [])) ∷ one_tree ∷ [])) ∷ []) ≡ 1 ∷ 2 ∷ 1 ∷ 3 ∷ 1 ∷ 1 ∷ 1 ∷ 3 ∷ [])
-    × (map shown (tree.tuple (trees (one_tree ∷ tree.one (string (codes "\"\\u{61}\"")) ∷ [])) ∷ tree.list tree.no_trees ∷ tree.empty_braces ∷ tree.no_fields ∷ tree.entries (tree_entries ((label (codes "%a"), one_tree) ∷ (one, tree.none) ∷ []))
+    × (map display (tree.tuple (trees (one_tree ∷ tree.one (string (codes "\"\\u{61}\"")) ∷ [])) ∷ tree.list tree.no_trees ∷ tree.empty_braces ∷ tree.no_fields ∷ tree.entries (tree_entries ((label (codes "%a"), one_tree) ∷ (one, tree.none) ∷ []))
     ∷ tree.flags (codes "%a" ∷ codes "%true" ∷ []) ∷ tree.label (codes "%a") tree.no_tree ∷ tree.label (codes "%a") (tree.a_tree one_tree) ∷ tree.label (codes "%ok") (tree.a_tree one_tree) ∷ tree.some one_tree ∷ tree.ok tree.no_tree ∷ tree.err (tree.a_tree one_tree) ∷ [])
     ≡ map codes ("(1, \"\\u{61}\")" ∷ "[]" ∷ "{}" ∷ "{:}" ∷ "{%a: 1, 1: none}" ∷ "{a, true}" ∷ "%a" ∷ "a(1)" ∷ "%ok(1)" ∷ "some(1)" ∷ "ok" ∷ "err(1)" ∷ []))
-    × (shown_call (codes "f") tree.no_tree ≡ codes "f()") × (shown_call (codes "a:b/c.d@1.0.0") (tree.a_tree (tree.tuple (trees (one_tree ∷ tree.none ∷ [])))) ≡ codes "a:b/c.d@1.0.0(1, none)")
+    × (display_call (codes "f") tree.no_tree ≡ codes "f()") × (display_call (codes "a:b/c.d@1.0.0") (tree.a_tree (tree.tuple (trees (one_tree ∷ tree.none ∷ [])))) ≡ codes "a:b/c.d@1.0.0(1, none)")
 levels_and_displays = (refl, refl, refl, refl)
 
 -- the tree of parameters; none at no type and at an option, one and an option left out, two

@@ -32,11 +32,11 @@ prints_read P Q x a moves p r rest s cut = let (tokens, c, i) = p r rest s cut i
 
 -- a canonical text is read within n levels, where it has no more
 read_within : (T : TypeTree) → HasDistinctLabels T → IsRepresentable T → (v : Value) → HasType T v → (n : ℕ) → height (merged v) ≤ n → (b : ReadBack T v) × (levels b.tree ≤ n)
-read_within T labelled own v of n l = read_back T n v (prints_read (Writes T n) (Reads T n) (text v) (merged v) (moves T own n) (prints T labelled.0 labelled.1 v of n l))
+read_within T labelled representable v of n l = read_back T n v (prints_read (Writes T n) (Reads T n) (text v) (merged v) (moves T representable n) (prints T labelled.0 labelled.1 v of n l))
 
 -- the canonical text of each value of a type that `Type` has, whose names are labels and distinct, reads back
 pub reads_back : (T : TypeTree) → HasDistinctLabels T → IsRepresentable T → ReadsBack T
-reads_back T labelled own v of = (read_within T labelled own v of (height (merged v)) (omega arith)).0
+reads_back T labelled representable v of = (read_within T labelled representable v of (height (merged v)) (omega arith)).0
 
 -- two values of a type whose names are labels and distinct have one canonical text exactly where they are one value, merged
 pub equal_texts : (T : TypeTree) → HasDistinctLabels T → EqualTexts T
@@ -70,11 +70,11 @@ reads_own T distinct n tokens v (s, u, cut) h = (typed T distinct n tokens v [] 
 
 -- a value of the type that was read within n levels has a canonical text of at most twice as many
 pub twice : (T : TypeTree) → HasDistinctLabels T → IsRepresentable T → (n : ℕ) (tokens : List Token) (v : Value) → HasType T v → Reads T n tokens v [] → (b : ReadBack T v) × (levels b.tree ≤ 2 * n)
-twice T labelled own n tokens v of h =
+twice T labelled representable n tokens v of h =
     let (e, low, less) = tidy T n tokens v [] h in
     let fits : height (merged v) ≤ 2 * n = subst (λ (z : Value). height z ≤ 2 * n) (sym e) low in
-    read_within T labelled own v of (2 * n) fits
+    read_within T labelled representable v of (2 * n) fits
 
 -- what is read within n levels has a canonical text of at most twice as many
 pub reads_back_within_twice : (T : TypeTree) → HasDistinctLabels T → IsRepresentable T → ReadsBackWithinTwice T
-reads_back_within_twice T labelled own n tokens v text h = twice T labelled own n tokens v (reads_own T labelled.1 n tokens v text h) h
+reads_back_within_twice T labelled representable n tokens v text h = twice T labelled representable n tokens v (reads_own T labelled.1 n tokens v text h) h

@@ -132,57 +132,57 @@ not_built P Q e tokens a rest p = cc
 
 mutual
   pub moves : (T : TypeTree) → IsRepresentable T → (n : ℕ) → Moves (Writes T n) (Reads T n)
-  moves (type.simple S) own n = stays (Writes (type.simple S) n)
-  moves (type.unreadable kind) own n = stays (Writes (type.unreadable kind) n)
-  moves (type.list E) own n =
-      let w : (can_be_built (type.list E) ≡ true) × (every can_be_built E ≡ true) = and_parts _ _ own in
+  moves (type.simple S) representable n = stays (Writes (type.simple S) n)
+  moves (type.unreadable kind) representable n = stays (Writes (type.unreadable kind) n)
+  moves (type.list E) representable n =
+      let w : (can_be_built (type.list E) ≡ true) × (every can_be_built E ≡ true) = and_parts _ _ representable in
       provided_moves (0 < n) _ _ (list_moves (Writes E (n - 1)) (Reads E (n - 1)) (moves E w.1 (n - 1)))
-  moves (type.fixed E count) own n =
-      let w : (can_be_built (type.fixed E count) ≡ true) × (every can_be_built E ≡ true) = and_parts _ _ own in
+  moves (type.fixed E count) representable n =
+      let w : (can_be_built (type.fixed E count) ≡ true) × (every can_be_built E ≡ true) = and_parts _ _ representable in
       provided_moves (0 < n) _ _ (fixed_moves count (Writes E (n - 1)) (Reads E (n - 1)) (moves E w.1 (n - 1)))
-  moves (type.record_type fs) own n =
-      let w : (can_be_built (type.record_type fs) ≡ true) × (every_field can_be_built fs ≡ true) = and_parts _ _ own in
+  moves (type.record_type fs) representable n =
+      let w : (can_be_built (type.record_type fs) ≡ true) × (every_field can_be_built fs ≡ true) = and_parts _ _ representable in
       provided_moves (0 < n) _ _ (record_moves fs (WritesField fs (n - 1)) (ReadsField fs (n - 1)) (λ name. moves_field fs w.1 (n - 1) name))
-  moves (type.tuple type.no_types) own n = not_built _ _ own
-  moves (type.tuple (type.type_and T more)) own n =
-      let w : (can_be_built (type.tuple (type.type_and T more)) ≡ true) × (every_type can_be_built (type.type_and T more) ≡ true) = and_parts _ _ own in
+  moves (type.tuple type.no_types) representable n = not_built _ _ representable
+  moves (type.tuple (type.type_and T more)) representable n =
+      let w : (can_be_built (type.tuple (type.type_and T more)) ≡ true) × (every_type can_be_built (type.type_and T more) ≡ true) = and_parts _ _ representable in
       let q : (every can_be_built T ≡ true) × (every_type can_be_built more ≡ true) = and_parts _ _ w.1 in
       provided_moves (0 < n) _ _ (tuple_moves (WritesTuple (type.type_and T more) (n - 1)) (ReadsTuple (type.type_and T more) (n - 1))
       (first_moves (Writes T (n - 1)) (Reads T (n - 1)) (WritesFurther more (n - 1)) (ReadsFurther more (n - 1)) (moves T q.0 (n - 1)) (moves_further more q.1 (n - 1))))
-  moves (type.variant cs) own n =
-      let w : (can_be_built (type.variant cs) ≡ true) × (every_case can_be_built cs ≡ true) = and_parts _ _ own in
+  moves (type.variant cs) representable n =
+      let w : (can_be_built (type.variant cs) ≡ true) × (every_case can_be_built cs ≡ true) = and_parts _ _ representable in
       provided_moves (0 < n) _ _ (variant_moves (WritesCase cs (n - 1)) (ReadsCase cs (n - 1)) (λ name. moves_case cs w.1 (n - 1) name))
-  moves (type.enum names) own n = stays (Writes (type.enum names) n)
-  moves (type.option P) own n =
-      let w : (can_be_built (type.option P) ≡ true) × (every can_be_built P ≡ true) = and_parts _ _ own in
+  moves (type.enum names) representable n = stays (Writes (type.enum names) n)
+  moves (type.option P) representable n =
+      let w : (can_be_built (type.option P) ≡ true) × (every can_be_built P ≡ true) = and_parts _ _ representable in
       first_of _ _ _ (provided_moves (0 < n) _ _ (option_moves (Writes P (n - 1)) (Reads P (n - 1)) (moves P w.1 (n - 1))))
-  moves (type.result A B) own n =
-      let q : (can_be_built (type.result A B) ≡ true) × ((every_maybe can_be_built A && every_maybe can_be_built B) ≡ true) = and_parts _ _ own in
+  moves (type.result A B) representable n =
+      let q : (can_be_built (type.result A B) ≡ true) × ((every_maybe can_be_built A && every_maybe can_be_built B) ≡ true) = and_parts _ _ representable in
       let p : (every_maybe can_be_built A ≡ true) × (every_maybe can_be_built B ≡ true) = and_parts _ _ q.1 in
       first_of _ _ _ (provided_moves (0 < n) _ _ (result_moves (WritesPayload A (n - 1)) (ReadsPayload A (n - 1)) (WritesPayload B (n - 1)) (ReadsPayload B (n - 1)) (moves_payload A p.0 (n - 1)) (moves_payload B p.1 (n - 1))))
-  moves (type.flags names) own n = stays (Writes (type.flags names) n)
-  moves (type.map K V) own n =
-      let w : (can_be_built (type.map K V) ≡ true) × (every can_be_built V ≡ true) = and_parts _ _ own in
+  moves (type.flags names) representable n = stays (Writes (type.flags names) n)
+  moves (type.map K V) representable n =
+      let w : (can_be_built (type.map K V) ≡ true) × (every can_be_built V ≡ true) = and_parts _ _ representable in
       provided_moves (0 < n) _ _ (map_moves K (Writes V (n - 1)) (Reads V (n - 1)) (moves V w.1 (n - 1)))
 
   pub moves_payload : (A : MaybeType) → every_maybe can_be_built A ≡ true → (n : ℕ) → Moves (WritesPayload A n) (ReadsPayload A n)
-  moves_payload type.no_type own n = stays r.Bare
-  moves_payload (type.a_type T) own n = payload_moves (Writes T n) (Reads T n) (moves T own n)
+  moves_payload type.no_type representable n = stays r.Bare
+  moves_payload (type.a_type T) representable n = payload_moves (Writes T n) (Reads T n) (moves T representable n)
 
   pub moves_further : (Ts : Types) → every_type can_be_built Ts ≡ true → (n : ℕ) → Moves (WritesFurther Ts n) (ReadsFurther Ts n)
-  moves_further type.no_types own n = stays r.End
-  moves_further (type.type_and T more) own n =
-      let q : (every can_be_built T ≡ true) × (every_type can_be_built more ≡ true) = and_parts _ _ own in
+  moves_further type.no_types representable n = stays r.End
+  moves_further (type.type_and T more) representable n =
+      let q : (every can_be_built T ≡ true) × (every_type can_be_built more ≡ true) = and_parts _ _ representable in
       then_moves (Writes T n) (Reads T n) (WritesFurther more n) (ReadsFurther more n) (moves T q.0 n) (moves_further more q.1 n)
 
   pub moves_field : (fs : Fields) → every_field can_be_built fs ≡ true → (n : ℕ) (name : List ℕ) → Moves (WritesField fs n name) (ReadsField fs n name)
-  moves_field type.no_fields own n name = stays r.Never
-  moves_field (type.field other T more) own n name =
-      let q : (every can_be_built T ≡ true) × (every_field can_be_built more ≡ true) = and_parts _ _ own in
+  moves_field type.no_fields representable n name = stays r.Never
+  moves_field (type.field other T more) representable n name =
+      let q : (every can_be_built T ≡ true) × (every_field can_be_built more ≡ true) = and_parts _ _ representable in
       either_moves _ _ _ _ (provided_moves (name ≡ other) (Writes T n) (Reads T n) (moves T q.0 n)) (moves_field more q.1 n name)
 
   pub moves_case : (cs : Cases) → every_case can_be_built cs ≡ true → (n : ℕ) (name : List ℕ) → Moves (WritesCase cs n name) (ReadsCase cs n name)
-  moves_case type.no_cases own n name = stays r.Never
-  moves_case (type.case_of other T more) own n name =
-      let q : (every_maybe can_be_built T ≡ true) × (every_case can_be_built more ≡ true) = and_parts _ _ own in
+  moves_case type.no_cases representable n name = stays r.Never
+  moves_case (type.case_of other T more) representable n name =
+      let q : (every_maybe can_be_built T ≡ true) × (every_case can_be_built more ≡ true) = and_parts _ _ representable in
       either_moves _ _ _ _ (provided_moves (name ≡ other) (WritesPayload T n) (ReadsPayload T n) (moves_payload T q.0 n)) (moves_case more q.1 n name)

@@ -19,10 +19,10 @@ use Rattle.wave_grammar.specs.declared.form.NodeType.TheVariants as kind
 use Rattle.wave_grammar.proofs.ByKind.Keys.{IsKeyToken, key_token}
 use Rattle.wave_leaf.specs.Private.Keys.{IsDetailed}
 use Rattle.wave_leaf.specs.Leaves.{leaf_node}
-use Rattle.wave_leaf.specs.declared.leaf.Leaf.{Leaf}
+use Rattle.wave_leaf.specs.declared.leaf.LeafToken.{LeafToken}
 
 -- with a detail it is the same refusal, or `InvalidType` where it stood, or out of memory at the key
-pub as_reported : (T : TypeTree) (l : Leaf) (e f : Diagnostic) → IsDetailed T l e f → (f.kind ≡ OutOfMemory) × (f.span ≡ place_of (leaf_node l)) ⊎ (f ≡ e) ⊎ (f.kind ≡ InvalidType) × (f.span ≡ e.span)
+pub as_reported : (T : TypeTree) (l : LeafToken) (e f : Diagnostic) → IsDetailed T l e f → (f.kind ≡ OutOfMemory) × (f.span ≡ place_of (leaf_node l)) ⊎ (f ≡ e) ⊎ (f.kind ≡ InvalidType) × (f.span ≡ e.span)
 as_reported T l e f (inl (other, same)) = inr (inl same)
 as_reported T l e f (inr (inl (is, says))) = inr (inr (ap (λ (r : Refusal). r.kind) says.is, says.stands))
 as_reported T l e f (inr (inr (is, says))) = inl (ap (λ (r : Refusal). r.kind) says.is, says.stands)
@@ -45,7 +45,7 @@ label_named ty text (token.multiline w) h labelled = absurd (cc (sym labelled �
 label_named ty text _ h labelled = absurd h
 
 -- of a key of a map a refusal with the detail blames what it blamed without
-detailed_blame : (Full : TypeTree → Type 0) (T : TypeTree) (K : Simple) (source : List ℕ) (l : Leaf) (p : Range ℕ) (key : Token) (e f : Diagnostic) → T ≡ type.simple K → IsTokenOf source (leaf_node l) p key → IsDetailed T l e f → IsKeyBlamed Full K p key e → IsMapKeyBlamed Full K p key f
+detailed_blame : (Full : TypeTree → Type 0) (T : TypeTree) (K : Simple) (source : List ℕ) (l : LeafToken) (p : Range ℕ) (key : Token) (e f : Diagnostic) → T ≡ type.simple K → IsTokenOf source (leaf_node l) p key → IsDetailed T l e f → IsKeyBlamed Full K p key e → IsMapKeyBlamed Full K p key f
 detailed_blame Full T K source l p key e f is token (inl (other, same)) blamed = subst (IsMapKeyBlamed Full K p key) (sym same) (by blamed)
   where
     by : IsKeyBlamed Full K p key e → IsMapKeyBlamed Full K p key e
@@ -64,5 +64,5 @@ detailed_blame Full T K source l p key e f is token (inr (inl (label, says))) (i
 detailed_blame Full T K source l p key e f is token (inr (inr (label, says))) blamed = inl (ap (λ (r : Refusal). r.kind) says.is)
 
 -- so of a key that was not read
-pub key_reported : {V : Type 0} (tree : V → Value) (of : V → TypeTree → Type 0) (Full : TypeTree → Type 0) (T : TypeTree) (K : Simple) (source : List ℕ) (l : Leaf) (p : Range ℕ) (key : Token) (r : Result V Diagnostic) (e f : Diagnostic) → T ≡ type.simple K → IsTokenOf source (leaf_node l) p key → r ≡ Err e → IsDetailed T l e f → MatchResult r (IsKeyRead tree of K key) (IsKeyBlamed Full K p key) → IsMapKeyBlamed Full K p key f
+pub key_reported : {V : Type 0} (tree : V → Value) (of : V → TypeTree → Type 0) (Full : TypeTree → Type 0) (T : TypeTree) (K : Simple) (source : List ℕ) (l : LeafToken) (p : Range ℕ) (key : Token) (r : Result V Diagnostic) (e f : Diagnostic) → T ≡ type.simple K → IsTokenOf source (leaf_node l) p key → r ≡ Err e → IsDetailed T l e f → MatchResult r (IsKeyRead tree of K key) (IsKeyBlamed Full K p key) → IsMapKeyBlamed Full K p key f
 key_reported {V} tree of Full T K source l p key r e f is token refused reported h = detailed_blame Full T K source l p key e f is token reported (subst (λ (s : Result V Diagnostic). MatchResult s (IsKeyRead tree of K key) (IsKeyBlamed Full K p key)) refused h)

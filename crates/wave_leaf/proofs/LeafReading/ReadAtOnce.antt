@@ -26,7 +26,7 @@ use Rattle.wave_grammar.proofs.ByKind.Leaves.{bool_read, number_read}
 use Rattle.wave_grammar.proofs.ByKind.TextLeaves.{char_read, string_read}
 use Rattle.wave_leaf.specs.Leaves.{leaf_node, IsLeafIn}
 use Rattle.wave_leaf.specs.Reading.{IsReadAs}
-use Rattle.wave_leaf.specs.declared.leaf.Leaf.{Leaf}
+use Rattle.wave_leaf.specs.declared.leaf.LeafToken.{LeafToken}
 use Rattle.wave_leaf.proofs.LeafReading.SimpleTypes.{read_at_kind}
 
 -- ---- strings without escapes
@@ -46,7 +46,7 @@ plain_decodes (b ∷ s) none =
     plain_from b s (b ∷ s) (not_it b apart.0) (s, refl, plain_decodes s apart.1)
 
 -- a string without a `\` between its quotes stands for what stands there
-pub run_stands : (source : List ℕ) (l : Leaf) (x : List ℕ) → l.ty ≡ kind.String → IsLeafIn source l → l.text.now ≡ 34 ∷ (x ++ 34 ∷ []) → list_any is_backslash x ≡ false → StandsFor source (leaf_node l) x
+pub run_stands : (source : List ℕ) (l : LeafToken) (x : List ℕ) → l.ty ≡ kind.String → IsLeafIn source l → l.text.now ≡ 34 ∷ (x ++ 34 ∷ []) → list_any is_backslash x ≡ false → StandsFor source (leaf_node l) x
 run_stands source l x is here own none = inl (is, (x, sym here ∙ own, plain_decodes x none))
 
 -- ---- what is made

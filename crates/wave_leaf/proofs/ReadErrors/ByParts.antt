@@ -14,7 +14,7 @@ use Rattle.wave_lex.specs.declared.error.Detail.{Detail}
 use Rattle.wave_lex.specs.declared.error.Detail.TheVariants as detail
 use Rattle.wave_lex.specs.declared.error.ParserErrorKind.{ParserErrorKind}
 use Rattle.wave_lex.specs.declared.error.ParserErrorKind.TheVariants as why
-use Rattle.wave_leaf.specs.Errors.{AreOwnWords, CauseHasText, HasText, IsSameOrMemory, NeedsMemory, detailed, error_at, static_words}
+use Rattle.wave_leaf.specs.Errors.{AreNoStaticWords, CauseHasText, HasText, IsSameOrMemory, NeedsMemory, detailed, error_at, static_words}
 use Rattle.wave_leaf.specs.Private.Errors.{IsErrorOf}
 use Rattle.wave_leaf.specs.declared.error.Reason.{Reason}
 use Rattle.wave_leaf.specs.declared.error.Reason.TheVariants as reason
@@ -48,13 +48,13 @@ built_again e k p d a b t c h = kept_whole k p d h ∙ same_parts e k p (detail_
 -- an error of words that were copied is one of the words
 pub copied : (k : ParserErrorKind) (p : Range ℕ) (words : Bor (List ℕ)) (copy : String Global) (e : Diagnostic) → string_bytes copy ≡ words.now → IsErrorOf k p (detail.Owned copy) e → IsErrorOf k p (detail.Static words) e
 copied k p words copy e same (inl is) = inl (is ∙ ap (λ (t : List ℕ). detailed k p (Some t)) same)
-copied k p words copy e same (inr own) = inr (subst AreOwnWords same own.0, own.1)
+copied k p words copy e same (inr own) = inr (subst AreNoStaticWords same own.0, own.1)
 
 -- where a detail has a text of its own, so has the error
 text_said : (e : Diagnostic) (d : Detail) → HasText d → detail_text d ≡ e.detail → detail_cause d ≡ e.cause → NeedsMemory e
 text_said e detail.None held t c = absurd held
-text_said e (detail.Static s) held t c = inl (subst (λ o. MatchOption o ⊥ AreOwnWords) t held)
-text_said e (detail.Owned s) held t c = inl (subst (λ o. MatchOption o ⊥ AreOwnWords) t held)
+text_said e (detail.Static s) held t c = inl (subst (λ o. MatchOption o ⊥ AreNoStaticWords) t held)
+text_said e (detail.Owned s) held t c = inl (subst (λ o. MatchOption o ⊥ AreNoStaticWords) t held)
 text_said e (detail.Cause w) held t c = inr (subst (λ o. MatchOption o ⊥ CauseHasText) c held)
 
 -- an error in few bytes is the same, or out of memory

@@ -5,14 +5,14 @@ use Rattle.wave_lex.specs.Errors.{Diagnostic, Says, plainly, refusal_of}
 use Rattle.wave_lex.specs.declared.error.ParserErrorKind.TheVariants.{InvalidType, OutOfMemory}
 use Rattle.wave_grammar.specs.declared.form.NodeType.TheVariants as kind
 use Rattle.wave_grammar.specs.TypeErrors.{key_expected}
-use Rattle.wave_leaf.specs.declared.leaf.Leaf.{Leaf}
+use Rattle.wave_leaf.specs.declared.leaf.LeafToken.{LeafToken}
 
 -- a label is refused as a key of another form than the type takes
-abbrev pub IsOtherLabel : Leaf → Diagnostic → Type 0
+abbrev pub IsOtherLabel : LeafToken → Diagnostic → Type 0
 IsOtherLabel l e = (l.ty ≡ kind.Label) × (refusal_of e ≡ plainly InvalidType)
 
 -- the refusal of such a label with the key that is expected as its detail, or for lack of memory at the label; another refusal as it was
-abbrev pub IsDetailed : TypeTree → Leaf → Diagnostic → Diagnostic → Type 0
+abbrev pub IsDetailed : TypeTree → LeafToken → Diagnostic → Diagnostic → Type 0
 IsDetailed T l e f =
     (IsOtherLabel l e → ⊥) × (f ≡ e)
     ⊎ IsOtherLabel l e × Says f InvalidType e.span (Some (key_expected T))

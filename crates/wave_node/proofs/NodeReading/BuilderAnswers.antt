@@ -2,7 +2,7 @@
 use Rattle.std.proofs.Common.{◌≡◌, ◌≢◌, ◌⊎◌, inl, inr, ℕ, List, Option, Some, None, Bor, Result, Ok, Err, refl, sym, subst, ◌∙◌}
 use Rattle.std.specs.declared.ops.Range.{Range}
 use Rattle.wave_wasm.specs.Types.{TypeTree, kind_of}
-use Rattle.wave_wasm.specs.Borrowed.{shown}
+use Rattle.wave_wasm.specs.Borrowed.{denoted}
 use Rattle.wave_wasm.specs.Values.{Value}
 use Rattle.wave_wasm.specs.TypeText.{kind_word}
 use Rattle.wave_wasm.specs.ValueErrors.{unsupported_type}
@@ -24,8 +24,8 @@ use Rattle.wave_node.specs.KeywordNodes.{RefusesKeyword}
 
 module _ {V S : Type 0} (tree : V → Value) (of : V → TypeTree → Type 0) (Full : TypeTree → Type 0) (o w : Order) (type_tree : S → TypeTree) where
   -- where this type is expected, it is what is read at the type
-  pub expected_read : (source : List ℕ) (n : NodeTree) (expected : Option (Bor S)) (ty : Bor S) (r : Result V Diagnostic) → expected ≡ Some ty → IsReadWhereExpected tree of Full o w (shown type_tree expected) source n r → IsReadAs tree of Full o w (type_tree ty.now) source n r
-  expected_read source n expected ty r e h = subst (λ (d : Option (Bor S)). IsReadWhereExpected tree of Full o w (shown type_tree d) source n r) e h
+  pub expected_read : (source : List ℕ) (n : NodeTree) (expected : Option (Bor S)) (ty : Bor S) (r : Result V Diagnostic) → expected ≡ Some ty → IsReadWhereExpected tree of Full o w (denoted type_tree expected) source n r → IsReadAs tree of Full o w (type_tree ty.now) source n r
+  expected_read source n expected ty r e h = subst (λ (d : Option (Bor S)). IsReadWhereExpected tree of Full o w (denoted type_tree d) source n r) e h
 
   -- that of a record, where one is expected at entries
   pub record_read : (source : List ℕ) (n : NodeTree) (expected : Option TypeTree) (wrapper : Option (Bor S)) (x : Bor S) (r : Result V Diagnostic) → type_of n ≡ kind.TupleSet → IsWrapperWhereExpected type_tree expected kind.TupleSet wrapper x → ((T : TypeTree) → IsWrapper type_tree T (type_of n) wrapper x → IsReadAs tree of Full o w T source n r) → IsReadWhereExpected tree of Full o w expected source n r

@@ -13,7 +13,7 @@ use Rattle.wave_wasm.specs.Names.{IsOneOf, IsNoneOf, AreDistinct, is_one_of}
 use Rattle.wave_wasm.specs.Types as type
 use Rattle.wave_wasm.specs.Types.{TypeTree, Fields, HasDistinctNames, field_names}
 use Rattle.wave_wasm.specs.Values.{Value}
-use Rattle.wave_wasm.specs.Borrowed.{shown_fields}
+use Rattle.wave_wasm.specs.Borrowed.{denoted_fields}
 use Rattle.wave_wasm.specs.ConstructorContracts.{MakesRecord, FullRecord, TypedRecord}
 use Rattle.wave_wasm.specs.declared.wasm.WasmValueError.{WasmValueError}
 use Rattle.wave_lex.specs.Errors.{Diagnostic, refusal_of}
@@ -25,7 +25,7 @@ use Rattle.wave_grammar.specs.TypeErrors.{IsRefusalOf, names_in, IsFor}
 use Rattle.wave_grammar.specs.FaultOrder.{Order, by_type}
 use Rattle.wave_grammar.specs.NodeTree.{NodeTree, NodeTrees, node, no_nodes, node_and, node_list, place_of, children_of, depth, nodes_depth}
 use Rattle.wave_grammar.specs.Nodes.{IsNodeOf}
-use Rattle.wave_grammar.specs.NodeAccessors.{node_pairs, node_text, shown_node}
+use Rattle.wave_grammar.specs.NodeAccessors.{node_pairs, node_text, denoted_node}
 use Rattle.wave_grammar.specs.TypedReading.{IsTypedValue, IsBlamed, IsBuilt, IsValueOf}
 use Rattle.wave_grammar.specs.NodeFields.{IsFieldsOf, field_of, held_at, HoldsFields, IsFieldNode, fields_at}
 use Rattle.wave_grammar.proofs.ChildNodes.Inside.{inside, some_is}
@@ -44,11 +44,11 @@ use Rattle.wave_leaf.specs.Errors.{IsBuiltOrMemory}
 use Rattle.wave_leaf.proofs.ReadErrors.HandedOn.{built_anew}
 
 -- the name and the type at a place, where they are borrowed
-pub part_at : {S : Type 0} (type_tree : S → TypeTree) (xs : List (Bor (List ℕ) × Bor S)) (i : ℕ) (x : Bor (List ℕ) × Bor S) → i < length xs → x ≡ get_or xs i x → HasAt (shown_fields type_tree xs) i (x.0.now, type_tree x.1.now)
+pub part_at : {S : Type 0} (type_tree : S → TypeTree) (xs : List (Bor (List ℕ) × Bor S)) (i : ℕ) (x : Bor (List ℕ) × Bor S) → i < length xs → x ≡ get_or xs i x → HasAt (denoted_fields type_tree xs) i (x.0.now, type_tree x.1.now)
 part_at type_tree xs i x lt is = map_has (λ f. (f.0.now, type_tree f.1.now)) xs i x (place_has xs i x lt is)
 
 -- there are as many parts as references
-pub as_parts : {S : Type 0} (type_tree : S → TypeTree) (xs : List (Bor (List ℕ) × Bor S)) → length (shown_fields type_tree xs) ≡ length xs
+pub as_parts : {S : Type 0} (type_tree : S → TypeTree) (xs : List (Bor (List ℕ) × Bor S)) → length (denoted_fields type_tree xs) ≡ length xs
 as_parts type_tree [] = refl
 as_parts type_tree (x ∷ xs) = ap suc (as_parts type_tree xs)
 
@@ -157,7 +157,7 @@ fields_belong source n [] h = tt
 fields_belong source n (e ∷ es) h = (h.0.1, fields_belong source n es h.1)
 
 -- the value of a field
-pub held_belongs : (source : List ℕ) (n : NodeTree) (names : List (List ℕ)) (old m : BTreeMap (Bor (List ℕ)) (Bor NodeTree)) (fs : List (List ℕ × NodeTree)) (name : List ℕ) (o : Option (Bor NodeTree)) → IsValueOf source n → IsFieldsOf source n fs → HoldsFields old fs → Removed names old m → o ≡ held_at m name → (k : NodeTree) → shown_node o ≡ Some k → BelongsTo n k
+pub held_belongs : (source : List ℕ) (n : NodeTree) (names : List (List ℕ)) (old m : BTreeMap (Bor (List ℕ)) (Bor NodeTree)) (fs : List (List ℕ × NodeTree)) (name : List ℕ) (o : Option (Bor NodeTree)) → IsValueOf source n → IsFieldsOf source n fs → HoldsFields old fs → Removed names old m → o ≡ held_at m name → (k : NodeTree) → denoted_node o ≡ Some k → BelongsTo n k
 held_belongs source n names old m fs name None v given held h is k here = absurd (cc)
 held_belongs source n names old m fs name (Some x) v given held h is k here =
     let over = left_over names old m fs name x held h (sym is) in
@@ -184,7 +184,7 @@ field_below : (source : List ℕ) (n : NodeTree) (name : List ℕ) (m : NodeTree
 field_below source (node ty p ns) name m e = pairs_below source ns name m e
 
 -- the node that the map has at a name nests less deep
-pub held_below : (source : List ℕ) (n : NodeTree) (names : List (List ℕ)) (old m : BTreeMap (Bor (List ℕ)) (Bor NodeTree)) (name : List ℕ) (o : Option (Bor NodeTree)) → HoldsFields old (fields_at source (children_of n)) → Removed names old m → o ≡ held_at m name → depth_of_maybe (shown_node o) < 5 * depth n + 1
+pub held_below : (source : List ℕ) (n : NodeTree) (names : List (List ℕ)) (old m : BTreeMap (Bor (List ℕ)) (Bor NodeTree)) (name : List ℕ) (o : Option (Bor NodeTree)) → HoldsFields old (fields_at source (children_of n)) → Removed names old m → o ≡ held_at m name → depth_of_maybe (denoted_node o) < 5 * depth n + 1
 held_below source (node ty p ns) names old m name None held h is = omega arith
 held_below source n names old m name (Some x) held h is =
     omega (arith, field_below source n name x.now (left_over names old m (fields_at source (children_of n)) name x held h (sym is)).1)

@@ -30,19 +30,19 @@ use Rattle.wave_grammar.proofs.ErrorSpans.Nodes.{caused_at}
 use Rattle.wave_leaf.specs.declared.fault.Fault.{Fault}
 use Rattle.wave_read.specs.Private.NamedFlags.{ReportsCause, ReportsUnknown}
 
--- the names of the flags that were shown
-abbrev pub names_shown : List (Bor (Bor (List ℕ))) → List (List ℕ)
-names_shown ks = texts (map (λ k. k.now) ks)
+-- the names of the flags that were taken
+abbrev pub names_denoted : List (Bor (Bor (List ℕ))) → List (List ℕ)
+names_denoted ks = texts (map (λ k. k.now) ks)
 
 -- with one more
-pub shown_more : (ks : List (Bor (Bor (List ℕ)))) (k : Bor (Bor (List ℕ))) → names_shown (ks ++ k ∷ []) ≡ names_shown ks ++ k.now.now ∷ []
-shown_more [] k = refl
-shown_more (j ∷ ks) k = ap (λ ns. j.now.now ∷ ns) (shown_more ks k)
+pub denoted_more : (ks : List (Bor (Bor (List ℕ)))) (k : Bor (Bor (List ℕ))) → names_denoted (ks ++ k ∷ []) ≡ names_denoted ks ++ k.now.now ∷ []
+denoted_more [] k = refl
+denoted_more (j ∷ ks) k = ap (λ ns. j.now.now ∷ ns) (denoted_more ks k)
 
--- the names of all flags are those that were shown, the next and those after it
-pub shown_first : (all rest left more : List (Bor (List ℕ))) (ks : List (Bor (Bor (List ℕ)))) (r : Option (Bor (Bor (List ℕ)))) (k : Bor (Bor (List ℕ))) → rest ≡ all → Yields (TakesFirst deref) rest ks left → r ≡ Some k → TakesFirst deref left r more → texts all ≡ names_shown ks ++ k.now.now ∷ texts more
-shown_first all rest left more ks r k start shown is step =
-    ap texts (sym start ∙ (rest_so_far deref ks rest left shown ∙ ap (λ l. map deref ks ++ l) (rest_more deref left more r k is step)))
+-- the names of all flags are those that were taken, the next and those after it
+pub denoted_first : (all rest left more : List (Bor (List ℕ))) (ks : List (Bor (Bor (List ℕ)))) (r : Option (Bor (Bor (List ℕ)))) (k : Bor (Bor (List ℕ))) → rest ≡ all → Yields (TakesFirst deref) rest ks left → r ≡ Some k → TakesFirst deref left r more → texts all ≡ names_denoted ks ++ k.now.now ∷ texts more
+denoted_first all rest left more ks r k start so_far is step =
+    ap texts (sym start ∙ (rest_so_far deref ks rest left so_far ∙ ap (λ l. map deref ks ++ l) (rest_more deref left more r k is step)))
     ∙ map-append (λ (n : Bor (List ℕ)). n.now) (map deref ks) (k.now ∷ more)
 
 -- ---- faults
@@ -93,10 +93,10 @@ all_more : (names some : List (List ℕ)) (one : List ℕ) → AreAllOf names so
 all_more names [] one all h = (h, tt)
 all_more names (some ∷ more) one all h = (all.0, all_more names more one all.1 h)
 
--- each flag that was shown has one of the names, the next one too
-pub known_next : (names : List (List ℕ)) (ks : List (Bor (Bor (List ℕ)))) (k : Bor (Bor (List ℕ))) (place : ℕ) → slice_get names place ≡ Some k.now.now → AreAllOf names (names_shown ks) → AreAllOf names (names_shown (ks ++ k ∷ []))
+-- each flag that was taken has one of the names, the next one too
+pub known_next : (names : List (List ℕ)) (ks : List (Bor (Bor (List ℕ)))) (k : Bor (Bor (List ℕ))) (place : ℕ) → slice_get names place ≡ Some k.now.now → AreAllOf names (names_denoted ks) → AreAllOf names (names_denoted (ks ++ k ∷ []))
 known_next names ks k place stands known =
-    subst (AreAllOf names) (sym (shown_more ks k)) (all_more names (names_shown ks) k.now.now known (one_there names place k.now.now stands))
+    subst (AreAllOf names) (sym (denoted_more ks k)) (all_more names (names_denoted ks) k.now.now known (one_there names place k.now.now stands))
 
 -- ---- the names that flags have, under their places
 
@@ -207,16 +207,16 @@ put_found flags (n ∷ names) k (suc place) flag distinct stands =
     by true = ap (λ (o : Ordering). match_ordering o ((k + suc place, flag) ∷ (k, n) ∷ found_at (k + 1) flags names) ((k, flag) ∷ found_at (k + 1) flags names) ((k, n) ∷ insert_entry nat_cmp (found_at (k + 1) flags names) (k + suc place) flag)) (greater (k + suc place) k (omega arith))
     by false = refl
 
--- the next flag that is shown is put under its place
+-- the next flag that is taken is put under its place
 pub placed_next : (names : List (List ℕ)) (ks : List (Bor (Bor (List ℕ)))) (k : Bor (Bor (List ℕ))) (place : ℕ) (es more : List (ℕ × Bor (List ℕ))) → slice_get names place ≡ Some k.now.now → more ≡ insert_entry nat_cmp es place k.now
-    → ArePlaced names (names_shown ks) es → ArePlaced names (names_shown (ks ++ k ∷ [])) more
+    → ArePlaced names (names_denoted ks) es → ArePlaced names (names_denoted (ks ++ k ∷ [])) more
 placed_next names ks k place es more stands put placed distinct =
     let start : place ≡ 0 + place = omega arith in
     ap (map named) put
     ∙ (named_put es place k.now
     ∙ ((λ i. insert_entry nat_cmp (placed distinct i) (start i) k.now.now)
-    ∙ (put_found (names_shown ks) names 0 place k.now.now distinct stands
-    ∙ ap (λ flags. found_at 0 flags names) (sym (shown_more ks k)))))
+    ∙ (put_found (names_denoted ks) names 0 place k.now.now distinct stands
+    ∙ ap (λ flags. found_at 0 flags names) (sym (denoted_more ks k)))))
 
 texts_found : (k : ℕ) (flags names : List (List ℕ)) → map (λ (e : ℕ × List ℕ). e.1) (found_at k flags names) ≡ found_in flags names
 texts_found k flags [] = refl

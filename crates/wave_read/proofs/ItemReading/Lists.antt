@@ -6,7 +6,7 @@ use Rattle.wave_grammar.specs.FaultOrder.{Order}
 use Rattle.wave_wasm.specs.Lists.{AllOf}
 use Rattle.wave_wasm.specs.Types.{TypeTree, HasDistinctNames, list_part, kind_of}
 use Rattle.wave_wasm.specs.Values.{Value}
-use Rattle.wave_wasm.specs.Borrowed.{shown}
+use Rattle.wave_wasm.specs.Borrowed.{denoted}
 use Rattle.wave_wasm.specs.ConstructorContracts.{IsOfListKind, MakesList, FullList, TypedList, HasFullParts}
 use Rattle.wave_wasm.specs.declared.wasm.WasmValueError.{WasmValueError}
 use Rattle.wave_lex.specs.Errors.{Diagnostic, refusal_of}
@@ -72,7 +72,7 @@ module _ {V : Type 0} (tree : V → Value) (of : V → TypeTree → Type 0) (Ful
   held_still E source ns vs (Some e) n some h = refused_still E source e ns n h
 
   -- an item that was read
-  pub item_kept : {S : Type 0} (type_tree : S → TypeTree) (element : Bor S) (source : List ℕ) (ns : List NodeTree) (vs ws : List V) (held : Option Diagnostic) (n : NodeTree) (v : V) → is_some held ≡ false → ReadOrHeld tree of Full w (type_tree element.now) source ns vs held → IsReadWhereExpected tree of Full w w (shown type_tree (unless_held held element)) source n (Ok v) → ws ≡ vs ++ v ∷ [] → ReadOrHeld tree of Full w (type_tree element.now) source (ns ++ n ∷ []) ws held
+  pub item_kept : {S : Type 0} (type_tree : S → TypeTree) (element : Bor S) (source : List ℕ) (ns : List NodeTree) (vs ws : List V) (held : Option Diagnostic) (n : NodeTree) (v : V) → is_some held ≡ false → ReadOrHeld tree of Full w (type_tree element.now) source ns vs held → IsReadWhereExpected tree of Full w w (denoted type_tree (unless_held held element)) source n (Ok v) → ws ≡ vs ++ v ∷ [] → ReadOrHeld tree of Full w (type_tree element.now) source (ns ++ n ∷ []) ws held
   item_kept type_tree element source ns vs ws None n v none h now is = rw is (all_next (type_tree element.now) source ns vs n v h now)
   item_kept type_tree element source ns vs ws (Some e) n v none h now is = absurd (cc)
 
@@ -82,7 +82,7 @@ module _ {V : Type 0} (tree : V → Value) (of : V → TypeTree → Type 0) (Ful
   item_read_at_once type_tree element source ns vs ws (Some e) n v none h now is = absurd (cc)
 
   -- the first that was refused
-  pub refusal_held : {S : Type 0} (type_tree : S → TypeTree) (element : Bor S) (source : List ℕ) (ns : List NodeTree) (vs : List V) (held : Option Diagnostic) (n : NodeTree) (e : Diagnostic) → is_some held ≡ false → ReadOrHeld tree of Full w (type_tree element.now) source ns vs held → IsReadWhereExpected tree of Full w w (shown type_tree (unless_held held element)) source n (Err e) → ReadOrHeld tree of Full w (type_tree element.now) source (ns ++ n ∷ []) vs (Some e)
+  pub refusal_held : {S : Type 0} (type_tree : S → TypeTree) (element : Bor S) (source : List ℕ) (ns : List NodeTree) (vs : List V) (held : Option Diagnostic) (n : NodeTree) (e : Diagnostic) → is_some held ≡ false → ReadOrHeld tree of Full w (type_tree element.now) source ns vs held → IsReadWhereExpected tree of Full w w (denoted type_tree (unless_held held element)) source n (Err e) → ReadOrHeld tree of Full w (type_tree element.now) source (ns ++ n ∷ []) vs (Some e)
   refusal_held type_tree element source ns vs None n e none before now = refused_next (type_tree element.now) source e ns vs n before now
   refusal_held type_tree element source ns vs (Some f) n e none before now = absurd (cc)
 

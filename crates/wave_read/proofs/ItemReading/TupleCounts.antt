@@ -6,7 +6,7 @@ use Rattle.wave_grammar.specs.FaultOrder.{Order, by_type}
 use Rattle.wave_wasm.specs.Types.{TypeTree}
 use Rattle.wave_wasm.specs.Values.{Value}
 use Rattle.wave_wasm.specs.ValueErrors.{wrong_number}
-use Rattle.wave_wasm.specs.Borrowed.{shown_all}
+use Rattle.wave_wasm.specs.Borrowed.{denoted_all}
 use Rattle.wave_wasm.specs.ConstructorContracts.{HasFullParts}
 use Rattle.wave_lex.specs.Errors.{Diagnostic, refusal_of, caused}
 use Rattle.wave_grammar.specs.NodeTree.{NodeTree, node, node_trees}
@@ -16,7 +16,7 @@ use Rattle.wave_leaf.specs.PlainReading.{IsReadSparing}
 use Rattle.wave_leaf.specs.Reading.{IsReadAs}
 use Rattle.wave_read.specs.KeptParts.{AreKeptWhereExpected, AreOfType}
 use Rattle.wave_grammar.specs.NodeParts.{IsOfParts}
-use Rattle.wave_grammar.proofs.ByKind.Tuples.{as_shown}
+use Rattle.wave_grammar.proofs.ByKind.Tuples.{as_denoted}
 use Rattle.wave_read.specs.PartsOfKinds.{AreRefusedAtOnce, IsSimpleAt, AreParts}
 use Rattle.wave_read.specs.TupleParts.{IsRow}
 use Rattle.wave_read.specs.declared.parts.Partial.TheVariants as parts
@@ -29,7 +29,7 @@ module _ {S V : Type 0} (type_tree : S → TypeTree) (tree : V → Value) (of : 
   row_reported : (T : TypeTree) (ty : NodeType) → (ty ≡ kind.Tuple) × IsRow type_tree tree of Full w T source [] row → length children ≢ length row.types.items → refusal_of e ≡ caused (wrong_number (length row.types.items) (length children)) → e.span ≡ place → IsReadAs tree of Full by_type w T source (node ty place (node_trees children)) (Err e)
   row_reported T ty (is, h) apart refused stands =
       subst (λ (k : NodeType). IsReadAs tree of Full by_type w T source (node k place (node_trees children)) (Err e)) (sym is)
-      (count_refused tree of Full by_type w T (shown_all type_tree row.types.items) source place children (length row.types.items) (length children) e h.kind h.parts (sym (as_shown type_tree row.types.items)) refl apart (λ Ts is distinct items nodes. tt) refused stands)
+      (count_refused tree of Full by_type w T (denoted_all type_tree row.types.items) source place children (length row.types.items) (length children) e h.kind h.parts (sym (as_denoted type_tree row.types.items)) refl apart (λ Ts is distinct items nodes. tt) refused stands)
 
   -- where no part was read yet, another number of items than of types is told of the whole
   pub count_reported : HasFullParts Full → (expected : Option TypeTree) (ty : NodeType) (x : Frame S V) → x.parts ≡ parts.TupleItems row → length children ≢ length row.types.items → refusal_of e ≡ caused (wrong_number (length row.types.items) (length children)) → e.span ≡ place → AreKeptWhereExpected type_tree tree of Full w expected source ty [] x → IsReadSparing tree of Full by_type w expected source (node ty place (node_trees children)) (Err e)

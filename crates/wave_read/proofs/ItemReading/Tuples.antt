@@ -9,7 +9,7 @@ use Rattle.wave_wasm.specs.Types as type
 use Rattle.wave_wasm.specs.Types.{TypeTree, Types, HasDistinctNames, tuple_parts, type_list, kind_of}
 use Rattle.wave_wasm.specs.Values.{Value}
 use Rattle.wave_wasm.specs.ValueErrors.{wrong_number}
-use Rattle.wave_wasm.specs.Borrowed.{shown, shown_all}
+use Rattle.wave_wasm.specs.Borrowed.{denoted, denoted_all}
 use Rattle.wave_wasm.specs.ConstructorContracts.{MakesTuple, FullTuple, HasFullParts, TypedTuple, AreOf}
 use Rattle.wave_wasm.specs.declared.wasm.WasmTypeKind.TheVariants as kinds
 use Rattle.wave_wasm.specs.declared.wasm.WasmValueError.{WasmValueError}
@@ -95,7 +95,7 @@ module _ {V : Type 0} (tree : V → Value) (of : V → TypeTree → Type 0) (Ful
 
   module _ {S : Type 0} (type_tree : S → TypeTree) (source : List ℕ) where
     -- an item where none is expected
-    pub each_beyond : (types : List (Bor S)) (ns : List NodeTree) (vs : List V) (n : NodeTree) → is_some (slice_get types (length vs)) ≡ false → AreReadEach tree of Full w (shown_all type_tree types) source ns vs → AreReadEach tree of Full w (shown_all type_tree types) source (ns ++ n ∷ []) vs
+    pub each_beyond : (types : List (Bor S)) (ns : List NodeTree) (vs : List V) (n : NodeTree) → is_some (slice_get types (length vs)) ≡ false → AreReadEach tree of Full w (denoted_all type_tree types) source ns vs → AreReadEach tree of Full w (denoted_all type_tree types) source (ns ++ n ∷ []) vs
     each_beyond [] [] [] n none h = tt
     each_beyond [] [] (v ∷ vs) n none h = absurd h
     each_beyond [] (m ∷ ns) [] n none h = tt
@@ -106,7 +106,7 @@ module _ {V : Type 0} (tree : V → Value) (of : V → TypeTree → Type 0) (Ful
     each_beyond (x ∷ xs) (m ∷ ns) (v ∷ vs) n none h = (h.0, each_beyond xs ns vs n none h.1)
 
     -- an item that was read
-    pub each_next : (types : List (Bor S)) (ns : List NodeTree) (vs : List V) (n : NodeTree) (v : V) → is_some (slice_get types (length vs)) ≡ true → AreReadEach tree of Full w (shown_all type_tree types) source ns vs → IsReadWhereExpected tree of Full w w (shown type_tree (slice_get types (length vs))) source n (Ok v) → AreReadEach tree of Full w (shown_all type_tree types) source (ns ++ n ∷ []) (vs ++ v ∷ [])
+    pub each_next : (types : List (Bor S)) (ns : List NodeTree) (vs : List V) (n : NodeTree) (v : V) → is_some (slice_get types (length vs)) ≡ true → AreReadEach tree of Full w (denoted_all type_tree types) source ns vs → IsReadWhereExpected tree of Full w w (denoted type_tree (slice_get types (length vs))) source n (Ok v) → AreReadEach tree of Full w (denoted_all type_tree types) source (ns ++ n ∷ []) (vs ++ v ∷ [])
     each_next [] ns vs n v some h now = absurd (cc)
     each_next (x ∷ xs) [] [] n v some h now = (now, tt)
     each_next (x ∷ xs) [] (u ∷ vs) n v some h now = absurd h
@@ -116,10 +116,10 @@ module _ {V : Type 0} (tree : V → Value) (of : V → TypeTree → Type 0) (Ful
     -- the type that is expected, where what was read was refused
     record TypeExpected (types : List (Bor S)) (ns : List NodeTree) (n : NodeTree) (e : Diagnostic) : Type 0 where
       pub part : TypeTree
-      pub here : HasAt (shown_all type_tree types) (length ns) part
+      pub here : HasAt (denoted_all type_tree types) (length ns) part
       pub refused : IsReadAs tree of Full w w part source n (Err e)
 
-    type_expected : (types : List (Bor S)) (ns : List NodeTree) (vs : List V) (n : NodeTree) (e : Diagnostic) → is_some (slice_get types (length vs)) ≡ true → AreReadEach tree of Full w (shown_all type_tree types) source ns vs → IsReadWhereExpected tree of Full w w (shown type_tree (slice_get types (length vs))) source n (Err e) → TypeExpected types ns n e
+    type_expected : (types : List (Bor S)) (ns : List NodeTree) (vs : List V) (n : NodeTree) (e : Diagnostic) → is_some (slice_get types (length vs)) ≡ true → AreReadEach tree of Full w (denoted_all type_tree types) source ns vs → IsReadWhereExpected tree of Full w w (denoted type_tree (slice_get types (length vs))) source n (Err e) → TypeExpected types ns n e
     type_expected [] ns vs n e some h now = absurd (cc)
     type_expected (x ∷ xs) [] [] n e some h now = record { part = type_tree x.now; here = refl; refused = now }
     type_expected (x ∷ xs) [] (u ∷ vs) n e some h now = absurd h
@@ -142,10 +142,10 @@ module _ {V : Type 0} (tree : V → Value) (of : V → TypeTree → Type 0) (Ful
         })
 
     -- an item that was refused
-    pub item_refused : (T : TypeTree) (types : List (Bor S)) (ns : List NodeTree) (vs : List V) (n : NodeTree) (e : Diagnostic) → HasFullParts Full → kind_of T ≡ kinds.Tuple → shown_all type_tree types ≡ tuple_parts T → is_some (slice_get types (length vs)) ≡ true → AreReadEach tree of Full w (shown_all type_tree types) source ns vs → IsReadWhereExpected tree of Full w w (shown type_tree (slice_get types (length vs))) source n (Err e) → IsRefusedWhateverFollows tree of Full in_text w T source kind.Tuple (ns ++ n ∷ []) (fault.Part e)
+    pub item_refused : (T : TypeTree) (types : List (Bor S)) (ns : List NodeTree) (vs : List V) (n : NodeTree) (e : Diagnostic) → HasFullParts Full → kind_of T ≡ kinds.Tuple → denoted_all type_tree types ≡ tuple_parts T → is_some (slice_get types (length vs)) ≡ true → AreReadEach tree of Full w (denoted_all type_tree types) source ns vs → IsReadWhereExpected tree of Full w w (denoted type_tree (slice_get types (length vs))) source n (Err e) → IsRefusedWhateverFollows tree of Full in_text w T source kind.Tuple (ns ++ n ∷ []) (fault.Part e)
     item_refused T types ns vs n e full tuples parts some h now =
         let expected = type_expected types ns vs n e some h now in
-        item_rejects T expected.part (shown_all type_tree types) ns vs n e full (tuple_is T (shown_all type_tree types) (sym tuples) parts) h expected.here expected.refused
+        item_rejects T expected.part (denoted_all type_tree types) ns vs n e full (tuple_is T (denoted_all type_tree types) (sym tuples) parts) h expected.here expected.refused
 
   -- ---- the whole
 

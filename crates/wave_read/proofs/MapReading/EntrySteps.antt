@@ -8,7 +8,7 @@ use Rattle.wave_wasm.specs.Types.{TypeTree, HasDistinctNames}
 use Rattle.wave_wasm.specs.Values.{Value}
 use Rattle.wave_wasm.specs.HasType.{HasType}
 use Rattle.wave_wasm.specs.Merge.{merge}
-use Rattle.wave_wasm.specs.Borrowed.{shown}
+use Rattle.wave_wasm.specs.Borrowed.{denoted}
 use Rattle.wave_wasm.specs.ConstructorContracts.{MakesMap, FullMap, TypedMap, HasFullParts}
 use Rattle.wave_wasm.specs.declared.wasm.WasmValueError.{WasmValueError}
 use Rattle.wave_lex.specs.Errors.{Diagnostic}
@@ -76,11 +76,11 @@ module _ {V : Type 0} (tree : V → Value) (of : V → TypeTree → Type 0) (Ful
     read_for_value key waits = subst (AreReadInTurn tree of Full w (type_tree x.key_type.now) (type_tree x.value_type.now) source children x.entries.items) waits h.read
 
     -- the value after the key that waits was read at its type
-    expected_type : (key : V) (n : NodeTree) (r : Result V Diagnostic) → x.key ≡ Some key → IsReadWhereExpected tree of Full w w (shown type_tree (value_type_expected x)) source n r → IsReadAs tree of Full w w (type_tree x.value_type.now) source n r
-    expected_type key n r waits read = subst (λ (o : Option V). IsReadWhereExpected tree of Full w w (shown type_tree (option_map (λ k. x.value_type) o)) source n r) waits read
+    expected_type : (key : V) (n : NodeTree) (r : Result V Diagnostic) → x.key ≡ Some key → IsReadWhereExpected tree of Full w w (denoted type_tree (value_type_expected x)) source n r → IsReadAs tree of Full w w (type_tree x.value_type.now) source n r
+    expected_type key n r waits read = subst (λ (o : Option V). IsReadWhereExpected tree of Full w w (denoted type_tree (option_map (λ k. x.value_type) o)) source n r) waits read
 
     -- a value was read
-    pub value_taken : (n : NodeTree) (r : Result V Diagnostic) (key v : V) (keys : Option V) (all : Vec (V × V) Global) → x.key ≡ Some key → r ≡ Ok v → IsReadWhereExpected tree of Full w w (shown type_tree (value_type_expected x)) source n r → keys ≡ None → all.items ≡ x.entries.items ++ (key, v) ∷ [] → AreEntries type_tree tree of Full w T source (children ++ n ∷ []) (record x { entries = all; key = keys })
+    pub value_taken : (n : NodeTree) (r : Result V Diagnostic) (key v : V) (keys : Option V) (all : Vec (V × V) Global) → x.key ≡ Some key → r ≡ Ok v → IsReadWhereExpected tree of Full w w (denoted type_tree (value_type_expected x)) source n r → keys ≡ None → all.items ≡ x.entries.items ++ (key, v) ∷ [] → AreEntries type_tree tree of Full w T source (children ++ n ∷ []) (record x { entries = all; key = keys })
     value_taken n r key v keys all waits built read no_key is =
         let here : IsReadAs tree of Full w w (type_tree x.value_type.now) source n (Ok v) = subst (IsReadAs tree of Full w w (type_tree x.value_type.now) source n) built (expected_type key n r waits read) in
         let more : AreReadInTurn tree of Full w (type_tree x.key_type.now) (type_tree x.value_type.now) source (children ++ n ∷ []) (x.entries.items ++ (key, v) ∷ []) None = value_more tree of Full o w (type_tree x.key_type.now) (type_tree x.value_type.now) source children x.entries.items n key v (read_for_value key waits) here in
@@ -101,7 +101,7 @@ module _ {V : Type 0} (tree : V → Value) (of : V → TypeTree → Type 0) (Ful
         absurd (cc (sym waits ∙ is))
 
     -- a value was refused
-    pub value_refused : (n : NodeTree) (r : Result V Diagnostic) (e : Diagnostic) → HasFullParts Full → TakesPart kind.TupleSet children → r ≡ Err e → IsReadWhereExpected tree of Full w w (shown type_tree (value_type_expected x)) source n r → IsRefusedWhateverFollows tree of Full o w T source kind.TupleSet (children ++ n ∷ []) (fault.Part e)
+    pub value_refused : (n : NodeTree) (r : Result V Diagnostic) (e : Diagnostic) → HasFullParts Full → TakesPart kind.TupleSet children → r ≡ Err e → IsReadWhereExpected tree of Full w w (denoted type_tree (value_type_expected x)) source n r → IsRefusedWhateverFollows tree of Full o w T source kind.TupleSet (children ++ n ∷ []) (fault.Part e)
     value_refused n r e parts odd built read =
         let (key, waits) = key_before_value odd in
         let here : IsReadAs tree of Full w w (type_tree x.value_type.now) source n (Err e) = subst (IsReadAs tree of Full w w (type_tree x.value_type.now) source n) built (expected_type key n r waits read) in

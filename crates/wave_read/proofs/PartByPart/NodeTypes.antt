@@ -5,14 +5,14 @@ use Rattle.wave_wasm.specs.Types as type
 use Rattle.wave_wasm.specs.Types.{TypeTree, Types, kind_of, tuple_parts, type_list, count_of}
 use Rattle.wave_wasm.specs.declared.wasm.WasmTypeKind.TheVariants as kinds
 use Rattle.wave_wasm.specs.Values.{Value}
-use Rattle.wave_wasm.specs.Borrowed.{shown_all}
+use Rattle.wave_wasm.specs.Borrowed.{denoted_all}
 use Rattle.wave_lex.specs.Errors.{Diagnostic}
 use Rattle.wave_grammar.specs.FaultOrder.{Order, by_type}
 use Rattle.wave_grammar.specs.NodeParts.{IsOfParts}
 use Rattle.wave_grammar.specs.NodeTree.{NodeTree, node, node_trees}
 use Rattle.wave_grammar.specs.declared.form.NodeType.{NodeType}
 use Rattle.wave_grammar.specs.declared.form.NodeType.TheVariants as node_type
-use Rattle.wave_grammar.proofs.ByKind.Tuples.{as_shown, counted}
+use Rattle.wave_grammar.proofs.ByKind.Tuples.{as_denoted, counted}
 use Rattle.wave_leaf.specs.Leaves.{IsSimpleOrUnreadable}
 use Rattle.wave_leaf.specs.PlainReading.{IsReadSparing}
 use Rattle.wave_leaf.specs.Faults.{IsOfKind, Reports}
@@ -91,8 +91,8 @@ module _ {S V : Type 0} (type_tree : S → TypeTree) (tree : V → Value) (of : 
   -- the row of a tuple has as many types as the tuple
   row_counted : (Ts : Types) (U : TypeTree) (x : Partial S V) (count : ℕ) → type.tuple Ts ≡ U → ((r : TupleItems S V) → x ≡ parts.TupleItems r → count ≡ length r.types.items) → IsRowOrSimple U x → count ≡ count_of Ts
   row_counted Ts U x count is rows (inl (r, row, h)) =
-      let types : shown_all type_tree r.types.items ≡ type_list Ts = h.parts ∙ ap tuple_parts (sym is) in
-      rows r row ∙ (sym (as_shown type_tree r.types.items) ∙ (ap length types ∙ counted Ts))
+      let types : denoted_all type_tree r.types.items ≡ type_list Ts = h.parts ∙ ap tuple_parts (sym is) in
+      rows r row ∙ (sym (as_denoted type_tree r.types.items) ∙ (ap length types ∙ counted Ts))
   row_counted Ts U x count is rows (inr simple) = absurd (subst IsSimpleOrUnreadable (sym is) simple)
 
   -- neither a row nor a simple type wraps a flat payload

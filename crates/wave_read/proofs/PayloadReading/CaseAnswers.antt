@@ -9,7 +9,7 @@ use Rattle.wave_wasm.specs.Types as type
 use Rattle.wave_wasm.specs.Types.{TypeTree, HasDistinctNames, kind_of, variant_parts}
 use Rattle.wave_wasm.specs.Values.{Value}
 use Rattle.wave_wasm.specs.ValueErrors.{unknown_case, unexpected_payload}
-use Rattle.wave_wasm.specs.Borrowed.{shown, shown_case}
+use Rattle.wave_wasm.specs.Borrowed.{denoted, denoted_case}
 use Rattle.wave_wasm.specs.ConstructorContracts.{HasFullParts, MakesVariant, FullVariant, TypedVariant}
 use Rattle.wave_wasm.specs.declared.wasm.WasmTypeKind.TheVariants as kinds
 use Rattle.wave_wasm.specs.declared.wasm.WasmValueError.{WasmValueError}
@@ -54,7 +54,7 @@ module _ {S V : Type 0} (type_tree : S → TypeTree) (tree : V → Value) (of : 
   -- ---- the label
 
   -- a case with a payload was found by the name
-  pub label_of : (T U : TypeTree) (source : List ℕ) (label : NodeTree) (name : List ℕ) (found : Option (Bor (List ℕ) × Option (Bor S))) (case : Bor (List ℕ) × Bor S) (o : Option (Bor S)) → T ≡ U → name ≡ name_of (node_text source label) → option_map (shown_case type_tree) found ≡ find (λ c. bytes_eq name c.0) (variant_parts U)
+  pub label_of : (T U : TypeTree) (source : List ℕ) (label : NodeTree) (name : List ℕ) (found : Option (Bor (List ℕ) × Option (Bor S))) (case : Bor (List ℕ) × Bor S) (o : Option (Bor S)) → T ≡ U → name ≡ name_of (node_text source label) → option_map (denoted_case type_tree) found ≡ find (λ c. bytes_eq name c.0) (variant_parts U)
       → found ≡ Some (case.0, o) → o ≡ Some case.1 → IsLabelOf type_tree tree of Full w T source label case
   label_of T U source label name found case o same named here is payload_is =
       let h = case_named type_tree T U name found same here case.0 o (Some case.1) is payload_is in
@@ -113,7 +113,7 @@ module _ {S V : Type 0} (type_tree : S → TypeTree) (tree : V → Value) (of : 
         typed = tt;
       })
 
-  refused : (T : TypeTree) (source : List ℕ) (children : List NodeTree) (n : NodeTree) (case : Option (Bor (List ℕ) × Bor S)) (payload : Option V) (error : Diagnostic) → HasFullParts Full → kind_of T ≡ kinds.Variant → length children ≡ 1 → IsCaseRead type_tree tree of Full w T source children case payload → IsReadWhereExpected tree of Full w w (shown type_tree (option_map (λ c. c.1) case)) source n (Err error) → IsRefusedWhateverFollows tree of Full o w T source kind.VariantWithPayload (children ++ n ∷ []) (fault.Part error)
+  refused : (T : TypeTree) (source : List ℕ) (children : List NodeTree) (n : NodeTree) (case : Option (Bor (List ℕ) × Bor S)) (payload : Option V) (error : Diagnostic) → HasFullParts Full → kind_of T ≡ kinds.Variant → length children ≡ 1 → IsCaseRead type_tree tree of Full w T source children case payload → IsReadWhereExpected tree of Full w w (denoted type_tree (option_map (λ c. c.1) case)) source n (Err error) → IsRefusedWhateverFollows tree of Full o w T source kind.VariantWithPayload (children ++ n ∷ []) (fault.Part error)
   refused T source [] n case payload error parts is count h read = absurd (omega (arith, count))
   refused T source (c ∷ []) n None payload error parts is count h read = absurd h
   refused T source (c ∷ []) n (Some case) None error parts is count h read = reported_of_payload T source c n case error parts is h read
@@ -121,9 +121,9 @@ module _ {S V : Type 0} (type_tree : S → TypeTree) (tree : V → Value) (of : 
   refused T source (c ∷ d ∷ more) n case payload error parts is count h read = absurd (omega (arith, count))
 
   -- the payload was refused
-  pub part_refused : (T : TypeTree) (source : List ℕ) (children : List NodeTree) (n : NodeTree) (x : CasePayload S V) (built : Result V Diagnostic) (error : Diagnostic) → HasFullParts Full → length children ≡ 1 → built ≡ Err error → AreCaseParts type_tree tree of Full w T source children x → IsReadWhereExpected tree of Full w w (shown type_tree (payload_expected x)) source n built → IsRefusedWhateverFollows tree of Full o w T source kind.VariantWithPayload (children ++ n ∷ []) (fault.Part error)
+  pub part_refused : (T : TypeTree) (source : List ℕ) (children : List NodeTree) (n : NodeTree) (x : CasePayload S V) (built : Result V Diagnostic) (error : Diagnostic) → HasFullParts Full → length children ≡ 1 → built ≡ Err error → AreCaseParts type_tree tree of Full w T source children x → IsReadWhereExpected tree of Full w w (denoted type_tree (payload_expected x)) source n built → IsRefusedWhateverFollows tree of Full o w T source kind.VariantWithPayload (children ++ n ∷ []) (fault.Part error)
   part_refused T source children n x built error parts count failed h read =
-      refused T source children n x.case x.payload error parts h.kind count h.read (subst (IsReadWhereExpected tree of Full w w (shown type_tree (payload_expected x)) source n) failed read)
+      refused T source children n x.case x.payload error parts h.kind count h.read (subst (IsReadWhereExpected tree of Full w w (denoted type_tree (payload_expected x)) source n) failed read)
 
   -- ---- the whole
 

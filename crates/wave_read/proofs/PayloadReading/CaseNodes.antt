@@ -11,7 +11,7 @@ use Rattle.wave_wasm.specs.Types.{TypeTree, MaybeType, Cases, HasDistinctNames, 
 use Rattle.wave_wasm.specs.Values as value
 use Rattle.wave_wasm.specs.Values.{Value, MaybeValue, no_value}
 use Rattle.wave_wasm.specs.ValueErrors.{unknown_case, missing_payload, unexpected_payload}
-use Rattle.wave_wasm.specs.Borrowed.{shown, shown_case}
+use Rattle.wave_wasm.specs.Borrowed.{denoted, denoted_case}
 use Rattle.wave_wasm.specs.ConstructorContracts.{HasFullParts, MakesVariant, FullVariant}
 use Rattle.wave_wasm.specs.declared.wasm.WasmTypeKind.TheVariants as kinds
 use Rattle.wave_wasm.specs.declared.wasm.WasmValueError.{WasmValueError}
@@ -62,15 +62,15 @@ name_of_found {A = A} (d ∷ cs) name c e = by (bytes_eq name d.0) refl (name_of
     by true is more f = let same : c ≡ d = cc in ap (λ x. x.0) same ∙ sym ((bytes_eq-Decides name d.0).0 is)
     by false is more f = more f
 
-module _ {S : Type 0} (type_tree : S → TypeTree) (T U : TypeTree) (name : List ℕ) (case : Option (Bor (List ℕ) × Option (Bor S))) (same : T ≡ U) (found : option_map (shown_case type_tree) case ≡ find (λ c. bytes_eq name c.0) (variant_parts U)) where
-  at_type : (o : Option (Bor (List ℕ) × Option (Bor S))) → case ≡ o → option_map (shown_case type_tree) o ≡ find (λ c. bytes_eq name c.0) (variant_parts T)
-  at_type o is = ap (option_map (shown_case type_tree)) (sym is) ∙ (found ∙ ap (λ (W : TypeTree). find (λ c. bytes_eq name c.0) (variant_parts W)) (sym same))
+module _ {S : Type 0} (type_tree : S → TypeTree) (T U : TypeTree) (name : List ℕ) (case : Option (Bor (List ℕ) × Option (Bor S))) (same : T ≡ U) (found : option_map (denoted_case type_tree) case ≡ find (λ c. bytes_eq name c.0) (variant_parts U)) where
+  at_type : (o : Option (Bor (List ℕ) × Option (Bor S))) → case ≡ o → option_map (denoted_case type_tree) o ≡ find (λ c. bytes_eq name c.0) (variant_parts T)
+  at_type o is = ap (option_map (denoted_case type_tree)) (sym is) ∙ (found ∙ ap (λ (W : TypeTree). find (λ c. bytes_eq name c.0) (variant_parts W)) (sym same))
 
   -- the case that was found has the name, and what is looked up by it
-  pub case_named : (n : Bor (List ℕ)) (o payload : Option (Bor S)) → case ≡ Some (n, o) → o ≡ payload → (n.now ≡ name) × (Some (shown type_tree payload) ≡ look_up (variant_parts T) name)
+  pub case_named : (n : Bor (List ℕ)) (o payload : Option (Bor S)) → case ≡ Some (n, o) → o ≡ payload → (n.now ≡ name) × (Some (denoted type_tree payload) ≡ look_up (variant_parts T) name)
   case_named n o payload is payload_is =
       let there = at_type (Some (n, payload)) (is ∙ ap (λ (p : Option (Bor S)). Some (n, p)) payload_is) in
-      (name_of_found (variant_parts T) name (n.now, shown type_tree payload) there, ap (option_map (λ c. c.1)) there ∙ payload_of (variant_parts T) name)
+      (name_of_found (variant_parts T) name (n.now, denoted type_tree payload) there, ap (option_map (λ c. c.1)) there ∙ payload_of (variant_parts T) name)
 
   -- where none was found, none is looked up
   pub none_named : case ≡ None → None ≡ look_up (variant_parts T) name

@@ -9,7 +9,7 @@ use Rattle.wave_wasm.specs.Lists.{AllOf}
 use Rattle.wave_wasm.specs.Names.{IsOneOf, IsNoneOf, AreDistinct}
 use Rattle.wave_wasm.specs.Types.{TypeTree, HasDistinctNames, field_names}
 use Rattle.wave_wasm.specs.Values.{Value}
-use Rattle.wave_wasm.specs.Borrowed.{shown}
+use Rattle.wave_wasm.specs.Borrowed.{denoted}
 use Rattle.wave_wasm.specs.ConstructorContracts.{HasFullParts}
 use Rattle.wave_wasm.proofs.Names.NameTests.{distinct_more}
 use Rattle.wave_lex.specs.Errors.{Diagnostic}
@@ -138,8 +138,8 @@ module _ {V : Type 0} (tree : V → Value) (of : V → TypeTree → Type 0) (Ful
         by (Some k) e d = (k, e, d.0, d.1)
 
     -- the value was read at the type of the field
-    expected_type : (expected : ℕ × Bor S) (n : NodeTree) (r : Result V Diagnostic) → x.expected ≡ Some expected → IsReadWhereExpected tree of Full w w (shown type_tree (type_expected x)) source n r → IsReadAs tree of Full w w (type_tree expected.1.now) source n r
-    expected_type expected n r is read = subst (λ (o : Option (ℕ × Bor S)). IsReadWhereExpected tree of Full w w (shown type_tree (option_map (λ d. d.1) o)) source n r) is read
+    expected_type : (expected : ℕ × Bor S) (n : NodeTree) (r : Result V Diagnostic) → x.expected ≡ Some expected → IsReadWhereExpected tree of Full w w (denoted type_tree (type_expected x)) source n r → IsReadAs tree of Full w w (type_tree expected.1.now) source n r
+    expected_type expected n r is read = subst (λ (o : Option (ℕ × Bor S)). IsReadWhereExpected tree of Full w w (denoted type_tree (option_map (λ d. d.1) o)) source n r) is read
 
     -- where no key waits no value is expected
     pub no_value_alone : {A : Type 0} → TakesPart kind.TupleSet children → x.expected ≡ None → A
@@ -169,7 +169,7 @@ module _ {V : Type 0} (tree : V → Value) (of : V → TypeTree → Type 0) (Ful
         }
 
     -- a value was read
-    pub value_taken : (n : NodeTree) (r : Result V Diagnostic) (v : V) (expected : ℕ × Bor S) (expectations : Option (ℕ × Bor S)) (fields : Vec (Field S V) Global) (behind : ℕ) → x.expected ≡ Some expected → r ≡ Ok v → IsReadWhereExpected tree of Full w w (shown type_tree (type_expected x)) source n r → expectations ≡ None → ((f : Field S V) → slice_get x.fields.items expected.0 ≡ Some f → fields.items ≡ set x.fields.items expected.0 (with_value f v)) → AreFields type_tree tree of Full w T source (children ++ n ∷ []) (record x { fields = fields; behind = behind; expected = expectations })
+    pub value_taken : (n : NodeTree) (r : Result V Diagnostic) (v : V) (expected : ℕ × Bor S) (expectations : Option (ℕ × Bor S)) (fields : Vec (Field S V) Global) (behind : ℕ) → x.expected ≡ Some expected → r ≡ Ok v → IsReadWhereExpected tree of Full w w (denoted type_tree (type_expected x)) source n r → expectations ≡ None → ((f : Field S V) → slice_get x.fields.items expected.0 ≡ Some f → fields.items ≡ set x.fields.items expected.0 (with_value f v)) → AreFields type_tree tree of Full w T source (children ++ n ∷ []) (record x { fields = fields; behind = behind; expected = expectations })
     value_taken n r v expected expectations fields behind is built read no_expected keeps =
         let (k, waits, label, (f, there, named, typed, unread)) = waiting expected is in
         let own : IsReadAs tree of Full w w (type_tree f.ty.now) source n (Ok v) = subst (λ (t : Bor S). IsReadAs tree of Full w w (type_tree t.now) source n (Ok v)) (sym typed) (subst (IsReadAs tree of Full w w (type_tree expected.1.now) source n) built (expected_type expected n r is read)) in
@@ -181,7 +181,7 @@ module _ {V : Type 0} (tree : V → Value) (of : V → TypeTree → Type 0) (Ful
         }
 
     -- a value was refused that was expected
-    expected_refused : (n : NodeTree) (r : Result V Diagnostic) (e : Diagnostic) (expected : ℕ × Bor S) → HasFullParts Full → x.expected ≡ Some expected → r ≡ Err e → IsReadWhereExpected tree of Full w w (shown type_tree (type_expected x)) source n r → IsRefusedWhateverFollows tree of Full in_text w T source kind.TupleSet (children ++ n ∷ []) (fault.Part e)
+    expected_refused : (n : NodeTree) (r : Result V Diagnostic) (e : Diagnostic) (expected : ℕ × Bor S) → HasFullParts Full → x.expected ≡ Some expected → r ≡ Err e → IsReadWhereExpected tree of Full w w (denoted type_tree (type_expected x)) source n r → IsRefusedWhateverFollows tree of Full in_text w T source kind.TupleSet (children ++ n ∷ []) (fault.Part e)
     expected_refused n r e expected full is built read =
         let (k, waits, label, (f, there, named, typed, unread)) = waiting expected is in
         let own : IsReadAs tree of Full w w (type_tree f.ty.now) source n (Err e) = subst (λ (t : Bor S). IsReadAs tree of Full w w (type_tree t.now) source n (Err e)) (sym typed) (subst (IsReadAs tree of Full w w (type_tree expected.1.now) source n) built (expected_type expected n r is read)) in
@@ -190,7 +190,7 @@ module _ {V : Type 0} (tree : V → Value) (of : V → TypeTree → Type 0) (Ful
         reported_rejects tree of Full in_text w T source kind.TupleSet (children ++ n ∷ []) e (λ more p. value_rejects tree of Full w T (map (part_of type_tree) x.fields.items) is_record source children more p e entries_read k n expected.0 (type_tree f.ty.now) full waits label new part own)
 
     -- a value was refused
-    pub value_refused : (n : NodeTree) (r : Result V Diagnostic) (e : Diagnostic) → HasFullParts Full → TakesPart kind.TupleSet children → r ≡ Err e → IsReadWhereExpected tree of Full w w (shown type_tree (type_expected x)) source n r → IsRefusedWhateverFollows tree of Full in_text w T source kind.TupleSet (children ++ n ∷ []) (fault.Part e)
+    pub value_refused : (n : NodeTree) (r : Result V Diagnostic) (e : Diagnostic) → HasFullParts Full → TakesPart kind.TupleSet children → r ≡ Err e → IsReadWhereExpected tree of Full w w (denoted type_tree (type_expected x)) source n r → IsRefusedWhateverFollows tree of Full in_text w T source kind.TupleSet (children ++ n ∷ []) (fault.Part e)
     value_refused n r e full odd built read = by x.expected refl
       where
         by : (expected : Option (ℕ × Bor S)) → x.expected ≡ expected → IsRefusedWhateverFollows tree of Full in_text w T source kind.TupleSet (children ++ n ∷ []) (fault.Part e)

@@ -17,7 +17,7 @@ use Rattle.wave_wasm.specs.Lists.{AllOf}
 use Rattle.wave_wasm.specs.Names.{IsOneOf, IsNoneOf, AreDistinct}
 use Rattle.wave_wasm.specs.Types.{TypeTree, HasDistinctNames}
 use Rattle.wave_wasm.specs.Values.{Value}
-use Rattle.wave_wasm.specs.Borrowed.{shown_fields}
+use Rattle.wave_wasm.specs.Borrowed.{denoted_fields}
 use Rattle.wave_grammar.specs.TypedGrammar.{look_up, names_of}
 use Rattle.wave_grammar.specs.NodeTree.{NodeTree}
 use Rattle.wave_grammar.specs.NodeFields.{IsLeftOut, IsMissing}
@@ -140,7 +140,7 @@ abbrev pub empty_field : {S V : Type 0} → Bor (List ℕ) × Bor S → Field S 
 empty_field p = record { name = p.0; ty = p.1; value = None }
 
 -- they have the names and the types of the type's fields
-pub empty_parts : (V : Type 0) {S : Type 0} (type_tree : S → TypeTree) (ps : List (Bor (List ℕ) × Bor S)) → map (part_of {V = V} type_tree) (map empty_field ps) ≡ shown_fields type_tree ps
+pub empty_parts : (V : Type 0) {S : Type 0} (type_tree : S → TypeTree) (ps : List (Bor (List ℕ) × Bor S)) → map (part_of {V = V} type_tree) (map empty_field ps) ≡ denoted_fields type_tree ps
 empty_parts V type_tree [] = refl
 empty_parts V type_tree (p ∷ ps) = ap (λ (qs : List (List ℕ × TypeTree)). (p.0.now, type_tree p.1.now) ∷ qs) (empty_parts V type_tree ps)
 

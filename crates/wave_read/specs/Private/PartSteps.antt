@@ -4,7 +4,7 @@ use Rattle.std.specs.Borrow.{Bor}
 use Rattle.std.specs.declared.ops.Range.{Range}
 use Rattle.wave_wasm.specs.Types.{TypeTree}
 use Rattle.wave_wasm.specs.Values.{Value}
-use Rattle.wave_wasm.specs.Borrowed.{shown}
+use Rattle.wave_wasm.specs.Borrowed.{denoted}
 use Rattle.wave_lex.specs.Errors.{Diagnostic}
 use Rattle.wave_grammar.specs.SpannedTree.{slice}
 use Rattle.wave_grammar.specs.FaultOrder.{Order, in_text}
@@ -40,7 +40,7 @@ module _ {S V X : Type 0} (Are : PartsFact S V X) (type_tree : S → TypeTree) (
   abbrev pub AddsPart : NodeType → (X → Option (Bor S)) → X → Result V Diagnostic → X → Option Fault → Type 0
   AddsPart ty expected old built new found =
       (w : Order) (T : TypeTree) (source : List ℕ) (children : List NodeTree) (n : NodeTree) → TakesPart ty children
-      → Are type_tree tree of Full w T source children old → IsReadWhereExpected tree of Full w w (shown type_tree (expected old)) source n built
+      → Are type_tree tree of Full w T source children old → IsReadWhereExpected tree of Full w w (denoted type_tree (expected old)) source n built
       → HasOneMore w ty T source children n new found
 
   -- this is read of all of the parts, where the value stands there

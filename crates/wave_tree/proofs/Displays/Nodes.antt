@@ -8,13 +8,13 @@ use Rattle.wave_wasm.specs.Keywords.{case_label}
 use Rattle.wave_grammar.specs.Token.{Token, text_of}
 use Rattle.wave_grammar.specs.Token as token
 use Rattle.wave_grammar.specs.LeafTokens.{name_of}
-use Rattle.wave_grammar.specs.Tree.{shown, shown_trees, shown_entries}
+use Rattle.wave_grammar.specs.Tree.{display, display_trees, display_entries}
 use Rattle.wave_grammar.specs.SpannedTree.{SpannedTree, SpannedShape, at, one, tuple, list, empty_braces, no_fields, entries, flags, label, none, some, ok, err, no_placed, a_placed, PlacedEntries, no_entries, entry, placed_trees, span_of, shape_of, tree_of, tree_of_shape, trees_of, entries_of, SpellsEach, SpellsEntries, SpellsFlags}
 use Rattle.wave_grammar.specs.NodeTree.{NodeTree, NodeTrees, node, no_nodes, node_and, type_of, place_of, children_of, node_list, node_trees, depth, nodes_depth}
 use Rattle.wave_grammar.specs.Nodes.{placed_of, shape_from, pairs_of, flags_of, flag_of, key_of, with_both, IsParsedFrom}
 use Rattle.wave_grammar.specs.NodeAccessors.{node_text}
 use Rattle.wave_grammar.specs.TypedReading.{IsValueOf}
-use Rattle.wave_tree.specs.NodeDisplay.{shown_placed, shown_at}
+use Rattle.wave_tree.specs.NodeDisplay.{display_placed, display_at}
 use Rattle.wave_tree.specs.Private.NodeDisplay.{name_at, entries_at, braces_at, payload_at, AreEntriesOf}
 use Rattle.wave_grammar.proofs.ChildNodes.Inside.{From, inside, some_is, flag_key, AreParsed, pair_parsed, is_number_word, all_parsed}
 use Rattle.wave_grammar.proofs.ChildNodes.Cases.{shape_at, case_shape}
@@ -24,12 +24,12 @@ use Rattle.wave_grammar.specs.declared.form.NodeType.{NodeType}
 use Rattle.wave_grammar.specs.declared.form.NodeType.TheVariants as kind
 
 -- what shows a node whose tree is known
-pub shown_known : (source : List ℕ) (n : NodeTree) (t : SpannedTree) → placed_of source n ≡ Some t → shown_at source n ≡ shown (tree_of t)
-unfolding shown_at
-shown_known source n t e = ap shown_placed e
+pub display_known : (source : List ℕ) (n : NodeTree) (t : SpannedTree) → placed_of source n ≡ Some t → display_at source n ≡ display (tree_of t)
+unfolding display_at
+display_known source n t e = ap display_placed e
 
-shown_shape : (source : List ℕ) (n : NodeTree) (t : SpannedTree) (s : SpannedShape) → placed_of source n ≡ Some t → s ≡ shape_of t → shown (tree_of_shape s) ≡ shown_at source n
-shown_shape source n t s e k = sym (shown_known source n t e ∙ ap shown (tree_is t s (sym k)))
+display_shape : (source : List ℕ) (n : NodeTree) (t : SpannedTree) (s : SpannedShape) → placed_of source n ≡ Some t → s ≡ shape_of t → display (tree_of_shape s) ≡ display_at source n
+display_shape source n t s e k = sym (display_known source n t e ∙ ap display (tree_is t s (sym k)))
 
 -- a node of this type, and its shape
 pub record Opened (ty : NodeType) (source : List ℕ) (n : NodeTree) : Type 0 where
@@ -47,12 +47,12 @@ opened ty source n (at r s, h) e =
     record { place = r; shape = s; children = i.children; means = h.0; from = shape_at ty source n (at r s) i e; nodes = all_parsed source n (at r s) i; spelled = h.1 }
 
 -- what shows it is what shows its shape
-shown_opened : (ty : NodeType) (source : List ℕ) (n : NodeTree) (o : Opened ty source n) (s : SpannedShape) → s ≡ o.shape → shown (tree_of_shape s) ≡ shown_at source n
-shown_opened ty source n o s e = shown_shape source n (at o.place o.shape) s o.means e
+display_opened : (ty : NodeType) (source : List ℕ) (n : NodeTree) (o : Opened ty source n) (s : SpannedShape) → s ≡ o.shape → display (tree_of_shape s) ≡ display_at source n
+display_opened ty source n o s e = display_shape source n (at o.place o.shape) s o.means e
 
 -- ---- leaves
 
--- nodes of these types are shown as they stand
+-- nodes of these types are displayed as they stand
 abbrev pub IsText : NodeType → Type 0
 IsText kind.Number = Unit {0}
 IsText kind.Char = Unit {0}
@@ -65,12 +65,12 @@ number_text : (b : Bool) (text : List ℕ) → text_of (if b then token.label te
 number_text true text = refl
 number_text false text = refl
 
-text_shape : (ty : NodeType) (p : Range ℕ) (text : List ℕ) (cs : List SpannedTree) (s : SpannedShape) → IsText ty → shape_from ty p text cs ≡ Some s → text ≡ shown (tree_of_shape s)
-text_shape kind.Number p text [] s is e = sym (number_text (is_number_word text) text) ∙ ap (λ (x : SpannedShape). shown (tree_of_shape x)) (some_is _ _ e)
-text_shape kind.Char p text [] s is e = ap (λ (x : SpannedShape). shown (tree_of_shape x)) (some_is (one (token.char text)) s e)
-text_shape kind.String p text [] s is e = ap (λ (x : SpannedShape). shown (tree_of_shape x)) (some_is (one (token.string text)) s e)
-text_shape kind.MultilineString p text [] s is e = ap (λ (x : SpannedShape). shown (tree_of_shape x)) (some_is (one (token.multiline text)) s e)
-text_shape kind.Label p text [] s is e = ap (λ (x : SpannedShape). shown (tree_of_shape x)) (some_is (label p text no_placed) s e)
+text_shape : (ty : NodeType) (p : Range ℕ) (text : List ℕ) (cs : List SpannedTree) (s : SpannedShape) → IsText ty → shape_from ty p text cs ≡ Some s → text ≡ display (tree_of_shape s)
+text_shape kind.Number p text [] s is e = sym (number_text (is_number_word text) text) ∙ ap (λ (x : SpannedShape). display (tree_of_shape x)) (some_is _ _ e)
+text_shape kind.Char p text [] s is e = ap (λ (x : SpannedShape). display (tree_of_shape x)) (some_is (one (token.char text)) s e)
+text_shape kind.String p text [] s is e = ap (λ (x : SpannedShape). display (tree_of_shape x)) (some_is (one (token.string text)) s e)
+text_shape kind.MultilineString p text [] s is e = ap (λ (x : SpannedShape). display (tree_of_shape x)) (some_is (one (token.multiline text)) s e)
+text_shape kind.Label p text [] s is e = ap (λ (x : SpannedShape). display (tree_of_shape x)) (some_is (label p text no_placed) s e)
 text_shape kind.Number p text (c ∷ cs) s is e = absurd (cc)
 text_shape kind.Char p text (c ∷ cs) s is e = absurd (cc)
 text_shape kind.String p text (c ∷ cs) s is e = absurd (cc)
@@ -79,18 +79,18 @@ text_shape kind.Label p text (c ∷ cs) s is e = absurd (cc)
 text_shape _ p text cs s is e = absurd is
 
 -- numbers, chars, strings and labels alone
-pub text_shown : (ty : NodeType) (source : List ℕ) (n : NodeTree) → IsText ty → IsValueOf source n → type_of n ≡ ty → node_text source n ≡ shown_at source n
-text_shown ty source n is v e =
+pub text_display : (ty : NodeType) (source : List ℕ) (n : NodeTree) → IsText ty → IsValueOf source n → type_of n ≡ ty → node_text source n ≡ display_at source n
+text_display ty source n is v e =
     let o = opened ty source n v e in
-    text_shape ty (place_of n) (node_text source n) o.children o.shape is o.from ∙ shown_opened ty source n o o.shape refl
+    text_shape ty (place_of n) (node_text source n) o.children o.shape is o.from ∙ display_opened ty source n o o.shape refl
 
 -- so where a node is of one of them
-pub plain_shown : (source : List ℕ) (n : NodeTree) (k : NodeType) → k ≡ type_of n → (k ≡ kind.Number) ⊎ ((k ≡ kind.Char) ⊎ ((k ≡ kind.String) ⊎ ((k ≡ kind.MultilineString) ⊎ (k ≡ kind.Label)))) → IsValueOf source n → node_text source n ≡ shown_at source n
-plain_shown source n k e (inl f) v = text_shown kind.Number source n tt v (sym e ∙ f)
-plain_shown source n k e (inr (inl f)) v = text_shown kind.Char source n tt v (sym e ∙ f)
-plain_shown source n k e (inr (inr (inl f))) v = text_shown kind.String source n tt v (sym e ∙ f)
-plain_shown source n k e (inr (inr (inr (inl f)))) v = text_shown kind.MultilineString source n tt v (sym e ∙ f)
-plain_shown source n k e (inr (inr (inr (inr f)))) v = text_shown kind.Label source n tt v (sym e ∙ f)
+pub plain_display : (source : List ℕ) (n : NodeTree) (k : NodeType) → k ≡ type_of n → (k ≡ kind.Number) ⊎ ((k ≡ kind.Char) ⊎ ((k ≡ kind.String) ⊎ ((k ≡ kind.MultilineString) ⊎ (k ≡ kind.Label)))) → IsValueOf source n → node_text source n ≡ display_at source n
+plain_display source n k e (inl f) v = text_display kind.Number source n tt v (sym e ∙ f)
+plain_display source n k e (inr (inl f)) v = text_display kind.Char source n tt v (sym e ∙ f)
+plain_display source n k e (inr (inr (inl f))) v = text_display kind.String source n tt v (sym e ∙ f)
+plain_display source n k e (inr (inr (inr (inl f)))) v = text_display kind.MultilineString source n tt v (sym e ∙ f)
+plain_display source n k e (inr (inr (inr (inr f)))) v = text_display kind.Label source n tt v (sym e ∙ f)
 
 -- the nodes of these types without children
 abbrev pub word_shape : NodeType → Option SpannedShape
@@ -108,16 +108,16 @@ word_is kind.OptionNone p text [] s w k e = sym (some_is _ _ k) ∙ some_is _ _ 
 word_is _ p text cs s w k e = absurd (cc)
 
 -- bools, `{}` and `none`
-pub word_shown : (ty : NodeType) (w : SpannedShape) (source : List ℕ) (n : NodeTree) → word_shape ty ≡ Some w → IsValueOf source n → type_of n ≡ ty → shown (tree_of_shape w) ≡ shown_at source n
-word_shown ty w source n k v e = let o = opened ty source n v e in shown_opened ty source n o w (word_is ty (place_of n) (node_text source n) o.children o.shape w k o.from)
+pub word_display : (ty : NodeType) (w : SpannedShape) (source : List ℕ) (n : NodeTree) → word_shape ty ≡ Some w → IsValueOf source n → type_of n ≡ ty → display (tree_of_shape w) ≡ display_at source n
+word_display ty w source n k v e = let o = opened ty source n v e in display_opened ty source n o w (word_is ty (place_of n) (node_text source n) o.children o.shape w k o.from)
 
 -- ---- items
 
-items_shown : (source : List ℕ) (ns : List NodeTree) (ts : List SpannedTree) → AreNodesOf source ns ts → map (shown_at source) ns ≡ shown_trees (trees_of (placed_trees ts))
-items_shown source [] [] h = refl
-items_shown source [] (t ∷ ts) h = absurd h
-items_shown source (n ∷ ns) [] h = absurd h
-items_shown source (n ∷ ns) (t ∷ ts) h = λ i. shown_known source n t h.0.0 i ∷ items_shown source ns ts h.1 i
+items_display : (source : List ℕ) (ns : List NodeTree) (ts : List SpannedTree) → AreNodesOf source ns ts → map (display_at source) ns ≡ display_trees (trees_of (placed_trees ts))
+items_display source [] [] h = refl
+items_display source [] (t ∷ ts) h = absurd h
+items_display source (n ∷ ns) [] h = absurd h
+items_display source (n ∷ ns) (t ∷ ts) h = λ i. display_known source n t h.0.0 i ∷ items_display source ns ts h.1 i
 
 -- nodes of trees are values
 pub are_values : (source : List ℕ) (ns : List NodeTree) (ts : List SpannedTree) → AreNodesOf source ns ts → All (IsValueOf source) ns
@@ -126,21 +126,21 @@ are_values source (n ∷ ns) [] h k d lt = absurd h
 are_values source (n ∷ ns) (t ∷ ts) h zero d lt = (t, h.0)
 are_values source (n ∷ ns) (t ∷ ts) h (suc k) d lt = are_values source ns ts h.1 k d (omega (arith, lt))
 
-pub tuple_shown : (source : List ℕ) (n : NodeTree) → IsValueOf source n → type_of n ≡ kind.Tuple → All (IsValueOf source) (children_of n) × (enclosed (codes "(") (map (shown_at source) (children_of n)) (codes ")") ≡ shown_at source n)
-tuple_shown source n v e =
+pub tuple_display : (source : List ℕ) (n : NodeTree) → IsValueOf source n → type_of n ≡ kind.Tuple → All (IsValueOf source) (children_of n) × (enclosed (codes "(") (map (display_at source) (children_of n)) (codes ")") ≡ display_at source n)
+tuple_display source n v e =
     let o = opened kind.Tuple source n v e in
     let shape : tuple (placed_trees o.children) ≡ o.shape = some_is _ _ o.from in
     let spelled : SpellsEach source (at o.place (tuple (placed_trees o.children))) = subst (λ (x : SpannedShape). SpellsEach source (at o.place x)) (sym shape) o.spelled in
     let nodes = spelled_nodes source (children_of n) o.children o.place.start o.place.end o.nodes spelled.1 in
-    (are_values source (children_of n) o.children nodes, ap (λ xs. enclosed (codes "(") xs (codes ")")) (items_shown source (children_of n) o.children nodes) ∙ shown_opened kind.Tuple source n o (tuple (placed_trees o.children)) shape)
+    (are_values source (children_of n) o.children nodes, ap (λ xs. enclosed (codes "(") xs (codes ")")) (items_display source (children_of n) o.children nodes) ∙ display_opened kind.Tuple source n o (tuple (placed_trees o.children)) shape)
 
-pub list_shown : (source : List ℕ) (n : NodeTree) → IsValueOf source n → type_of n ≡ kind.List → All (IsValueOf source) (children_of n) × (enclosed (codes "[") (map (shown_at source) (children_of n)) (codes "]") ≡ shown_at source n)
-list_shown source n v e =
+pub list_display : (source : List ℕ) (n : NodeTree) → IsValueOf source n → type_of n ≡ kind.List → All (IsValueOf source) (children_of n) × (enclosed (codes "[") (map (display_at source) (children_of n)) (codes "]") ≡ display_at source n)
+list_display source n v e =
     let o = opened kind.List source n v e in
     let shape : list (placed_trees o.children) ≡ o.shape = some_is _ _ o.from in
     let spelled : SpellsEach source (at o.place (list (placed_trees o.children))) = subst (λ (x : SpannedShape). SpellsEach source (at o.place x)) (sym shape) o.spelled in
     let nodes = spelled_nodes source (children_of n) o.children o.place.start o.place.end o.nodes spelled.1 in
-    (are_values source (children_of n) o.children nodes, ap (λ xs. enclosed (codes "[") xs (codes "]")) (items_shown source (children_of n) o.children nodes) ∙ shown_opened kind.List source n o (list (placed_trees o.children)) shape)
+    (are_values source (children_of n) o.children nodes, ap (λ xs. enclosed (codes "[") xs (codes "]")) (items_display source (children_of n) o.children nodes) ∙ display_opened kind.List source n o (list (placed_trees o.children)) shape)
 
 -- ---- payloads
 
@@ -152,53 +152,53 @@ no_payload : (source : List ℕ) (ns : List NodeTree) → AreParsed source ns []
 no_payload source [] h = ((λ k d lt. absurd (omega (arith, lt))), refl)
 no_payload source (n ∷ ns) h = absurd h
 
-one_payload : (source : List ℕ) (ns : List NodeTree) (t : SpannedTree) → AreParsed source ns (t ∷ []) → SpellsEach source t → HasPayload source ns (in_parens (shown (tree_of t)))
+one_payload : (source : List ℕ) (ns : List NodeTree) (t : SpannedTree) → AreParsed source ns (t ∷ []) → SpellsEach source t → HasPayload source ns (in_parens (display (tree_of t)))
 one_payload source [] t h s = absurd h
 one_payload source (m ∷ n ∷ ns) t h s = absurd h.1
-one_payload source (n ∷ []) t h s = (are_values source (n ∷ []) (t ∷ []) ((h.0, s), tt), ap in_parens (shown_known source n t h.0))
+one_payload source (n ∷ []) t h s = (are_values source (n ∷ []) (t ∷ []) ((h.0, s), tt), ap in_parens (display_known source n t h.0))
 
 -- after its word
 word_payload : (source : List ℕ) (ns : List NodeTree) (r : Range ℕ) (word : List ℕ) (t : SpannedTree) (form s : SpannedShape) → AreParsed source ns (t ∷ []) → form ≡ s → SpellsEach source (at r s) → (SpellsEach source (at r form) → SpellsEach source t) →
-    word ++ in_parens (shown (tree_of t)) ≡ shown (tree_of_shape form) → All (IsValueOf source) ns × (word ++ payload_at source ns ≡ shown (tree_of_shape s))
+    word ++ in_parens (display (tree_of t)) ≡ display (tree_of_shape form) → All (IsValueOf source) ns × (word ++ payload_at source ns ≡ display (tree_of_shape s))
 word_payload source ns r word t form s h shape k within shows =
     let it = one_payload source ns t h (within (subst (λ (x : SpannedShape). SpellsEach source (at r x)) (sym shape) k)) in
-    (it.0, ap (λ z. word ++ z) it.1 ∙ (shows ∙ ap (λ (x : SpannedShape). shown (tree_of_shape x)) shape))
+    (it.0, ap (λ z. word ++ z) it.1 ∙ (shows ∙ ap (λ (x : SpannedShape). display (tree_of_shape x)) shape))
 
 some_payload : (source : List ℕ) (ns : List NodeTree) (p r : Range ℕ) (text : List ℕ) (cs : List SpannedTree) (s : SpannedShape) → AreParsed source ns cs → SpellsEach source (at r s) → shape_from kind.OptionSome p text cs ≡ Some s →
-    All (IsValueOf source) ns × (codes "some" ++ payload_at source ns ≡ shown (tree_of_shape s))
+    All (IsValueOf source) ns × (codes "some" ++ payload_at source ns ≡ display (tree_of_shape s))
 some_payload source ns p r text [] s h k e = absurd (cc)
 some_payload source ns p r text (t ∷ u ∷ cs) s h k e = absurd (cc)
 some_payload source ns p r text (t ∷ []) s h k e = word_payload source ns r (codes "some") t (some t) s h (some_is _ _ e) k (λ f. f.1.1) refl
 
 ok_payload : (source : List ℕ) (ns : List NodeTree) (p r : Range ℕ) (text : List ℕ) (cs : List SpannedTree) (s : SpannedShape) → AreParsed source ns cs → SpellsEach source (at r s) → shape_from kind.ResultOk p text cs ≡ Some s →
-    All (IsValueOf source) ns × (codes "ok" ++ payload_at source ns ≡ shown (tree_of_shape s))
-ok_payload source ns p r text [] s h k e = let it = no_payload source ns h in (it.0, ap (λ z. codes "ok" ++ z) it.1 ∙ ap (λ (x : SpannedShape). shown (tree_of_shape x)) (some_is (ok no_placed) s e))
+    All (IsValueOf source) ns × (codes "ok" ++ payload_at source ns ≡ display (tree_of_shape s))
+ok_payload source ns p r text [] s h k e = let it = no_payload source ns h in (it.0, ap (λ z. codes "ok" ++ z) it.1 ∙ ap (λ (x : SpannedShape). display (tree_of_shape x)) (some_is (ok no_placed) s e))
 ok_payload source ns p r text (t ∷ u ∷ cs) s h k e = absurd (cc)
 ok_payload source ns p r text (t ∷ []) s h k e = word_payload source ns r (codes "ok") t (ok (a_placed t)) s h (some_is _ _ e) k (λ f. f.1.1) refl
 
 err_payload : (source : List ℕ) (ns : List NodeTree) (p r : Range ℕ) (text : List ℕ) (cs : List SpannedTree) (s : SpannedShape) → AreParsed source ns cs → SpellsEach source (at r s) → shape_from kind.ResultErr p text cs ≡ Some s →
-    All (IsValueOf source) ns × (codes "err" ++ payload_at source ns ≡ shown (tree_of_shape s))
-err_payload source ns p r text [] s h k e = let it = no_payload source ns h in (it.0, ap (λ z. codes "err" ++ z) it.1 ∙ ap (λ (x : SpannedShape). shown (tree_of_shape x)) (some_is (err no_placed) s e))
+    All (IsValueOf source) ns × (codes "err" ++ payload_at source ns ≡ display (tree_of_shape s))
+err_payload source ns p r text [] s h k e = let it = no_payload source ns h in (it.0, ap (λ z. codes "err" ++ z) it.1 ∙ ap (λ (x : SpannedShape). display (tree_of_shape x)) (some_is (err no_placed) s e))
 err_payload source ns p r text (t ∷ u ∷ cs) s h k e = absurd (cc)
 err_payload source ns p r text (t ∷ []) s h k e = word_payload source ns r (codes "err") t (err (a_placed t)) s h (some_is _ _ e) k (λ f. f.1.1) refl
 
-pub some_shown : (source : List ℕ) (n : NodeTree) → IsValueOf source n → type_of n ≡ kind.OptionSome → All (IsValueOf source) (children_of n) × (codes "some" ++ payload_at source (children_of n) ≡ shown_at source n)
-some_shown source n v e =
+pub some_display : (source : List ℕ) (n : NodeTree) → IsValueOf source n → type_of n ≡ kind.OptionSome → All (IsValueOf source) (children_of n) × (codes "some" ++ payload_at source (children_of n) ≡ display_at source n)
+some_display source n v e =
     let o = opened kind.OptionSome source n v e in
     let it = some_payload source (children_of n) (place_of n) o.place (node_text source n) o.children o.shape o.nodes o.spelled o.from in
-    (it.0, it.1 ∙ shown_opened kind.OptionSome source n o o.shape refl)
+    (it.0, it.1 ∙ display_opened kind.OptionSome source n o o.shape refl)
 
-pub ok_shown : (source : List ℕ) (n : NodeTree) → IsValueOf source n → type_of n ≡ kind.ResultOk → All (IsValueOf source) (children_of n) × (codes "ok" ++ payload_at source (children_of n) ≡ shown_at source n)
-ok_shown source n v e =
+pub ok_display : (source : List ℕ) (n : NodeTree) → IsValueOf source n → type_of n ≡ kind.ResultOk → All (IsValueOf source) (children_of n) × (codes "ok" ++ payload_at source (children_of n) ≡ display_at source n)
+ok_display source n v e =
     let o = opened kind.ResultOk source n v e in
     let it = ok_payload source (children_of n) (place_of n) o.place (node_text source n) o.children o.shape o.nodes o.spelled o.from in
-    (it.0, it.1 ∙ shown_opened kind.ResultOk source n o o.shape refl)
+    (it.0, it.1 ∙ display_opened kind.ResultOk source n o o.shape refl)
 
-pub err_shown : (source : List ℕ) (n : NodeTree) → IsValueOf source n → type_of n ≡ kind.ResultErr → All (IsValueOf source) (children_of n) × (codes "err" ++ payload_at source (children_of n) ≡ shown_at source n)
-err_shown source n v e =
+pub err_display : (source : List ℕ) (n : NodeTree) → IsValueOf source n → type_of n ≡ kind.ResultErr → All (IsValueOf source) (children_of n) × (codes "err" ++ payload_at source (children_of n) ≡ display_at source n)
+err_display source n v e =
     let o = opened kind.ResultErr source n v e in
     let it = err_payload source (children_of n) (place_of n) o.place (node_text source n) o.children o.shape o.nodes o.spelled o.from in
-    (it.0, it.1 ∙ shown_opened kind.ResultErr source n o o.shape refl)
+    (it.0, it.1 ∙ display_opened kind.ResultErr source n o o.shape refl)
 
 -- ---- keys, entries, flags and cases
 
@@ -221,19 +221,19 @@ both_of f (Some x) None c e = absurd (cc)
 both_of f None (Some y) c e = absurd (cc)
 both_of f None None c e = absurd (cc)
 
-pairs_shown : (source : List ℕ) (from to : ℕ) (ns : List NodeTree) (cs : List SpannedTree) (es : PlacedEntries) → AreParsed source ns cs → pairs_of cs ≡ Some es → SpellsEntries source from to es → AreEntriesOf source ns × (entries_at source ns ≡ shown_entries (entries_of es))
-pairs_shown source from to [] [] es h e s = (tt, ap (λ (z : PlacedEntries). shown_entries (entries_of z)) (some_is no_entries es e))
-pairs_shown source from to [] (c ∷ cs) es h e s = absurd h
-pairs_shown source from to (k ∷ ns) [] es h e s = absurd h
-pairs_shown source from to (k ∷ []) (c ∷ d ∷ cs) es h e s = absurd h.1
-pairs_shown source from to (k ∷ ns) (c ∷ []) es h e s = absurd (cc)
-pairs_shown source from to (k ∷ v ∷ ns) (c ∷ d ∷ cs) es h e s =
+pairs_display : (source : List ℕ) (from to : ℕ) (ns : List NodeTree) (cs : List SpannedTree) (es : PlacedEntries) → AreParsed source ns cs → pairs_of cs ≡ Some es → SpellsEntries source from to es → AreEntriesOf source ns × (entries_at source ns ≡ display_entries (entries_of es))
+pairs_display source from to [] [] es h e s = (tt, ap (λ (z : PlacedEntries). display_entries (entries_of z)) (some_is no_entries es e))
+pairs_display source from to [] (c ∷ cs) es h e s = absurd h
+pairs_display source from to (k ∷ ns) [] es h e s = absurd h
+pairs_display source from to (k ∷ []) (c ∷ d ∷ cs) es h e s = absurd h.1
+pairs_display source from to (k ∷ ns) (c ∷ []) es h e s = absurd (cc)
+pairs_display source from to (k ∷ v ∷ ns) (c ∷ d ∷ cs) es h e s =
     let (key, rest, key_is, rest_is, whole) = both_of (λ (x : Range ℕ × Token) (more : PlacedEntries). entry x.0 x.1 d more) (key_of c) (pairs_of cs) es e in
     let spelled : SpellsEntries source from to (entry key.0 key.1 d rest) = subst (SpellsEntries source from to) (sym whole) s in
-    let more = pairs_shown source (span_of d).end to ns cs rest h.1.1 rest_is spelled.4 in
-    let text : behind_name (node_text source k) (shown_at source v) ≡ behind_name (text_of key.1) (shown (tree_of d)) = λ i. behind_name (key_text source k c key.0 key.1 h.0 key_is i) (shown_known source v d h.1.0 i) in (
+    let more = pairs_display source (span_of d).end to ns cs rest h.1.1 rest_is spelled.4 in
+    let text : behind_name (node_text source k) (display_at source v) ≡ behind_name (text_of key.1) (display (tree_of d)) = λ i. behind_name (key_text source k c key.0 key.1 h.0 key_is i) (display_known source v d h.1.0 i) in (
       (inr (key.0, key.1, ((c, h.0, key_is), spelled.1)), (d, (h.1.0, spelled.3)), more.0),
-      (λ i. text i ∷ more.1 i) ∙ ap (λ (z : PlacedEntries). shown_entries (entries_of z)) whole,
+      (λ i. text i ∷ more.1 i) ∙ ap (λ (z : PlacedEntries). display_entries (entries_of z)) whole,
     )
 
 mapped : {A B : Type 0} (f : A → B) (o : Option A) (b : B) → option_map f o ≡ Some b → (a : A) × (o ≡ Some a) × (f a ≡ b)
@@ -241,30 +241,30 @@ mapped f (Some a) b e = (a, refl, some_is _ _ e)
 mapped f None b e = absurd (cc)
 
 fields_shape : (source : List ℕ) (ns : List NodeTree) (p r : Range ℕ) (text : List ℕ) (cs : List SpannedTree) (s : SpannedShape) → AreParsed source ns cs → SpellsEach source (at r s) → shape_from kind.TupleSet p text cs ≡ Some s →
-    AreEntriesOf source ns × (braces_at source ns ≡ shown (tree_of_shape s))
-fields_shape source [] p r text [] s h k e = (tt, ap (λ (x : SpannedShape). shown (tree_of_shape x)) (some_is no_fields s e))
+    AreEntriesOf source ns × (braces_at source ns ≡ display (tree_of_shape s))
+fields_shape source [] p r text [] s h k e = (tt, ap (λ (x : SpannedShape). display (tree_of_shape x)) (some_is no_fields s e))
 fields_shape source [] p r text (c ∷ cs) s h k e = absurd h
 fields_shape source (n ∷ ns) p r text [] s h k e = absurd h
 fields_shape source (n ∷ ns) p r text (c ∷ cs) s h k e =
     let (es, is, shape) = mapped entries (pairs_of (c ∷ cs)) s e in
     let spelled : SpellsEach source (at r (entries es)) = subst (λ (x : SpannedShape). SpellsEach source (at r x)) (sym shape) k in
-    let it = pairs_shown source r.start r.end (n ∷ ns) (c ∷ cs) es h is spelled.1 in
-    (it.0, ap (λ z. in_braces (joined z)) it.1 ∙ ap (λ (x : SpannedShape). shown (tree_of_shape x)) shape)
+    let it = pairs_display source r.start r.end (n ∷ ns) (c ∷ cs) es h is spelled.1 in
+    (it.0, ap (λ z. in_braces (joined z)) it.1 ∙ ap (λ (x : SpannedShape). display (tree_of_shape x)) shape)
 
-pub fields_shown : (source : List ℕ) (n : NodeTree) → IsValueOf source n → type_of n ≡ kind.TupleSet → AreEntriesOf source (children_of n) × (braces_at source (children_of n) ≡ shown_at source n)
-fields_shown source n v e =
+pub fields_display : (source : List ℕ) (n : NodeTree) → IsValueOf source n → type_of n ≡ kind.TupleSet → AreEntriesOf source (children_of n) × (braces_at source (children_of n) ≡ display_at source n)
+fields_display source n v e =
     let o = opened kind.TupleSet source n v e in
     let it = fields_shape source (children_of n) (place_of n) o.place (node_text source n) o.children o.shape o.nodes o.spelled o.from in
-    (it.0, it.1 ∙ shown_opened kind.TupleSet source n o o.shape refl)
+    (it.0, it.1 ∙ display_opened kind.TupleSet source n o o.shape refl)
 
-names_shown : (source : List ℕ) (p : Range ℕ) (ns : List NodeTree) (cs : List SpannedTree) (fs : List (Range ℕ × List ℕ)) → AreParsed source ns cs → flags_of cs ≡ Some fs → SpellsFlags source p fs → All (IsParsedFrom source) ns × (map (name_at source) ns ≡ map name_of (map (λ f. f.1) fs))
-names_shown source p [] [] fs h e s = ((λ k d lt. absurd (omega (arith, lt))), ap (λ (z : List (Range ℕ × List ℕ)). map name_of (map (λ f. f.1) z)) (some_is [] fs e))
-names_shown source p [] (c ∷ cs) fs h e s = absurd h
-names_shown source p (n ∷ ns) [] fs h e s = absurd h
-names_shown source p (n ∷ ns) (c ∷ cs) fs h e s =
+names_display : (source : List ℕ) (p : Range ℕ) (ns : List NodeTree) (cs : List SpannedTree) (fs : List (Range ℕ × List ℕ)) → AreParsed source ns cs → flags_of cs ≡ Some fs → SpellsFlags source p fs → All (IsParsedFrom source) ns × (map (name_at source) ns ≡ map name_of (map (λ f. f.1) fs))
+names_display source p [] [] fs h e s = ((λ k d lt. absurd (omega (arith, lt))), ap (λ (z : List (Range ℕ × List ℕ)). map name_of (map (λ f. f.1) z)) (some_is [] fs e))
+names_display source p [] (c ∷ cs) fs h e s = absurd h
+names_display source p (n ∷ ns) [] fs h e s = absurd h
+names_display source p (n ∷ ns) (c ∷ cs) fs h e s =
     let (f, rest, flag_is, rest_is, whole) = both_of (λ (x : Range ℕ × List ℕ) (more : List (Range ℕ × List ℕ)). x ∷ more) (flag_of c) (flags_of cs) fs e in
     let spelled : SpellsFlags source p (f ∷ rest) = subst (SpellsFlags source p) (sym whole) s in
-    let more = names_shown source p ns cs rest h.1 rest_is spelled.2 in
+    let more = names_display source p ns cs rest h.1 rest_is spelled.2 in
     let key_is : key_of c ≡ Some (f.0, token.label f.1) = flag_key c f.0 f.1 flag_is in
     let name : name_at source n ≡ name_of f.1 = ap name_of (key_text source n c f.0 (token.label f.1) h.0 key_is) in (
       all_more (inr (f.0, token.label f.1, ((c, h.0, key_is), spelled.1))) more.0,
@@ -275,25 +275,25 @@ names_shown source p (n ∷ ns) (c ∷ cs) fs h e s =
     all_more here there zero d lt = here
     all_more here there (suc k) d lt = there k d (omega (arith, lt))
 
-pub flags_shown : (source : List ℕ) (n : NodeTree) → IsValueOf source n → type_of n ≡ kind.Flags → All (IsParsedFrom source) (children_of n) × (in_braces (joined (map (name_at source) (children_of n))) ≡ shown_at source n)
-flags_shown source n v e =
+pub flags_display : (source : List ℕ) (n : NodeTree) → IsValueOf source n → type_of n ≡ kind.Flags → All (IsParsedFrom source) (children_of n) × (in_braces (joined (map (name_at source) (children_of n))) ≡ display_at source n)
+flags_display source n v e =
     let o = opened kind.Flags source n v e in
     let (fs, is, shape) = mapped flags (flags_of o.children) o.shape o.from in
     let spelled : SpellsEach source (at o.place (flags fs)) = subst (λ (x : SpannedShape). SpellsEach source (at o.place x)) (sym shape) o.spelled in
-    let it = names_shown source o.place (children_of n) o.children fs o.nodes is spelled.1 in
-    (it.0, ap (λ z. in_braces (joined z)) it.1 ∙ shown_opened kind.Flags source n o (flags fs) shape)
+    let it = names_display source o.place (children_of n) o.children fs o.nodes is spelled.1 in
+    (it.0, ap (λ z. in_braces (joined z)) it.1 ∙ display_opened kind.Flags source n o (flags fs) shape)
 
 -- a case: its label, its payload, and what shows it
-pub record ShownCase (source : List ℕ) (n : NodeTree) : Type 0 where
+pub record DisplayedCase (source : List ℕ) (n : NodeTree) : Type 0 where
   pub name : NodeTree
   pub payload : NodeTree
   pub children : children_of n ≡ name ∷ payload ∷ []
   pub named : IsParsedFrom source name
   pub value : IsValueOf source payload
-  pub shows : case_label (name_at source name) ++ in_parens (shown_at source payload) ≡ shown_at source n
+  pub shows : case_label (name_at source name) ++ in_parens (display_at source payload) ≡ display_at source n
 
-pub case_shown : (source : List ℕ) (n : NodeTree) → IsValueOf source n → type_of n ≡ kind.VariantWithPayload → ShownCase source n
-case_shown source n v e =
+pub case_display : (source : List ℕ) (n : NodeTree) → IsValueOf source n → type_of n ≡ kind.VariantWithPayload → DisplayedCase source n
+case_display source n v e =
     let o = opened kind.VariantWithPayload source n v e in
     let c = case_shape (place_of n) (node_text source n) o.children o.shape o.from in
     let k = pair_parsed source (children_of n) c.name c.payload (subst (λ (ts : List SpannedTree). AreParsed source (children_of n) ts) c.children o.nodes) in
@@ -306,7 +306,7 @@ case_shown source n v e =
       children = k.2;
       named = inr (c.place, token.label c.text, ((c.name, k.3, key_is), spelled.1.1));
       value = (c.payload, (k.4, spelled.1.2.1));
-      shows = (λ i. case_label (name i) ++ in_parens (shown_known source k.1 c.payload k.4 i)) ∙ shown_opened kind.VariantWithPayload source n o (label c.place c.text (a_placed c.payload)) (sym c.shape);
+      shows = (λ i. case_label (name i) ++ in_parens (display_known source k.1 c.payload k.4 i)) ∙ display_opened kind.VariantWithPayload source n o (label c.place c.text (a_placed c.payload)) (sym c.shape);
     }
 
 -- ---- entries, one by one

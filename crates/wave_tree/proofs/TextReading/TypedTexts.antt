@@ -56,10 +56,10 @@ node_refused Full T n source old new parsed e same read h of_type answer apart =
 -- a value that was read within n levels prints within twice as many
 pub value_prints : {V : Type 0} (tree_of_value : V → Value) (of : V → TypeTree → Type 0) → ((v : V) (T : TypeTree) → of v T → HasType T (tree_of_value v)) →
     (T : TypeTree) (n : ℕ) (old new : Place) (v : V) → IsValueTaken tree_of_value of T n old new v → HasDistinctLabels T → IsRepresentable T → PrintsWithinTwice T n (tree_of_value v)
-value_prints tree_of_value of fits T n old new v h labelled own =
+value_prints tree_of_value of fits T n old new v h labelled representable =
     let taken = h.read.taken in
     let it = h.means labelled.1 in
-    twice T labelled own n taken.tokens (tree_of_value v) (fits v T it.is_of) (back T n taken.tokens (tree_of h.placed) (tree_of_value v) [] taken.takes it.reads)
+    twice T labelled representable n taken.tokens (tree_of_value v) (fits v T it.is_of) (back T n taken.tokens (tree_of h.placed) (tree_of_value v) [] taken.takes it.reads)
 
 -- ---- refused values
 

@@ -4,7 +4,7 @@ use Rattle.std.specs.Prelude.{IfOk, IfErr}
 use Rattle.std.specs.Borrow.{Bor}
 use Rattle.std.specs.declared.ops.Range.{Range}
 use Rattle.wave_wasm.specs.Types.{TypeTree, IsRepresentable}
-use Rattle.wave_wasm.specs.Borrowed.{shown}
+use Rattle.wave_wasm.specs.Borrowed.{denoted}
 use Rattle.wave_wasm.specs.HasType.{HasType}
 use Rattle.wave_lex.specs.Labels.{HasDistinctLabels}
 use Rattle.wave_wasm.specs.Values.{Value}
@@ -70,8 +70,8 @@ module _ {V : Type 0} (tree : V → Value) (of : V → TypeTree → Type 0) (Ful
 
 -- a value that was read prints within twice as many levels
 pub all_print : {V E : Type 0} (tree : V → Value) (of : V → TypeTree → Type 0) → ((v : V) (T : TypeTree) → of v T → HasType T (tree v)) → (T : TypeTree) (n : ℕ) (old new : Place) (r : Result V E) → IfOk r (IsValueTaken tree of T n old new) → HasDistinctLabels T → IsRepresentable T → IfOk r (λ v. PrintsWithinTwice T n (tree v))
-all_print tree of fits T n old new (Ok v) h labelled own = value_prints tree of fits T n old new v h labelled own
-all_print tree of fits T n old new (Err e) h labelled own = tt
+all_print tree of fits T n old new (Ok v) h labelled representable = value_prints tree of fits T n old new v h labelled representable
+all_print tree of fits T n old new (Err e) h labelled representable = tt
 
 -- ---- tuples and lists
 
@@ -119,8 +119,8 @@ row_there n old new parsed sound h (q, inr mark) =
 
 -- what was made of a node there; at a plain type a tuple or a list is refused without memory
 pub typed_answered : {V S : Type 0} (tree : V → Value) (of : V → TypeTree → Type 0) (Full : TypeTree → Type 0) (type_tree : S → TypeTree) (n : ℕ) (old new : Place) (r : Result V Diagnostic) (o : Option (Bor S)) (x : Bor S) → o ≡ Some x → IsSound old →
-    LeadsBehindValue n value [] old new [] → IsNodeBuilt (IsReadSparing tree of Full in_text in_text (shown type_tree o)) old (IsParsed n old new) r →
+    LeadsBehindValue n value [] old new [] → IsNodeBuilt (IsReadSparing tree of Full in_text in_text (denoted type_tree o)) old (IsParsed n old new) r →
     IsAnswered tree of Full (type_tree x.now) n old new r × (IsPlain (type_tree x.now) → BeginsRow old → IfErr r (λ e. e.kind ≢ because.OutOfMemory))
 typed_answered {V} {S} tree of Full type_tree n old new r o x expected sound led (m, parsed, read) =
-    let given = subst (λ (z : Option (Bor S)). IsReadSparing tree of Full in_text in_text (shown type_tree z) old.lexer.source m r) expected read in
+    let given = subst (λ (z : Option (Bor S)). IsReadSparing tree of Full in_text in_text (denoted type_tree z) old.lexer.source m r) expected read in
     (answered tree of Full (type_tree x.now) n old new r m sound led parsed given.0, λ plain row. given.1 plain (row_there n old new m sound parsed row))

@@ -6,15 +6,15 @@ use Rattle.wave_grammar.specs.NodeTree.{NodeTree}
 use Rattle.wave_grammar.specs.Nodes.{IsParsedFrom}
 use Rattle.wave_grammar.specs.NodeAccessors.{node_text}
 use Rattle.wave_grammar.specs.TypedReading.{IsValueOf}
-use Rattle.wave_tree.specs.NodeDisplay.{shown_at}
+use Rattle.wave_tree.specs.NodeDisplay.{display_at}
 
 -- the name of the label at a node
 abbrev pub name_at : List ℕ → NodeTree → List ℕ
 name_at source n = name_of (node_text source n)
 
--- each pair of a key's node and a value's node, shown
+-- each pair of a key's node and a value's node, displayed
 abbrev pub entries_at : List ℕ → List NodeTree → List (List ℕ)
-entries_at source (k ∷ v ∷ more) = behind_name (node_text source k) (shown_at source v) ∷ entries_at source more
+entries_at source (k ∷ v ∷ more) = behind_name (node_text source k) (display_at source v) ∷ entries_at source more
 entries_at source _ = []
 
 -- a key's node, a value's node, and so on
@@ -31,4 +31,4 @@ braces_at source (n ∷ ns) = in_braces (joined (entries_at source (n ∷ ns)))
 -- `(a)` for the first of the nodes, or nothing
 abbrev pub payload_at : List ℕ → List NodeTree → List ℕ
 payload_at source [] = []
-payload_at source (n ∷ ns) = in_parens (shown_at source n)
+payload_at source (n ∷ ns) = in_parens (display_at source n)

@@ -6,7 +6,7 @@ ghost use Rattle.wave_grammar.specs.ErrorSpans.{HasParamsKind, IsCausedInParams}
 ghost use Rattle.wave_lex.specs.declared.error.ParserErrorKind.TheVariants.{OutOfMemory, WasmValueError};
 ghost use Rattle.wave_lex.specs.Errors.{LiesInText};
 ghost use Rattle.wave_lex.specs.FunctionName.{IsName};
-ghost use Rattle.wave_tree.specs.UntypedCall.{IsParamsOf, IsCalledOf, NameFault, RefusesCall, MemoryAtName, GivesParamsAt, RefusesParamsAt, call_shown};
+ghost use Rattle.wave_tree.specs.UntypedCall.{IsParamsOf, IsCalledOf, NameFault, RefusesCall, MemoryAtName, GivesParamsAt, RefusesParamsAt, call_display};
 ghost use Rattle.wave_tree.specs.Private.UntypedCall.{CallStandsIn, params_place};
 ghost use Rattle.wave_tree.specs.DisplayKeeps.{IsCallKeptByDisplay};
 
@@ -202,8 +202,8 @@ impl<'source> UntypedFuncCall<'source> {
         types: &[P],
     ) -> Result<Vec<V>, ParserError>
         ensures count { IfOk result (λ vs. length vs.items ≡ length types.now) }
-        ensures values { IfOk result (λ vs. GivesParamsAt V.tree V.is_of (map P.shown types.now) self.now.source self.now.params vs.items) }
-        ensures refused { IfErr result (RefusesParamsAt V.is_full (map P.shown types.now) self.now.source self.now.name self.now.params) }
+        ensures values { IfOk result (λ vs. GivesParamsAt V.tree V.is_of (map P.denoted types.now) self.now.source self.now.params vs.items) }
+        ensures refused { IfErr result (RefusesParamsAt V.is_full (map P.denoted types.now) self.now.source self.now.name self.now.params) }
         ensures kind { IfErr result HasParamsKind }
         ensures within { IfErr result (λ e. LiesInText self.now.source e.span) }
         ensures caused { IfErr result (λ e. e.kind ≡ WasmValueError → IsCausedInParams self.now.name self.now.params e) }
@@ -236,13 +236,13 @@ impl<'source> UntypedFuncCall<'source> {
 
 impl fmt::Display for UntypedFuncCall<'_> {
     ghost use Rattle.std.specs.Prelude.{Some};
-    ghost use Rattle.wave_tree.specs.UntypedCall.{call_shown};
+    ghost use Rattle.wave_tree.specs.UntypedCall.{call_display};
 
-    ghost output = { λ u. Some (call_shown u) };
+    ghost output = { λ u. Some (call_display u) };
 
     fn fmt<W: fmt::Write>(&self, f: &mut fmt::Formatter<W>) -> fmt::Result
-        ensures writes { DisplaysOnOk W.write_str_gives f.old result (Some (call_shown self.now)) f.new }
-        ensures kept { IsCallKeptByDisplay self.now (call_shown self.now) }
+        ensures writes { DisplaysOnOk W.write_str_gives f.old result (Some (call_display self.now)) f.new }
+        ensures kept { IsCallKeptByDisplay self.now (call_display self.now) }
     {
         let source = self.source.as_str();
         f.write_str(&source[self.name.start..self.name.end])?;

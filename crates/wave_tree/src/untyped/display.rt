@@ -8,7 +8,7 @@ ghost use Rattle.wave_grammar.specs.Nodes.{IsParsedFrom};
 ghost use Rattle.wave_grammar.specs.TypedReading.{IsValueOf};
 ghost use Rattle.wave_grammar.specs.NodeAccessors.{node_text};
 ghost use Rattle.wave_tree.specs.DisplayKeeps.{IsKeptByDisplay};
-ghost use Rattle.wave_tree.specs.NodeDisplay.{shown_at};
+ghost use Rattle.wave_tree.specs.NodeDisplay.{display_at};
 ghost use Rattle.wave_tree.specs.Private.NodeDisplay.{name_at, entries_at, braces_at, payload_at, AreEntriesOf};
 
 use crate::untyped::UntypedValue;
@@ -19,13 +19,13 @@ use wave_wasm::keyword::Keyword;
 
 impl fmt::Display for UntypedValue<'_> {
     ghost use Rattle.std.specs.Prelude.{Some};
-    ghost use Rattle.wave_tree.specs.NodeDisplay.{shown_at};
+    ghost use Rattle.wave_tree.specs.NodeDisplay.{display_at};
 
-    ghost output = { λ u. Some (shown_at u.source u.node) };
+    ghost output = { λ u. Some (display_at u.source u.node) };
 
     fn fmt<W: fmt::Write>(&self, f: &mut fmt::Formatter<W>) -> fmt::Result
-        ensures writes { DisplaysOnOk W.write_str_gives f.old result (Some (shown_at self.now.source self.now.node)) f.new }
-        ensures kept { IsKeptByDisplay self.now.source self.now.node (shown_at self.now.source self.now.node) }
+        ensures writes { DisplaysOnOk W.write_str_gives f.old result (Some (display_at self.now.source self.now.node)) f.new }
+        ensures kept { IsKeptByDisplay self.now.source self.now.node (display_at self.now.source self.now.node) }
     {
         let node = self.node();
         write_node(f, node, self.source())
@@ -40,7 +40,7 @@ pub(crate) fn write_node<W: fmt::Write>(
     src: &str,
 ) -> fmt::Result
     requires { IsValueOf src.now node.now }
-    ensures { WritesOnOk W.write_str_gives f.old result (shown_at src.now node.now) f.new }
+    ensures { WritesOnOk W.write_str_gives f.old result (display_at src.now node.now) f.new }
 {
     match node.ty() {
         NodeType::BoolTrue => f.write_str("true"),
@@ -73,7 +73,7 @@ fn write_listed<W: fmt::Write>(
     src: &str,
 ) -> fmt::Result
     requires { All (IsValueOf src.now) nodes.now }
-    ensures { WritesOnOk W.write_str_gives f.old result (enclosed start.now (map (shown_at src.now) nodes.now) end.now) f.new }
+    ensures { WritesOnOk W.write_str_gives f.old result (enclosed start.now (map (display_at src.now) nodes.now) end.now) f.new }
 {
     f.write_str(start)?;
     write_items(f, nodes, src)?;
@@ -84,7 +84,7 @@ fn write_listed<W: fmt::Write>(
 #[cycle(display)]
 fn write_items<W: fmt::Write>(f: &mut fmt::Formatter<W>, nodes: &[Node], src: &str) -> fmt::Result
     requires { All (IsValueOf src.now) nodes.now }
-    ensures { WritesOnOk W.write_str_gives f.old result (joined (map (shown_at src.now) nodes.now)) f.new }
+    ensures { WritesOnOk W.write_str_gives f.old result (joined (map (display_at src.now) nodes.now)) f.new }
 {
     let mut separator = "";
     for node in nodes {
@@ -136,7 +136,7 @@ fn write_entry<W: fmt::Write>(
 ) -> fmt::Result
     requires key { IsParsedFrom src.now key.now }
     requires value { IsValueOf src.now value.now }
-    ensures { WritesOnOk W.write_str_gives f.old result (behind_name (node_text src.now key.now) (shown_at src.now value.now)) f.new }
+    ensures { WritesOnOk W.write_str_gives f.old result (behind_name (node_text src.now key.now) (display_at src.now value.now)) f.new }
 {
     f.write_str(make::slice(key, src))?;
     f.write_str(": ")?;
@@ -168,7 +168,7 @@ fn write_payload<W: fmt::Write>(
 fn write_case<W: fmt::Write>(f: &mut fmt::Formatter<W>, node: &Node, src: &str) -> fmt::Result
     requires value { IsValueOf src.now node.now }
     requires ty { type_of node.now ≡ NodeType.VariantWithPayload }
-    ensures { WritesOnOk W.write_str_gives f.old result (shown_at src.now node.now) f.new }
+    ensures { WritesOnOk W.write_str_gives f.old result (display_at src.now node.now) f.new }
 {
     let nodes = make::nodes(node);
     let label = &nodes[0];

@@ -451,4 +451,4 @@ mutual
 
 -- the text of a type determines the type
 pub text_tells : (T : TypeTree) → IsRepresentable T → HasLabels T → TypeTextTells T
-text_tells T own labels U other_own other_labels e = (tells T U [] [] (own, labels) (other_own, other_labels) tt tt (ap (λ z. z ++ []) e)).0
+text_tells T representable labels U other_own other_labels e = (tells T U [] [] (representable, labels) (other_own, other_labels) tt tt (ap (λ z. z ++ []) e)).0

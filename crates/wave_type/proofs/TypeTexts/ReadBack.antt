@@ -253,6 +253,6 @@ mutual
 
 -- the text of a type spells it
 pub text_spells : (T : TypeTree) → IsRepresentable T → HasDistinctLabels T → IsTypeOf (type_text T) T
-text_spells T own labelled =
-    let w = type_prints T (own, labelled.0) labelled.1 [] [] tt tt end_cut in
+text_spells T representable labelled =
+    let w = type_prints T (representable, labelled.0) labelled.1 [] [] tt tt end_cut in
     (w.0, subst (λ z. IsTokenizedTo z w.0) (append-nil (type_text T)) w.1, w.2)

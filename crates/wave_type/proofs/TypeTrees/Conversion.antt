@@ -82,11 +82,11 @@ variant_start T parts done k e none =
     let built : T ≡ type.variant (cases_of parts) = f.1 ∙ ap type.variant (sym (cases_back f.0) ∙ ap cases_of (sym (e ∙ ap variant_parts f.1))) in
     ap converted_type built ∙ (variant_from parts ∙ ap (λ ds. remaining can_be_payload variant_type ds parts) (sym none))
 
-converted_by : (own : Bool) (T U : TypeTree) → Some U ≡ (if own then Some T else None) → (own ≡ true) × (U ≡ T)
+converted_by : (representable : Bool) (T U : TypeTree) → Some U ≡ (if representable then Some T else None) → (representable ≡ true) × (U ≡ T)
 converted_by true T U e = (refl, cc)
 converted_by false T U e = absurd (cc)
 
-refused_by : (own : Bool) (T : TypeTree) → None ≡ (if own then Some T else None) → own ≡ false
+refused_by : (representable : Bool) (T : TypeTree) → None ≡ (if representable then Some T else None) → representable ≡ false
 refused_by true T e = absurd (cc)
 refused_by false T e = refl
 
@@ -125,11 +125,11 @@ remaining_none ok make f xs i x done whole before lt is refused =
 pub remaining_done : {X Y : Type 0} (ok : Y → Bool) (make : List Y → Option TypeTree) (f : X → Y) (xs : List X) (i : ℕ) (done : List Y) (whole : Option TypeTree) → whole ≡ remaining ok make done (map f (drop i xs)) → length xs ≤ i → make done ≡ whole
 remaining_done ok make f xs i done whole before le = sym (before ∙ (at_end (λ l. remaining ok make done (map f l)) xs i le ∙ ap make (append-nil done)))
 
-payload_by : (own : Bool) (T : TypeTree) (payload : Option TypeTree) → Some payload ≡ option_map (λ U. Some U) (if own then Some T else None) → (own ≡ true) × (payload ≡ Some T)
+payload_by : (representable : Bool) (T : TypeTree) (payload : Option TypeTree) → Some payload ≡ option_map (λ U. Some U) (if representable then Some T else None) → (representable ≡ true) × (payload ≡ Some T)
 payload_by true T payload e = (refl, cc)
 payload_by false T payload e = absurd (cc)
 
-refused_payload_by : (own : Bool) (T : TypeTree) → None ≡ option_map (λ U. Some U) (if own then Some T else None) → own ≡ false
+refused_payload_by : (representable : Bool) (T : TypeTree) → None ≡ option_map (λ U. Some U) (if representable then Some T else None) → representable ≡ false
 refused_payload_by true T e = absurd (cc)
 refused_payload_by false T e = refl
 

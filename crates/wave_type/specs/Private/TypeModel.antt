@@ -63,4 +63,4 @@ pub record IsSoundShape (shape : Shape) : Type 0 where
   pub key : HasSimpleKey shape
   pub places : HasFirstPlaces shape
   pub distinct : TellsDistinct shape
-  pub own : IsRepresentable (shape_tree shape)
+  pub representable : IsRepresentable (shape_tree shape)

@@ -1,6 +1,6 @@
 //! What the type of a function answers about itself.
 ghost use Rattle.std.specs.Prelude.{◌≡◌, IfOk, map};
-ghost use Rattle.wave_wasm.specs.Borrowed.{shown_all};
+ghost use Rattle.wave_wasm.specs.Borrowed.{denoted_all};
 ghost use Rattle.wave_type.specs.TypeModel.{by_bytes};
 ghost use Rattle.wave_type.specs.FunctionType.{types_of};
 
@@ -40,7 +40,7 @@ impl WasmFunc for FuncType {
 
 // The types, in their order.
 fn borrowed_types(alloc: Global, parts: &Vec<(String, Type)>) -> Result<Vec<&Type>, AllocError>
-    ensures { IfOk result (λ v. shown_all (λ t. t) v.items ≡ types_of (map by_bytes parts.now.items)) }
+    ensures { IfOk result (λ v. denoted_all (λ t. t) v.items ≡ types_of (map by_bytes parts.now.items)) }
 {
     let mut types = Vec::new(alloc);
     for part in parts {

@@ -1,7 +1,7 @@
 //! Any type as a `Type`.
 ghost use Rattle.std.specs.Prelude.{◌≡◌, ◌≢◌, None, IfOk};
 ghost use Rattle.wave_wasm.specs.Types.{kind_of, list_part};
-ghost use Rattle.wave_wasm.specs.Borrowed.{shown};
+ghost use Rattle.wave_wasm.specs.Borrowed.{denoted};
 ghost use Rattle.wave_type.specs.TypeConversion.{converted_type};
 ghost use Rattle.wave_type.specs.Private.TypeConversion.{converted_payload};
 
@@ -142,7 +142,7 @@ fn convert_payload<T: WasmType>(
     alloc: Global,
     payload: Option<&T>,
 ) -> Result<Option<Option<Type>>, AllocError>
-    ensures { IfOk result (λ r. r ≡ converted_payload (shown T.tree payload.entry)) }
+    ensures { IfOk result (λ r. r ≡ converted_payload (denoted T.tree payload.entry)) }
 {
     let Some(ty) = payload else {
         return Ok(Some(None));

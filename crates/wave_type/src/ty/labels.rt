@@ -18,7 +18,7 @@ impl Type {
     /// no name stands twice. The type's tree is one that a type can have.
     pub fn names_are_labels(&self) -> bool
         ensures labels { IsTrue result ↔ HasDistinctLabels self.now }
-        ensures own { IsRepresentable self.now }
+        ensures representable { IsRepresentable self.now }
     {
         let _ = &self.shape;
         names_pass(self)

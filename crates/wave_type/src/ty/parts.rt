@@ -1,6 +1,6 @@
 //! What a type answers about itself.
 ghost use Rattle.std.specs.Prelude.{◌≡◌, IfOk, map};
-ghost use Rattle.wave_wasm.specs.Borrowed.{shown_all, shown_fields, shown_cases};
+ghost use Rattle.wave_wasm.specs.Borrowed.{denoted_all, denoted_fields, denoted_cases};
 ghost use Rattle.wave_type.specs.TypeModel.{by_bytes};
 
 use super::index::borrowed_names;
@@ -141,7 +141,7 @@ fn borrowed_fields(
     alloc: Global,
     fields: &Vec<(String, Type)>,
 ) -> Result<Vec<(&str, &Type)>, AllocError>
-    ensures { IfOk result (λ v. shown_fields (λ t. t) v.items ≡ map by_bytes fields.now.items) }
+    ensures { IfOk result (λ v. denoted_fields (λ t. t) v.items ≡ map by_bytes fields.now.items) }
 {
     let mut answer = Vec::with_capacity(alloc, fields.len())?;
     for field in fields {
@@ -152,7 +152,7 @@ fn borrowed_fields(
 
 // The types, in their order.
 fn borrowed_types(alloc: Global, types: &Vec<Type>) -> Result<Vec<&Type>, AllocError>
-    ensures { IfOk result (λ v. shown_all (λ t. t) v.items ≡ types.now.items) }
+    ensures { IfOk result (λ v. denoted_all (λ t. t) v.items ≡ types.now.items) }
 {
     let mut answer = Vec::with_capacity(alloc, types.len())?;
     for ty in types {
@@ -166,7 +166,7 @@ fn borrowed_cases(
     alloc: Global,
     cases: &Vec<(String, Option<Type>)>,
 ) -> Result<Vec<(&str, Option<&Type>)>, AllocError>
-    ensures { IfOk result (λ v. shown_cases (λ t. t) v.items ≡ map by_bytes cases.now.items) }
+    ensures { IfOk result (λ v. denoted_cases (λ t. t) v.items ≡ map by_bytes cases.now.items) }
 {
     let mut answer = Vec::with_capacity(alloc, cases.len())?;
     for case in cases {

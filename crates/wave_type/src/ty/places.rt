@@ -3,7 +3,7 @@ ghost use Rattle.std.specs.Prelude.{◌≡◌, ◌↔◌, IsTrue, None, [], get_
 ghost use Rattle.std.specs.Str.{bytes_eq};
 ghost use Rattle.std.specs.List.{position};
 ghost use Rattle.wave_wasm.specs.Types.{IsRepresentable, HasDistinctNames, types_of, fields_of, record_parts, variant_parts, enum_names, flags_names};
-ghost use Rattle.wave_wasm.specs.Borrowed.{shown_case};
+ghost use Rattle.wave_wasm.specs.Borrowed.{denoted_case};
 ghost use Rattle.wave_type.specs.TypeModel.{by_bytes, tuple_part, record_part};
 
 use super::index::{are_distinct, first_place};
@@ -134,7 +134,7 @@ pub fn field_place(ty: &Type, name: &str) -> Option<usize>
 /// text and none past the last case, and where the type is no variant.
 #[tactic(auto, using(crate::proofs::TypeTrees::Lists::families))]
 pub fn variant_case(ty: &Type, place: usize) -> (&str, Option<&Type>)
-    ensures { shown_case (λ t. t) result ≡ get_or (variant_parts ty.now) place ([], None) }
+    ensures { denoted_case (λ t. t) result ≡ get_or (variant_parts ty.now) place ([], None) }
 {
     match &ty.shape {
         Shape::Variant(cases) => case_in(&cases.0, place),
@@ -188,7 +188,7 @@ pub fn part_name<A>(parts: &[(String, A)], place: usize) -> &str
 
 // The case at the place, and none past the end.
 fn case_in(cases: &Vec<(String, Option<Type>)>, place: usize) -> (&str, Option<&Type>)
-    ensures { shown_case (λ t. t) result ≡ get_or (map by_bytes cases.now.items) place ([], None) }
+    ensures { denoted_case (λ t. t) result ≡ get_or (map by_bytes cases.now.items) place ([], None) }
 {
     if place >= cases.len() {
         return ("", None);

@@ -103,7 +103,7 @@ full_flags T names (Err e) h = λ full all is distinct picked. names_refused all
 -- ---- maps
 
 pub built_map : (T : TypeTree) (handed : List (TypedValue × TypedValue)) (r : Result TypedValue WasmValueError) → IfOk r (BuiltMap handed T) → IfOk r (MakesMap (λ v. v.tree) (λ v T. IsAt T v) T handed)
-built_map T handed (Ok v) (all, shown, m) = λ distinct. (all, shown, lawful _ T v m)
+built_map T handed (Ok v) (all, denoted, m) = λ distinct. (all, denoted, lawful _ T v m)
 built_map T handed (Err e) h = tt
 
 entries_of : (K V : TypeTree) (handed : List (TypedValue × TypedValue)) → AllOf (λ e. IsAt K e.0 × IsAt V e.1) handed → AllOf IsAsStated (entries_stated K V handed)

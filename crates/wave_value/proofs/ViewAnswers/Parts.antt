@@ -20,9 +20,9 @@ pub items_taken : (T : TypeTree) (vs ws : List TypedValue) → ListFits T vs →
 items_taken T vs ws h same = subst (TakesList T) (sym same) (list_taken T vs h)
 
 -- they are the items of the list that they mean
-pub items_shown : (T : TypeTree) (vs : List TypedValue) → trees vs ≡ list_items (list_value T (trees vs))
-items_shown (type.fixed E n) vs = sym (value_list-values (trees vs))
-items_shown _ vs = sym (value_list-values (trees vs))
+pub items_denoted : (T : TypeTree) (vs : List TypedValue) → trees vs ≡ list_items (list_value T (trees vs))
+items_denoted (type.fixed E n) vs = sym (value_list-values (trees vs))
+items_denoted _ vs = sym (value_list-values (trees vs))
 
 -- a tuple's items
 pub places_taken : (T : TypeTree) (vs ws : List TypedValue) → TupleFits T vs → ws ≡ vs → TakesTuple T ws
@@ -41,6 +41,6 @@ case_taken (c ∷ cs) zero p h = (c.1, inl (refl, refl), own_payload c.1 p h)
 case_taken (c ∷ cs) (suc i) p h = let (P, first, own) = case_taken cs i p h.1 in (P, inr (h.0, first), own)
 
 -- a variant's case and payload
-pub variant_shown : (T : TypeTree) (i : ℕ) (p : Option TypedValue) (name : List ℕ) → VariantFits T i p → name ≡ name_at (first_names (variant_parts T)) i → TakesVariant T name p
-variant_shown (type.variant cs) i p name h called = subst (λ n. TakesVariant (type.variant cs) n p) (sym called) (case_taken (type.case_list cs) i p h)
-variant_shown _ i p name h called = absurd h
+pub variant_denoted : (T : TypeTree) (i : ℕ) (p : Option TypedValue) (name : List ℕ) → VariantFits T i p → name ≡ name_at (first_names (variant_parts T)) i → TakesVariant T name p
+variant_denoted (type.variant cs) i p name h called = subst (λ n. TakesVariant (type.variant cs) n p) (sym called) (case_taken (type.case_list cs) i p h)
+variant_denoted _ i p name h called = absurd h

@@ -7,7 +7,7 @@ use Rattle.std.proofs.lemmas.Bool.{false≢true}
 use Rattle.std.proofs.lemmas.Slice.Eq.{bytes_eq-Decides}
 use Rattle.wave_wasm.specs.Lists.{AllOf}
 use Rattle.wave_wasm.specs.Names.{IsNoneOf, AreDistinct, AreAllOf}
-use Rattle.wave_wasm.specs.Borrowed.{shown_fields}
+use Rattle.wave_wasm.specs.Borrowed.{denoted_fields}
 use Rattle.wave_wasm.specs.Types as type
 use Rattle.wave_wasm.specs.Types.{TypeTree, field_list, record_parts}
 use Rattle.wave_wasm.specs.Values.{Value}
@@ -36,7 +36,7 @@ abbrev tail_pairs : List (List ℕ × Value) → List (List ℕ × Value)
 tail_pairs [] = []
 tail_pairs (p ∷ ps) = ps
 
-aligned : (fs : List (List ℕ × TypeTree)) (xs : List (Bor (List ℕ) × Bor TypedValue)) → FieldsAt fs (map {B = TypedValue} (λ x. x.1.now) xs) → shown_fields (λ (w : TypedValue). w.tree) xs ≡ beside (first_names fs) (trees (map {B = TypedValue} (λ x. x.1.now) xs)) → Aligned fs (shown_fields (λ (w : TypedValue). w) xs)
+aligned : (fs : List (List ℕ × TypeTree)) (xs : List (Bor (List ℕ) × Bor TypedValue)) → FieldsAt fs (map {B = TypedValue} (λ x. x.1.now) xs) → denoted_fields (λ (w : TypedValue). w.tree) xs ≡ beside (first_names fs) (trees (map {B = TypedValue} (λ x. x.1.now) xs)) → Aligned fs (denoted_fields (λ (w : TypedValue). w) xs)
 aligned [] [] h t = tt
 aligned [] (x ∷ xs) h t = absurd h
 aligned (f ∷ fs) [] h t = absurd h
@@ -83,12 +83,12 @@ all_under (f ∷ fs) (g ∷ gs) d h =
     (head_own (last_under gs f.0) (bytes_eq g.0 f.0) f.1 g.1 none ((bytes_eq-Decides g.0 f.0).1 h.0) h.1, all_stay g gs fs (all_under fs gs d.1 h.2))
 
 -- a record's fields
-pub fields_taken : (T : TypeTree) (vs : List TypedValue) (xs : List (Bor (List ℕ) × Bor TypedValue)) → RecordFits T vs → shown_fields (λ (w : TypedValue). w.tree) xs ≡ beside (first_names (record_parts T)) (trees vs) → map {B = TypedValue} (λ x. x.1.now) xs ≡ vs → TakesRecord T (shown_fields (λ (w : TypedValue). w) xs)
+pub fields_taken : (T : TypeTree) (vs : List TypedValue) (xs : List (Bor (List ℕ) × Bor TypedValue)) → RecordFits T vs → denoted_fields (λ (w : TypedValue). w.tree) xs ≡ beside (first_names (record_parts T)) (trees vs) → map {B = TypedValue} (λ x. x.1.now) xs ≡ vs → TakesRecord T (denoted_fields (λ (w : TypedValue). w) xs)
 fields_taken (type.record_type fs) vs xs h t same =
     let parts = field_list fs in
-    let gs = shown_fields (λ (w : TypedValue). w) xs in
+    let gs = denoted_fields (λ (w : TypedValue). w) xs in
     let at : FieldsAt parts (map {B = TypedValue} (λ x. x.1.now) xs) = subst (FieldsAt parts) (sym same) h.1 in
-    let a : Aligned parts gs = aligned parts xs at (subst (λ us. shown_fields (λ (w : TypedValue). w.tree) xs ≡ beside (first_names parts) (trees us)) (sym same) t) in
+    let a : Aligned parts gs = aligned parts xs at (subst (λ us. denoted_fields (λ (w : TypedValue). w.tree) xs ≡ beside (first_names parts) (trees us)) (sym same) t) in
     let known : AreAllOf (first_names parts) (first_names gs) = subst (AreAllOf (first_names parts)) (sym (names_are parts gs a)) (all_of (first_names parts) (first_names parts) (λ n one. one)) in
     (h.0, known, all_under parts gs h.0 a)
 fields_taken _ vs xs h t same = absurd h

@@ -11,7 +11,7 @@ ghost use Rattle.wave_value.specs.ConstructorRules.{Built, HasLength, TakesList,
 ghost use Rattle.wave_value.specs.ConstructorRules.{RefusesList, RefusesParts, RefusesTuple, RefusesPayload, RefusesResult, RefusesEnum};
 ghost use Rattle.wave_value.specs.CaseRules.{BuiltMap, TakesMap, map_stated};
 ghost use Rattle.wave_value.specs.Private.ConstructorRules.{Reports, SaysLength};
-ghost use Rattle.wave_wasm.specs.Borrowed.{shown, named};
+ghost use Rattle.wave_wasm.specs.Borrowed.{denoted, named};
 ghost use Rattle.wave_type.specs.TypeModel.{by_bytes, record_part};
 ghost use Rattle.wave_value.specs.Private.RecordConstructor.{held, InOrder, IsInTurn};
 ghost use Rattle.wave_value.specs.RecordConstructor.{last_under, TakesRecord, BuiltRecord, RefusesRecord, RefusesFields};
@@ -243,8 +243,8 @@ fn boxed_payload<S: ShowsValue>(
     val: Option<Value>,
 ) -> Result<Option<Box<Value>>, WasmValueError>
     ensures boxed { IfOk result (λ b. boxed b ≡ val) }
-    ensures taken { OnOk result (PayloadAt (shown (λ t. t) stated.entry) val) }
-    ensures refused { IfErr result (RefusesPayload S.words case.now (shown (λ t. t) stated.entry) val) }
+    ensures taken { OnOk result (PayloadAt (denoted (λ t. t) stated.entry) val) }
+    ensures refused { IfErr result (RefusesPayload S.words case.now (denoted (λ t. t) stated.entry) val) }
 {
     match val {
         None => match stated {

@@ -4,7 +4,7 @@ ghost use Rattle.std.specs.Prelude.{◌≡◌, IfOk, map};
 ghost use Rattle.wave_wasm.specs.Types.{flags_names, record_parts};
 ghost use Rattle.wave_wasm.specs.Values as value;
 ghost use Rattle.wave_wasm.specs.Values.{kind_of, maybe_value, list_items, tuple_items, record_fields, map_entries};
-ghost use Rattle.wave_wasm.specs.Borrowed.{texts, shown, shown_all, shown_fields, shown_pairs, shown_either};
+ghost use Rattle.wave_wasm.specs.Borrowed.{texts, denoted, denoted_all, denoted_fields, denoted_pairs, denoted_either};
 ghost use Rattle.wave_wasm.specs.ConstructorContracts.{IsOfListKind, result_value, leaf_entries};
 ghost use Rattle.wave_value.specs.ValueModel.{trees, name_at, first_names, beside};
 ghost use Rattle.wave_value.specs.ConstructorRules.{TakesList, TakesTuple, TakesOption, TakesResult};
@@ -21,8 +21,8 @@ impl Value {
     /// The items. It asks for a list. The only error is out of memory.
     pub fn unwrap_list(&self, alloc: Global) -> Result<Vec<&Value>, AllocError>
         requires { IsOfListKind (kind_of self.now.tree) }
-        ensures trees { IfOk result (λ v. shown_all (λ w. w.tree) v.items ≡ list_items self.now.tree) }
-        ensures own { IfOk result (λ v. TakesList self.now.own (shown_all (λ w. w) v.items)) }
+        ensures trees { IfOk result (λ v. denoted_all (λ w. w.tree) v.items ≡ list_items self.now.tree) }
+        ensures own { IfOk result (λ v. TakesList self.now.own (denoted_all (λ w. w) v.items)) }
     {
         match &self.content {
             Content::List(vals) => borrowed_values(alloc, vals),
@@ -33,8 +33,8 @@ impl Value {
     /// The items. It asks for a tuple. The only error is out of memory.
     pub fn unwrap_tuple(&self, alloc: Global) -> Result<Vec<&Value>, AllocError>
         requires { kind_of self.now.tree ≡ WasmTypeKind.Tuple }
-        ensures trees { IfOk result (λ v. shown_all (λ w. w.tree) v.items ≡ tuple_items self.now.tree) }
-        ensures own { IfOk result (λ v. TakesTuple self.now.own (shown_all (λ w. w) v.items)) }
+        ensures trees { IfOk result (λ v. denoted_all (λ w. w.tree) v.items ≡ tuple_items self.now.tree) }
+        ensures own { IfOk result (λ v. TakesTuple self.now.own (denoted_all (λ w. w) v.items)) }
     {
         match &self.content {
             Content::Tuple(vals) => borrowed_values(alloc, vals),
@@ -46,8 +46,8 @@ impl Value {
     /// is out of memory.
     pub fn unwrap_record(&self, alloc: Global) -> Result<Vec<(&str, &Value)>, AllocError>
         requires { kind_of self.now.tree ≡ WasmTypeKind.Record }
-        ensures trees { IfOk result (λ v. shown_fields (λ w. w.tree) v.items ≡ record_fields self.now.tree) }
-        ensures own { IfOk result (λ v. TakesRecord self.now.own (shown_fields (λ w. w) v.items)) }
+        ensures trees { IfOk result (λ v. denoted_fields (λ w. w.tree) v.items ≡ record_fields self.now.tree) }
+        ensures own { IfOk result (λ v. TakesRecord self.now.own (denoted_fields (λ w. w) v.items)) }
     {
         match &self.content {
             Content::Record(vals) => borrowed_fields(alloc, &self.own, vals),
@@ -59,8 +59,8 @@ impl Value {
     pub fn unwrap_map(&self, alloc: Global) -> Result<Vec<(&Value, &Value)>, AllocError>
         requires { kind_of self.now.tree ≡ WasmTypeKind.Map }
         ensures trees { IfOk result
-            (λ v. shown_pairs (λ w. w.tree) v.items ≡ leaf_entries (map_entries self.now.tree)) }
-        ensures own { IfOk result (λ v. TakesMap self.now.own (shown_pairs (λ w. w) v.items)) }
+            (λ v. denoted_pairs (λ w. w.tree) v.items ≡ leaf_entries (map_entries self.now.tree)) }
+        ensures own { IfOk result (λ v. TakesMap self.now.own (denoted_pairs (λ w. w) v.items)) }
     {
         match &self.content {
             Content::Map(entries) => {
@@ -74,8 +74,8 @@ impl Value {
     /// The case and its payload. It asks for a variant.
     pub fn unwrap_variant(&self) -> (&str, Option<&Value>)
         requires { kind_of self.now.tree ≡ WasmTypeKind.Variant }
-        ensures tree { self.now.tree ≡ value.variant result.0.now (maybe_value (shown (λ w. w.tree) result.1)) }
-        ensures own { TakesVariant self.now.own result.0.now (shown (λ w. w) result.1) }
+        ensures tree { self.now.tree ≡ value.variant result.0.now (maybe_value (denoted (λ w. w.tree) result.1)) }
+        ensures own { TakesVariant self.now.own result.0.now (denoted (λ w. w) result.1) }
     {
         match &self.content {
             Content::Variant(place, Some(val)) => (variant_name(&self.own, *place), Some(&**val)),
@@ -98,8 +98,8 @@ impl Value {
     /// The payload of `some`, or none. It asks for an option.
     pub fn unwrap_option(&self) -> Option<&Value>
         requires { kind_of self.now.tree ≡ WasmTypeKind.Option }
-        ensures tree { self.now.tree ≡ value.option (maybe_value (shown (λ w. w.tree) result)) }
-        ensures own { TakesOption self.now.own (shown (λ w. w) result) }
+        ensures tree { self.now.tree ≡ value.option (maybe_value (denoted (λ w. w.tree) result)) }
+        ensures own { TakesOption self.now.own (denoted (λ w. w) result) }
     {
         match &self.content {
             Content::Option(Some(val)) => Some(&**val),
@@ -111,8 +111,8 @@ impl Value {
     /// The payload of `ok` or of `err`. It asks for a result.
     pub fn unwrap_result(&self) -> Result<Option<&Value>, Option<&Value>>
         requires { kind_of self.now.tree ≡ WasmTypeKind.Result }
-        ensures tree { self.now.tree ≡ result_value (shown_either (λ w. w.tree) result) }
-        ensures own { TakesResult self.now.own (shown_either (λ w. w) result) }
+        ensures tree { self.now.tree ≡ result_value (denoted_either (λ w. w.tree) result) }
+        ensures own { TakesResult self.now.own (denoted_either (λ w. w) result) }
     {
         match &self.content {
             Content::Ok(Some(val)) => Ok(Some(&**val)),
@@ -138,8 +138,8 @@ impl Value {
 
 // The values, in their order.
 fn borrowed_values(alloc: Global, values: &Vec<Value>) -> Result<Vec<&Value>, AllocError>
-    ensures trees { IfOk result (λ v. shown_all (λ w. w.tree) v.items ≡ trees values.now.items) }
-    ensures values { IfOk result (λ v. shown_all (λ w. w) v.items ≡ values.now.items) }
+    ensures trees { IfOk result (λ v. denoted_all (λ w. w.tree) v.items ≡ trees values.now.items) }
+    ensures values { IfOk result (λ v. denoted_all (λ w. w) v.items ≡ values.now.items) }
 {
     let mut answer = Vec::with_capacity(alloc, values.len())?;
     for value in values {
@@ -171,7 +171,7 @@ fn borrowed_fields<'a>(
     values: &'a Vec<Value>,
 ) -> Result<Vec<(&'a str, &'a Value)>, AllocError>
     ensures trees { IfOk result
-        (λ v. shown_fields (λ w. w.tree) v.items ≡ beside (first_names (record_parts own.now)) (trees values.now.items)) }
+        (λ v. denoted_fields (λ w. w.tree) v.items ≡ beside (first_names (record_parts own.now)) (trees values.now.items)) }
     ensures values { IfOk result (λ v. map (λ f. f.1.now) v.items ≡ values.now.items) }
 {
     let fields = fields_in(own);
@@ -188,8 +188,8 @@ fn borrowed_entries(
     entries: &Vec<(Value, Value)>,
 ) -> Result<Vec<(&Value, &Value)>, AllocError>
     ensures trees { IfOk result
-        (λ v. shown_pairs (λ w. w.tree) v.items ≡ map (λ e. (e.0.tree, e.1.tree)) entries.now.items) }
-    ensures entries { IfOk result (λ v. shown_pairs (λ w. w) v.items ≡ entries.now.items) }
+        (λ v. denoted_pairs (λ w. w.tree) v.items ≡ map (λ e. (e.0.tree, e.1.tree)) entries.now.items) }
+    ensures entries { IfOk result (λ v. denoted_pairs (λ w. w) v.items ≡ entries.now.items) }
 {
     let mut answer = Vec::with_capacity(alloc, entries.len())?;
     for entry in entries {

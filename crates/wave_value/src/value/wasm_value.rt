@@ -19,7 +19,7 @@ impl WasmValue for Value {
     ghost use Rattle.wave_wasm.specs.Types.{flags_names, HasDistinctNames};
     ghost use Rattle.wave_wasm.specs.Values as value;
     ghost use Rattle.wave_wasm.specs.Values.{kind_of, values, maybe_value, list_items, tuple_items, record_fields, map_entries, IsSound};
-    ghost use Rattle.wave_wasm.specs.Borrowed.{texts, named, shown, shown_all, shown_fields, shown_pairs, shown_either};
+    ghost use Rattle.wave_wasm.specs.Borrowed.{texts, named, denoted, denoted_all, denoted_fields, denoted_pairs, denoted_either};
     ghost use Rattle.wave_wasm.specs.ConstructorContracts.{IsMemory, IsOfListKind, leaf_entries, list_value, result_value, either_tree};
     ghost use Rattle.wave_wasm.specs.ConstructorContracts.{MakesList, MakesTuple, MakesRecord, MakesVariant};
     ghost use Rattle.wave_wasm.specs.ConstructorContracts.{MakesEnum, MakesOption, MakesResult, MakesFlags, MakesMap};
@@ -446,32 +446,32 @@ impl WasmValue for Value {
 
     fn unwrap_list(&self, alloc: Global) -> Result<Vec<&Value>, AllocError>
         requires { IsOfListKind (kind_of self.now.tree) }
-        ensures trees { IfOk result (λ v. shown_all (λ w. w.tree) v.items ≡ list_items self.now.tree) }
-        ensures own { IfOk result (λ v. TakesList self.now.own (shown_all (λ w. w) v.items)) }
+        ensures trees { IfOk result (λ v. denoted_all (λ w. w.tree) v.items ≡ list_items self.now.tree) }
+        ensures own { IfOk result (λ v. TakesList self.now.own (denoted_all (λ w. w) v.items)) }
     {
         Value::unwrap_list(self, alloc)
     }
 
     fn unwrap_tuple(&self, alloc: Global) -> Result<Vec<&Value>, AllocError>
         requires { kind_of self.now.tree ≡ WasmTypeKind.Tuple }
-        ensures trees { IfOk result (λ v. shown_all (λ w. w.tree) v.items ≡ tuple_items self.now.tree) }
-        ensures own { IfOk result (λ v. TakesTuple self.now.own (shown_all (λ w. w) v.items)) }
+        ensures trees { IfOk result (λ v. denoted_all (λ w. w.tree) v.items ≡ tuple_items self.now.tree) }
+        ensures own { IfOk result (λ v. TakesTuple self.now.own (denoted_all (λ w. w) v.items)) }
     {
         Value::unwrap_tuple(self, alloc)
     }
 
     fn unwrap_record(&self, alloc: Global) -> Result<Vec<(&str, &Value)>, AllocError>
         requires { kind_of self.now.tree ≡ WasmTypeKind.Record }
-        ensures trees { IfOk result (λ v. shown_fields (λ w. w.tree) v.items ≡ record_fields self.now.tree) }
-        ensures own { IfOk result (λ v. TakesRecord self.now.own (shown_fields (λ w. w) v.items)) }
+        ensures trees { IfOk result (λ v. denoted_fields (λ w. w.tree) v.items ≡ record_fields self.now.tree) }
+        ensures own { IfOk result (λ v. TakesRecord self.now.own (denoted_fields (λ w. w) v.items)) }
     {
         Value::unwrap_record(self, alloc)
     }
 
     fn unwrap_variant(&self) -> (&str, Option<&Value>)
         requires { kind_of self.now.tree ≡ WasmTypeKind.Variant }
-        ensures tree { self.now.tree ≡ value.variant result.0.now (maybe_value (shown (λ w. w.tree) result.1)) }
-        ensures own { TakesVariant self.now.own result.0.now (shown (λ w. w) result.1) }
+        ensures tree { self.now.tree ≡ value.variant result.0.now (maybe_value (denoted (λ w. w.tree) result.1)) }
+        ensures own { TakesVariant self.now.own result.0.now (denoted (λ w. w) result.1) }
     {
         Value::unwrap_variant(self)
     }
@@ -482,16 +482,16 @@ impl WasmValue for Value {
 
     fn unwrap_option(&self) -> Option<&Value>
         requires { kind_of self.now.tree ≡ WasmTypeKind.Option }
-        ensures tree { self.now.tree ≡ value.option (maybe_value (shown (λ w. w.tree) result)) }
-        ensures own { TakesOption self.now.own (shown (λ w. w) result) }
+        ensures tree { self.now.tree ≡ value.option (maybe_value (denoted (λ w. w.tree) result)) }
+        ensures own { TakesOption self.now.own (denoted (λ w. w) result) }
     {
         Value::unwrap_option(self)
     }
 
     fn unwrap_result(&self) -> Result<Option<&Value>, Option<&Value>>
         requires { kind_of self.now.tree ≡ WasmTypeKind.Result }
-        ensures tree { self.now.tree ≡ result_value (shown_either (λ w. w.tree) result) }
-        ensures own { TakesResult self.now.own (shown_either (λ w. w) result) }
+        ensures tree { self.now.tree ≡ result_value (denoted_either (λ w. w.tree) result) }
+        ensures own { TakesResult self.now.own (denoted_either (λ w. w) result) }
     {
         Value::unwrap_result(self)
     }
@@ -503,8 +503,8 @@ impl WasmValue for Value {
     fn unwrap_map(&self, alloc: Global) -> Result<Vec<(&Value, &Value)>, AllocError>
         requires { kind_of self.now.tree ≡ WasmTypeKind.Map }
         ensures trees { IfOk result
-            (λ v. shown_pairs (λ w. w.tree) v.items ≡ leaf_entries (map_entries self.now.tree)) }
-        ensures own { IfOk result (λ v. TakesMap self.now.own (shown_pairs (λ w. w) v.items)) }
+            (λ v. denoted_pairs (λ w. w.tree) v.items ≡ leaf_entries (map_entries self.now.tree)) }
+        ensures own { IfOk result (λ v. TakesMap self.now.own (denoted_pairs (λ w. w) v.items)) }
     {
         Value::unwrap_map(self, alloc)
     }

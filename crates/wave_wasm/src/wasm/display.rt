@@ -4,7 +4,7 @@ ghost use Rattle.std.specs.String.{string_bytes};
 ghost use Rattle.wave_wasm.specs.Types.{kind_of, maybe_type};
 ghost use Rattle.wave_wasm.specs.CommaParts.{comma_if};
 ghost use Rattle.wave_wasm.specs.Commas.{joined, in_parens};
-ghost use Rattle.wave_wasm.specs.Borrowed.{texts, shown, shown_all};
+ghost use Rattle.wave_wasm.specs.Borrowed.{texts, denoted, denoted_all};
 ghost use Rattle.wave_wasm.specs.TypeText.{type_text, payload_text, braced, function_results_text, typed_names, function_text};
 ghost use Rattle.wave_wasm.specs.Private.TypeText.{name_part};
 
@@ -103,7 +103,7 @@ fn push_results<T: WasmType>(
     text: &mut String,
 ) -> Result<(), AllocError>
     ensures { OnOk result
-        (string_bytes text.new ≡ string_bytes text.old ++ function_results_text (texts names.now.items) (shown_all T.tree types.now.items)) }
+        (string_bytes text.new ≡ string_bytes text.old ++ function_results_text (texts names.now.items) (denoted_all T.tree types.now.items)) }
 {
     if types.is_empty() {
         return Ok(());
@@ -123,7 +123,7 @@ fn push_typed_names<T: WasmType>(
     text: &mut String,
 ) -> Result<(), AllocError>
     ensures { OnOk result
-        (string_bytes text.new ≡ string_bytes text.old ++ in_parens (joined (typed_names (texts names.now.items) (shown_all T.tree types.now.items)))) }
+        (string_bytes text.new ≡ string_bytes text.old ++ in_parens (joined (typed_names (texts names.now.items) (denoted_all T.tree types.now.items)))) }
 {
     text.push_str("(")?;
     let mut later = false;
@@ -335,7 +335,7 @@ fn push_payload<T: WasmType>(
     text: &mut String,
 ) -> Result<(), AllocError>
     ensures { OnOk result
-        (string_bytes text.new ≡ string_bytes text.old ++ payload_text (maybe_type (shown T.tree payload.entry))) }
+        (string_bytes text.new ≡ string_bytes text.old ++ payload_text (maybe_type (denoted T.tree payload.entry))) }
 {
     match payload {
         None => Ok(()),

@@ -9,7 +9,7 @@ pub trait WasmFunc {
     type Type: WasmType;
 
     ghost use Rattle.std.specs.Prelude.{◌≡◌, IfOk};
-    ghost use Rattle.wave_wasm.specs.Borrowed.{texts, shown_all};
+    ghost use Rattle.wave_wasm.specs.Borrowed.{texts, denoted_all};
     ghost use Rattle.wave_wasm.specs.TypeText.{Func, AreNamesOf};
 
     /// The function: its types and its names.
@@ -17,7 +17,7 @@ pub trait WasmFunc {
 
     /// The types of the parameters.
     fn params(&self, alloc: Global) -> Result<Vec<&Self::Type>, AllocError>
-        ensures { IfOk result (λ v. shown_all Self.Type.tree v.items ≡ (func self.now).params) };
+        ensures { IfOk result (λ v. denoted_all Self.Type.tree v.items ≡ (func self.now).params) };
 
     /// The names of the parameters, or none where they have none.
     fn param_names(&self, alloc: Global) -> Result<Vec<&str>, AllocError>
@@ -26,7 +26,7 @@ pub trait WasmFunc {
 
     /// The types of the results.
     fn results(&self, alloc: Global) -> Result<Vec<&Self::Type>, AllocError>
-        ensures { IfOk result (λ v. shown_all Self.Type.tree v.items ≡ (func self.now).results) };
+        ensures { IfOk result (λ v. denoted_all Self.Type.tree v.items ≡ (func self.now).results) };
 
     /// The names of the results, or none where they have none.
     fn result_names(&self, alloc: Global) -> Result<Vec<&str>, AllocError>

@@ -59,7 +59,7 @@ entries_depths : (n : ℕ) (es : Entries) → depth_of_entries es ≤ n → AllO
 entries_depths n no_entries h = tt
 entries_depths n (entry key v more) h = (omega arith, entries_depths n more (omega arith))
 
--- ---- the same by the entries that are shown
+-- ---- the same by the entries that are denoted
 
 all_below : {A B : Type 0} (P : B → Type 0) (f : A → B) (xs : List A) → AllOf P (map f xs) → AllOf (λ x. P (f x)) xs
 all_below P f [] h = tt
@@ -74,7 +74,7 @@ leaves_are_leaves [] = tt
 leaves_are_leaves (e ∷ es) = ((e.0, refl), leaves_are_leaves es)
 
 module _ {X : Type 0} (f : X → Value) where
-  -- the test of the shown keys' texts
+  -- the test of the denoted keys' texts
   abbrev pub same_texts : X → X → Bool
   same_texts a b = bytes_eq (text (f a)) (text (f b))
 
@@ -82,13 +82,13 @@ module _ {X : Type 0} (f : X → Value) where
   nothing_asked [] = tt
   nothing_asked (e ∷ es) = (tt, nothing_asked es)
 
-  -- the shown keys are leaves
+  -- the denoted keys are leaves
   pub keys_are_leaves : (v : Value) (es : List (X × X)) → paired f f es ≡ leaf_entries (map_entries v) → AllOf (λ e. IsLeaf (f e.0)) es
   keys_are_leaves v es e = all_below (λ e. IsLeaf e.0) (λ e. (f e.0, f e.1)) es (subst (AllOf (λ e. IsLeaf e.0)) (sym e) (leaves_are_leaves (map_entries v)))
 
   -- merging by texts and merging by values leave the same
-  shown_merged : (S : Simple) (all : List (Leaf × Value)) → AllOf (λ e. IsLeafOf S e.0) all → (es : List (X × X)) → paired f f es ≡ leaf_entries all → paired f f (merge same_texts es) ≡ leaf_entries (merge leaf_eq all)
-  shown_merged S all h es e =
+  denoted_merged : (S : Simple) (all : List (Leaf × Value)) → AllOf (λ e. IsLeafOf S e.0) all → (es : List (X × X)) → paired f f es ≡ leaf_entries all → paired f f (merge same_texts es) ≡ leaf_entries (merge leaf_eq all)
+  denoted_merged S all h es e =
       sym (merge_paired (λ x. Unit {0}) f f same_texts (λ a b. bytes_eq (text a) (text b)) (λ a b p q. refl) es (nothing_asked es)) ∙ (ap (merge (λ a b. bytes_eq (text a) (text b))) e ∙ merge_paired (IsLeafOf S) (λ one. value.leaf one) (λ v. v) leaf_eq (λ a b. bytes_eq (text a) (text b)) (leaf_tests S) all h)
 
   -- the value is a map, of which these entries are left
@@ -114,7 +114,7 @@ module _ {X : Type 0} (f : X → Value) where
   pub map_is : (v : Value) (es : List (X × X)) → kind_of v ≡ kinds.Map → IsWellFormed v → paired f f es ≡ leaf_entries (map_entries v) → (xs : List (X × X)) → xs ≡ merge same_texts es → IsMap v xs
   map_is (value.map all) es k formed e xs left =
       let t = one_type all formed.0 formed.1 in
-      map_of all xs (ap (paired f f) left ∙ shown_merged t.0 (entry_list all) t.1 es e)
+      map_of all xs (ap (paired f f) left ∙ denoted_merged t.0 (entry_list all) t.1 es e)
   map_is (value.leaf one) es k formed e xs left = absurd (not_leaf one kinds.Map refl k)
   map_is (value.unreadable type.f32) es k formed e xs left = absurd (cc)
   map_is (value.unreadable type.f64) es k formed e xs left = absurd (cc)

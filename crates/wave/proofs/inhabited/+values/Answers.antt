@@ -1,5 +1,5 @@
 use Rattle.std.proofs.Common.{arith, ℕ, List, ap, ◌∙◌, Bor, map, Option}
-use Rattle.wave_wasm.specs.Borrowed.{shown}
+use Rattle.wave_wasm.specs.Borrowed.{denoted}
 use Rattle.wave_wasm.specs.Types.{TypeTree, depth}
 use Rattle.wave_wasm.proofs.CanonicalText.Sequences.{part_depth}
 use Rattle.wave_wasm.proofs.Displays.TypeParts.{record_is, tuple_is, variant_is, field_depth, case_depth}
@@ -34,12 +34,12 @@ items_have_value-type_has_value-requires g t c κs within =
 
 pub some_case_has_value-loop-case-init : goal.some_case_has_value-loop-case-init
 some_case_has_value-loop-case-init g t c =
-    let f : Bor (List ℕ) × Option (Bor g.row.T.Denot) → List ℕ × Option TypeTree = λ x. (x.0.now, shown g.T.WasmType.tree x.1) in
+    let f : Bor (List ℕ) × Option (Bor g.row.T.Denot) → List ℕ × Option TypeTree = λ x. (x.0.now, denoted g.T.WasmType.tree x.1) in
     variant_by _ _ c.requires (ap (map f) c.deref-case-items.ensures.value ∙ c.in_ok-cases.ensures)
 
 pub some_case_has_value-payload_has_value-requires : goal.some_case_has_value-payload_has_value-requires
 some_case_has_value-payload_has_value-requires g t c κs within =
-    let f : Bor (List ℕ) × Option (Bor g.row.T.Denot) → List ℕ × Option TypeTree = λ x. (x.0.now, shown g.T.WasmType.tree x.1) in
+    let f : Bor (List ℕ) × Option (Bor g.row.T.Denot) → List ℕ × Option TypeTree = λ x. (x.0.now, denoted g.T.WasmType.tree x.1) in
     let s = variant_is _ _ c.requires c.in_ok-cases.ensures in
     let d = s.depth_is in
     let h = part_depth case_depth f c.deref-case-items.result.now _ c.loop-case.case-index c.case-item.result c.deref-case-items.ensures.value c.loop-case-test.true c.case-item.is in

@@ -1,7 +1,7 @@
 -- What is left of the parts decides it.
 use Rattle.std.proofs.Common.{ℕ, List, Option, ◌≡◌, ◌+◌, ◌*◌, map, drop}
 use Rattle.std.specs.List.{list_all, list_any}
-use Rattle.wave_wasm.specs.Borrowed.{shown}
+use Rattle.wave_wasm.specs.Borrowed.{denoted}
 use Rattle.wave_wasm.specs.Types.{depth, depth_of_maybe, TypeTree, maybe_type}
 use Rattle.wave.specs.Private.Inhabited.{inhabited, payload_inhabited}
 use Rattle.wave.proofs.inhabited.+values.Given as goal
@@ -19,7 +19,7 @@ abbrev pub decreases-some_case_has_value : goal.decreases-some_case_has_value
 decreases-some_case_has_value g l = 3 * depth (g.T.WasmType.tree l.ty.now) + 1
 
 abbrev pub decreases-payload_has_value : goal.decreases-payload_has_value
-decreases-payload_has_value g l = 3 * depth_of_maybe (maybe_type (shown g.T.WasmType.tree l.payload)) + 3
+decreases-payload_has_value g l = 3 * depth_of_maybe (maybe_type (denoted g.T.WasmType.tree l.payload)) + 3
 
 abbrev pub invariant-fields_have_value-loop-field : goal.invariant-fields_have_value-loop-field
 invariant-fields_have_value-loop-field g l =
@@ -31,4 +31,4 @@ invariant-items_have_value-loop-item g l =
 
 abbrev pub invariant-some_case_has_value-loop-case : goal.invariant-some_case_has_value-loop-case
 invariant-some_case_has_value-loop-case g l =
-    inhabited (g.T.WasmType.tree l.ty) ≡ list_any (λ (c : List ℕ × Option TypeTree). payload_inhabited (maybe_type c.1)) (map (λ c. (c.0.now, shown g.T.WasmType.tree c.1)) (drop l.case-index l.case-items))
+    inhabited (g.T.WasmType.tree l.ty) ≡ list_any (λ (c : List ℕ × Option TypeTree). payload_inhabited (maybe_type c.1)) (map (λ c. (c.0.now, denoted g.T.WasmType.tree c.1)) (drop l.case-index l.case-items))

@@ -1,5 +1,5 @@
 use Rattle.std.proofs.Common.{◌∙◌, ap, sym, refl}
-use Rattle.wave_wasm.specs.Borrowed.{shown_all}
+use Rattle.wave_wasm.specs.Borrowed.{denoted_all}
 use Rattle.wave_wasm.specs.Types.{TypeTree}
 use Rattle.wave_type.specs.FunctionType.{types_of}
 use Rattle.wave.proofs.HavingValue.{none_tested, one_tested, all_tested, none_next}
@@ -7,7 +7,7 @@ use Rattle.wave.proofs.types.params_have_values.Goals as goal
 
 pub loop-ty-init : goal.loop-ty-init
 loop-ty-init c =
-    none_tested c.deref-ty-items.result.now (types_of c.args.function.now.params) (ap (shown_all (λ (T : TypeTree). T)) c.deref-ty-items.ensures.value ∙ c.in_ok-types.ensures)
+    none_tested c.deref-ty-items.result.now (types_of c.args.function.now.params) (ap (denoted_all (λ (T : TypeTree). T)) c.deref-ty-items.ensures.value ∙ c.in_ok-types.ensures)
 
 pub returns-then-not-branch : goal.returns-then-not-branch
 returns-then-not-branch c =

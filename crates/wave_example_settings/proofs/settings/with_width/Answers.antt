@@ -2,13 +2,13 @@ use Rattle.std.proofs.Common.{◌≡◌, ◌∙◌, refl}
 use Rattle.std.proofs.lemmas.Iterator.Adapters.{YieldsList-from_vec}
 use Rattle.std.proofs.lemmas.Iterator.Consumers.{YieldsList-end}
 use Rattle.std.proofs.lemmas.Result.{IfOk-weaker, IfErr-weaker}
-use Rattle.wave_wasm.specs.Borrowed.{named, shown_fields}
+use Rattle.wave_wasm.specs.Borrowed.{named, denoted_fields}
 use Rattle.wave_value.specs.ConstructorRules.{value_text}
 use Rattle.wave_example_settings.proofs.Widths.{with_last, handed_in, changed, has_one, has_none}
 use Rattle.wave_example_settings.proofs.settings.with_width.Goals as goal
 
 -- the fields that are handed in
-handed : (c : goal.After-drop-ty-2) → named c.push-2.new.self.items ≡ with_last (shown_fields (λ v. v) c.in_ok-items.items.items) c.from.result
+handed : (c : goal.After-drop-ty-2) → named c.push-2.new.self.items ≡ with_last (denoted_fields (λ v. v) c.in_ok-items.items.items) c.from.result
 handed c =
     let from = c.into_iter-name-iterator.ensures.into_iter_gives in
     let end = YieldsList-end (YieldsList-from_vec {s = c.into_iter-name-iterator.result} c.in_ok-items.items.items from.0 (from.1 ∙ c.in_ok-items.items.ok.0)) c.loop-name.yielded c.loop-name.name-iterator c.loop-name.yielded_by _ c.next.new.self c.in-None.is c.next.ensures.steps in

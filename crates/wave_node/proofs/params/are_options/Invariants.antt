@@ -4,4 +4,4 @@ use Rattle.wave_grammar.specs.TypedGrammar.{IsOption}
 use Rattle.wave_node.proofs.params.are_options.Given as goal
 
 abbrev pub invariant-loop-ty : goal.invariant-loop-ty
-invariant-loop-ty g l = AllOf IsOption (take l.ty-index (map g.P.ParamType.shown l.types))
+invariant-loop-ty g l = AllOf IsOption (take l.ty-index (map g.P.ParamType.denoted l.types))

@@ -5,4 +5,4 @@ use Rattle.wave_node.proofs.params.push_omitted.Given as goal
 abbrev pub invariant-loop-ty : goal.invariant-loop-ty
 invariant-loop-ty g l =
     (others : List _) × (l.vals.items ≡ l.initial.vals.items ++ others)
-    × AreOmitted g.V.WasmValue.tree g.V.WasmValue.is_of (take l.ty-index (map g.P.ParamType.shown l.types)) others
+    × AreOmitted g.V.WasmValue.tree g.V.WasmValue.is_of (take l.ty-index (map g.P.ParamType.denoted l.types)) others

@@ -3,4 +3,4 @@ use Rattle.std.specs.Prelude.{if◌then◌else◌}
 use Rattle.wave_type.proofs.laws.types_convert_to_themselves.Goals as goal
 
 pub returns : goal.returns
-returns c = λ T own. ap (λ b. if b then Some T else None) own
+returns c = λ T representable. ap (λ b. if b then Some T else None) representable

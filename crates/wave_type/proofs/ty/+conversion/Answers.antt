@@ -1,6 +1,6 @@
 use Rattle.std.proofs.Common.{arith, ◌≡◌, ℕ, List, ap, subst, ◌∙◌, Bor, map, Option}
 use Rattle.std.specs.Result.{IfOk}
-use Rattle.wave_wasm.specs.Borrowed.{shown, named}
+use Rattle.wave_wasm.specs.Borrowed.{denoted, named}
 use Rattle.wave_wasm.specs.Types.{TypeTree, is_representable, depth}
 use Rattle.wave_type.specs.TypeConstructors.{tuple_type, record_type, variant_type}
 use Rattle.wave_wasm.proofs.CanonicalText.Sequences.{part_depth}
@@ -36,12 +36,12 @@ conversion::convert_tuple-from_wasm_type-requires g t c κs within =
 
 pub conversion::convert_variant-loop-case-init : goal.conversion::convert_variant-loop-case-init
 conversion::convert_variant-loop-case-init g t c =
-    let f : Bor (List ℕ) × Option (Bor g.row.T.Denot) → List ℕ × Option TypeTree = λ x. (x.0.now, shown g.T.WasmType.tree x.1) in
+    let f : Bor (List ℕ) × Option (Bor g.row.T.Denot) → List ℕ × Option TypeTree = λ x. (x.0.now, denoted g.T.WasmType.tree x.1) in
     variant_start _ _ _ c.requires (ap (map f) c.deref-case-items.ensures.value ∙ c.in_ok-cases.ensures) (ap named c.new-converted.ensures.items)
 
 pub conversion::convert_variant-convert_payload-requires : goal.conversion::convert_variant-convert_payload-requires
 conversion::convert_variant-convert_payload-requires g t c κs within =
-    let f : Bor (List ℕ) × Option (Bor g.row.T.Denot) → List ℕ × Option TypeTree = λ x. (x.0.now, shown g.T.WasmType.tree x.1) in
+    let f : Bor (List ℕ) × Option (Bor g.row.T.Denot) → List ℕ × Option TypeTree = λ x. (x.0.now, denoted g.T.WasmType.tree x.1) in
     let s = variant_is _ _ c.requires c.in_ok-cases.ensures in
     let d = s.depth_is in
     let h = part_depth case_depth f c.deref-case-items.result.now _ c.loop-case.case-index c.case-item.result c.deref-case-items.ensures.value c.loop-case-test.true c.case-item.is in
@@ -50,8 +50,8 @@ conversion::convert_variant-convert_payload-requires g t c κs within =
 pub conversion::convert_tuple-loop-item-preserved : goal.conversion::convert_tuple-loop-item-preserved
 conversion::convert_tuple-loop-item-preserved g t c =
     let f : Bor g.row.T.Denot → TypeTree = λ x. g.T.WasmType.tree x.now in
-    let own = converted_is (f c.item-item.result) c.in-Some.item _ c.in_ok-item.ensures c.in-Some.is in
-    remaining_more is_representable tuple_type f c.deref-item-items.result.now c.loop-item.item-index c.item-item.result c.loop-item.converted.items _ _ c.loop-item.invariant c.loop-item-test.true c.item-item.is own.0 (pushed _ _ _ _ c.in_ok-push.ensures.items own.1)
+    let representable = converted_is (f c.item-item.result) c.in-Some.item _ c.in_ok-item.ensures c.in-Some.is in
+    remaining_more is_representable tuple_type f c.deref-item-items.result.now c.loop-item.item-index c.item-item.result c.loop-item.converted.items _ _ c.loop-item.invariant c.loop-item-test.true c.item-item.is representable.0 (pushed _ _ _ _ c.in_ok-push.ensures.items representable.1)
 
 pub conversion::convert_tuple-returns : goal.conversion::convert_tuple-returns
 conversion::convert_tuple-returns g t c =
@@ -66,8 +66,8 @@ conversion::convert_tuple-returns-in_default g t c =
 pub conversion::convert_record-loop-field-preserved : goal.conversion::convert_record-loop-field-preserved
 conversion::convert_record-loop-field-preserved g t c =
     let f : Bor (List ℕ) × Bor g.row.T.Denot → List ℕ × TypeTree = λ x. (x.0.now, g.T.WasmType.tree x.1.now) in
-    let own = converted_is ((f c.field-item.result).1) c.in-Some.field_type _ c.in_ok-field_type.ensures c.in-Some.is in
-    remaining_more (λ f. is_representable f.1) record_type f c.deref-field-items.result.now c.loop-field.field-index c.field-item.result (named c.loop-field.converted.items) _ _ c.loop-field.invariant c.loop-field-test.true c.field-item.is own.0 (named_pushed _ _ _ _ _ c.in_ok-push.ensures.items own.1)
+    let representable = converted_is ((f c.field-item.result).1) c.in-Some.field_type _ c.in_ok-field_type.ensures c.in-Some.is in
+    remaining_more (λ f. is_representable f.1) record_type f c.deref-field-items.result.now c.loop-field.field-index c.field-item.result (named c.loop-field.converted.items) _ _ c.loop-field.invariant c.loop-field-test.true c.field-item.is representable.0 (named_pushed _ _ _ _ _ c.in_ok-push.ensures.items representable.1)
 
 pub conversion::convert_record-returns : goal.conversion::convert_record-returns
 conversion::convert_record-returns g t c =
@@ -81,16 +81,16 @@ conversion::convert_record-returns-in_default g t c =
 
 pub conversion::convert_variant-loop-case-preserved : goal.conversion::convert_variant-loop-case-preserved
 conversion::convert_variant-loop-case-preserved g t c =
-    let f : Bor (List ℕ) × Option (Bor g.row.T.Denot) → List ℕ × Option TypeTree = λ x. (x.0.now, shown g.T.WasmType.tree x.1) in
-    let own = payload_is ((f c.case-item.result).1) c.in-Some.payload _ c.in_ok-payload.ensures c.in-Some.is in
-    remaining_more can_be_payload variant_type f c.deref-case-items.result.now c.loop-case.case-index c.case-item.result (named c.loop-case.converted.items) _ _ c.loop-case.invariant c.loop-case-test.true c.case-item.is own.0 (named_pushed _ _ _ _ _ c.in_ok-push.ensures.items own.1)
+    let f : Bor (List ℕ) × Option (Bor g.row.T.Denot) → List ℕ × Option TypeTree = λ x. (x.0.now, denoted g.T.WasmType.tree x.1) in
+    let representable = payload_is ((f c.case-item.result).1) c.in-Some.payload _ c.in_ok-payload.ensures c.in-Some.is in
+    remaining_more can_be_payload variant_type f c.deref-case-items.result.now c.loop-case.case-index c.case-item.result (named c.loop-case.converted.items) _ _ c.loop-case.invariant c.loop-case-test.true c.case-item.is representable.0 (named_pushed _ _ _ _ _ c.in_ok-push.ensures.items representable.1)
 
 pub conversion::convert_variant-returns : goal.conversion::convert_variant-returns
 conversion::convert_variant-returns g t c =
-    let f : Bor (List ℕ) × Option (Bor g.row.T.Denot) → List ℕ × Option TypeTree = λ x. (x.0.now, shown g.T.WasmType.tree x.1) in
+    let f : Bor (List ℕ) × Option (Bor g.row.T.Denot) → List ℕ × Option TypeTree = λ x. (x.0.now, denoted g.T.WasmType.tree x.1) in
     subst (λ (whole : Option TypeTree). IfOk c.variant.result (λ r. r ≡ whole)) (remaining_done can_be_payload variant_type f c.deref-case-items.result.now c.loop-case.case-index (named c.loop-case.converted.items) _ c.loop-case.invariant c.loop-case-test.false) c.variant.ensures
 
 pub conversion::convert_variant-returns-in_default : goal.conversion::convert_variant-returns-in_default
 conversion::convert_variant-returns-in_default g t c =
-    let f : Bor (List ℕ) × Option (Bor g.row.T.Denot) → List ℕ × Option TypeTree = λ x. (x.0.now, shown g.T.WasmType.tree x.1) in
+    let f : Bor (List ℕ) × Option (Bor g.row.T.Denot) → List ℕ × Option TypeTree = λ x. (x.0.now, denoted g.T.WasmType.tree x.1) in
     remaining_none can_be_payload variant_type f c.deref-case-items.result.now c.loop-case.case-index c.case-item.result (named c.loop-case.converted.items) _ c.loop-case.invariant c.loop-case-test.true c.case-item.is (refused_payload ((f c.case-item.result).1) _ c.in_ok-payload.ensures c.in_default.is)

@@ -1,5 +1,5 @@
 use Rattle.std.proofs.Common.{◌≡◌, ◌+◌, ◌*◌, map, drop}
-use Rattle.wave_wasm.specs.Borrowed.{shown, named}
+use Rattle.wave_wasm.specs.Borrowed.{denoted, named}
 use Rattle.wave_wasm.specs.Types.{depth, depth_of_maybe, maybe_type, is_representable}
 use Rattle.wave_type.specs.TypeConstructors.{tuple_type, record_type, variant_type}
 use Rattle.wave_type.specs.TypeConversion.{converted_type}
@@ -25,7 +25,7 @@ abbrev pub decreases-conversion::convert_variant : goal.decreases-conversion::co
 decreases-conversion::convert_variant g l = 3 * depth (g.T.WasmType.tree l.ty.now) + 1
 
 abbrev pub decreases-conversion::convert_payload : goal.decreases-conversion::convert_payload
-decreases-conversion::convert_payload g l = 3 * depth_of_maybe (maybe_type (shown g.T.WasmType.tree l.payload)) + 3
+decreases-conversion::convert_payload g l = 3 * depth_of_maybe (maybe_type (denoted g.T.WasmType.tree l.payload)) + 3
 
 abbrev pub invariant-conversion::convert_record-loop-field : goal.invariant-conversion::convert_record-loop-field
 invariant-conversion::convert_record-loop-field g l =
@@ -37,4 +37,4 @@ invariant-conversion::convert_tuple-loop-item g l =
 
 abbrev pub invariant-conversion::convert_variant-loop-case : goal.invariant-conversion::convert_variant-loop-case
 invariant-conversion::convert_variant-loop-case g l =
-    converted_type (g.T.WasmType.tree l.ty) ≡ remaining can_be_payload variant_type (named l.converted.items) (map (λ c. (c.0.now, shown g.T.WasmType.tree c.1)) (drop l.case-index l.case-items))
+    converted_type (g.T.WasmType.tree l.ty) ≡ remaining can_be_payload variant_type (named l.converted.items) (map (λ c. (c.0.now, denoted g.T.WasmType.tree c.1)) (drop l.case-index l.case-items))

@@ -17,13 +17,13 @@ use Rattle.wave_node.proofs.ast.Node.read_params.Goals as goal
 
 pub returns-then-i-types-clause-refused : goal.returns-then-i-types-clause-refused
 returns-then-i-types-clause-refused g c = λ t is.
-    let Ts = (map g.P.ParamType.shown c.args.types.now) in
+    let Ts = (map g.P.ParamType.denoted c.args.types.now) in
     let ns = c.in_ok-nodes.nodes.now in
     let src = c.args.src.now in
     let inner = tuple_nodes src c.args.self.now t is c.in_ok-nodes.ensures.0 in
     let nodes = given_items src c.args.self.now t ns is c.in_ok-nodes.ensures.0 c.in_ok-nodes.ensures.1 in
     let before = c.loop-i.invariant.2 inner.items nodes in
-    let many = mapped_count g.P.ParamType.shown c.args.types.now in
+    let many = mapped_count g.P.ParamType.denoted c.args.types.now in
     let fits : c.loop-i.i ≤ length Ts = omega (arith, c.loop-i.invariant.0, many) in
     inr (inner.items, inner.shape, too_many_refused g.V.WasmValue.tree g.V.WasmValue.is_of g.V.WasmValue.is_full src Ts ns inner.items c.loop-i.vals.items c.loop-i.i c.index-nodes-i.result c.args.self.now c.too_many.result nodes c.loop-i-test.true c.index-nodes-i.is fits (omega (arith, c.if-i-types.true, many)) before c.too_many.ensures)
 
@@ -32,16 +32,16 @@ to_wasm_value-requires g c = inl (tuple_item c.args.src.now c.args.self.now c.in
 
 pub returns-in_err-val-clause-refused : goal.returns-in_err-val-clause-refused
 returns-in_err-val-clause-refused g c = λ t is.
-    let Ts = (map g.P.ParamType.shown c.args.types.now) in
+    let Ts = (map g.P.ParamType.denoted c.args.types.now) in
     let ns = c.in_ok-nodes.nodes.now in
     let src = c.args.src.now in
     let inner = tuple_nodes src c.args.self.now t is c.in_ok-nodes.ensures.0 in
     let nodes = given_items src c.args.self.now t ns is c.in_ok-nodes.ensures.0 c.in_ok-nodes.ensures.1 in
     let before = c.loop-i.invariant.2 inner.items nodes in
-    let many = mapped_count g.P.ParamType.shown c.args.types.now in
+    let many = mapped_count g.P.ParamType.denoted c.args.types.now in
     let fits : c.loop-i.i ≤ length Ts = omega (arith, c.loop-i.invariant.0, many) in
     let T = g.V.Type.WasmType.tree c.as_type.result.now in
-    let typed = subst (HasAt Ts c.loop-i.i) (sym c.as_type.ensures) (map_has g.P.ParamType.shown c.args.types.now c.loop-i.i c.index-types-i.result (place_has c.args.types.now c.loop-i.i c.index-types-i.result c.if-i-types.false c.index-types-i.is)) in
+    let typed = subst (HasAt Ts c.loop-i.i) (sym c.as_type.ensures) (map_has g.P.ParamType.denoted c.args.types.now c.loop-i.i c.index-types-i.result (place_has c.args.types.now c.loop-i.i c.index-types-i.result c.if-i-types.false c.index-types-i.is)) in
     error_handed (RefusesParams g.V.WasmValue.is_full Ts c.args.self.now t) c.from_residual-in_err-val.result c.in_err-val.field-0.0 c.from_residual-in_err-val.ensures.1
     (inr (
       inner.items,
@@ -53,14 +53,14 @@ returns-in_err-val-clause-refused g c = λ t is.
 pub returns-in_err-push-clause-refused : goal.returns-in_err-push-clause-refused
 returns-in_err-push-clause-refused g c = λ t is.
     let inner = tuple_nodes c.args.src.now c.args.self.now t is c.in_ok-nodes.ensures.0 in
-    error_handed (RefusesParams g.V.WasmValue.is_full (map g.P.ParamType.shown c.args.types.now) c.args.self.now t) c.from_residual-in_err-push.result c.in_err-push.field-0.0 c.from_residual-in_err-push.ensures.1
+    error_handed (RefusesParams g.V.WasmValue.is_full (map g.P.ParamType.denoted c.args.types.now) c.args.self.now t) c.from_residual-in_err-push.result c.in_err-push.field-0.0 c.from_residual-in_err-push.ensures.1
     (inr (inner.items, inner.shape, inl c.in_err-push.ensures.refused))
 
 pub loop-i-preserved : goal.loop-i-preserved
 loop-i-preserved g c =
-    let Ts = (map g.P.ParamType.shown c.args.types.now) in
+    let Ts = (map g.P.ParamType.denoted c.args.types.now) in
     let T = g.V.Type.WasmType.tree c.as_type.result.now in
-    let typed = subst (HasAt Ts c.loop-i.i) (sym c.as_type.ensures) (map_has g.P.ParamType.shown c.args.types.now c.loop-i.i c.index-types-i.result (place_has c.args.types.now c.loop-i.i c.index-types-i.result c.if-i-types.false c.index-types-i.is)) in (
+    let typed = subst (HasAt Ts c.loop-i.i) (sym c.as_type.ensures) (map_has g.P.ParamType.denoted c.args.types.now c.loop-i.i c.index-types-i.result (place_has c.args.types.now c.loop-i.i c.index-types-i.result c.if-i-types.false c.index-types-i.is)) in (
       omega (arith, c.if-i-types.false),
       pushed c.loop-i.vals.items c.push.new.items.items c.in_ok-val.val c.loop-i.i c.in_ok-push.ensures.kept c.loop-i.invariant.1,
       λ ts nodes.
@@ -70,30 +70,30 @@ loop-i-preserved g c =
 
 pub returns-then-not-are_options-clause-refused : goal.returns-then-not-are_options-clause-refused
 returns-then-not-are_options-clause-refused g c = λ t is.
-    let Ts = (map g.P.ParamType.shown c.args.types.now) in
+    let Ts = (map g.P.ParamType.denoted c.args.types.now) in
     let ns = c.in_ok-nodes.nodes.now in
     let src = c.args.src.now in
     let inner = tuple_nodes src c.args.self.now t is c.in_ok-nodes.ensures.0 in
     let nodes = given_items src c.args.self.now t ns is c.in_ok-nodes.ensures.0 c.in_ok-nodes.ensures.1 in
     let before = c.loop-i.invariant.2 inner.items nodes in
-    let many = mapped_count g.P.ParamType.shown c.args.types.now in
+    let many = mapped_count g.P.ParamType.denoted c.args.types.now in
     let fits : c.loop-i.i ≤ length Ts = omega (arith, c.loop-i.invariant.0, many) in
-    let Left = map g.P.ParamType.shown (take (length c.args.types.now - length ns) (drop (length ns) c.args.types.now)) in
-    let left : Left ≡ drop (length ns) Ts = rest_mapped g.P.ParamType.shown c.args.types.now (length ns) in
+    let Left = map g.P.ParamType.denoted (take (length c.args.types.now - length ns) (drop (length ns) c.args.types.now)) in
+    let left : Left ≡ drop (length ns) Ts = rest_mapped g.P.ParamType.denoted c.args.types.now (length ns) in
     inr (inner.items, inner.shape, missing_refused g.V.WasmValue.tree g.V.WasmValue.is_of g.V.WasmValue.is_full src Ts Left ns inner.items c.loop-i.vals.items c.loop-i.i c.args.self.now c.missing.result nodes c.loop-i.auto.i-end c.loop-i-test.false fits before left c.if-not-are_options.ensures c.missing.ensures)
 
 pub returns-in_err-push_omitted-clause-refused : goal.returns-in_err-push_omitted-clause-refused
 returns-in_err-push_omitted-clause-refused g c = λ t is.
-    let Ts = (map g.P.ParamType.shown c.args.types.now) in
+    let Ts = (map g.P.ParamType.denoted c.args.types.now) in
     let ns = c.in_ok-nodes.nodes.now in
     let src = c.args.src.now in
     let inner = tuple_nodes src c.args.self.now t is c.in_ok-nodes.ensures.0 in
     let nodes = given_items src c.args.self.now t ns is c.in_ok-nodes.ensures.0 c.in_ok-nodes.ensures.1 in
     let before = c.loop-i.invariant.2 inner.items nodes in
-    let many = mapped_count g.P.ParamType.shown c.args.types.now in
+    let many = mapped_count g.P.ParamType.denoted c.args.types.now in
     let fits : c.loop-i.i ≤ length Ts = omega (arith, c.loop-i.invariant.0, many) in
-    let Left = map g.P.ParamType.shown (take (length c.args.types.now - length ns) (drop (length ns) c.args.types.now)) in
-    let left : Left ≡ drop (length ns) Ts = rest_mapped g.P.ParamType.shown c.args.types.now (length ns) in
+    let Left = map g.P.ParamType.denoted (take (length c.args.types.now - length ns) (drop (length ns) c.args.types.now)) in
+    let left : Left ≡ drop (length ns) Ts = rest_mapped g.P.ParamType.denoted c.args.types.now (length ns) in
     error_handed (RefusesParams g.V.WasmValue.is_full Ts c.args.self.now t) c.from_residual-in_err-push_omitted.result c.in_err-push_omitted.field-0.0 c.from_residual-in_err-push_omitted.ensures.1
     (inr (
       inner.items,
@@ -104,28 +104,28 @@ returns-in_err-push_omitted-clause-refused g c = λ t is.
 
 pub returns-clause-count : goal.returns-clause-count
 returns-clause-count g c =
-    let Ts = (map g.P.ParamType.shown c.args.types.now) in
+    let Ts = (map g.P.ParamType.denoted c.args.types.now) in
     let ns = c.in_ok-nodes.nodes.now in
-    let many = mapped_count g.P.ParamType.shown c.args.types.now in
+    let many = mapped_count g.P.ParamType.denoted c.args.types.now in
     let fits : c.loop-i.i ≤ length Ts = omega (arith, c.loop-i.invariant.0, many) in
-    let Left = map g.P.ParamType.shown (take (length c.args.types.now - length ns) (drop (length ns) c.args.types.now)) in
-    let left : Left ≡ drop (length ns) Ts = rest_mapped g.P.ParamType.shown c.args.types.now (length ns) in
+    let Left = map g.P.ParamType.denoted (take (length c.args.types.now - length ns) (drop (length ns) c.args.types.now)) in
+    let left : Left ≡ drop (length ns) Ts = rest_mapped g.P.ParamType.denoted c.args.types.now (length ns) in
     params_count g.V.WasmValue.tree g.V.WasmValue.is_of g.V.WasmValue.is_full Ts Left c.loop-i.vals.items c.push_omitted.new.vals.items c.loop-i.i (length ns) c.loop-i.auto.i-end c.loop-i-test.false fits c.loop-i.invariant.1 left
     c.in_ok-push_omitted.ensures.values
     ∙ many
 
 pub returns-clause-values : goal.returns-clause-values
 returns-clause-values g c = λ t is.
-    let Ts = (map g.P.ParamType.shown c.args.types.now) in
+    let Ts = (map g.P.ParamType.denoted c.args.types.now) in
     let ns = c.in_ok-nodes.nodes.now in
     let src = c.args.src.now in
     let inner = tuple_nodes src c.args.self.now t is c.in_ok-nodes.ensures.0 in
     let nodes = given_items src c.args.self.now t ns is c.in_ok-nodes.ensures.0 c.in_ok-nodes.ensures.1 in
     let before = c.loop-i.invariant.2 inner.items nodes in
-    let many = mapped_count g.P.ParamType.shown c.args.types.now in
+    let many = mapped_count g.P.ParamType.denoted c.args.types.now in
     let fits : c.loop-i.i ≤ length Ts = omega (arith, c.loop-i.invariant.0, many) in
-    let Left = map g.P.ParamType.shown (take (length c.args.types.now - length ns) (drop (length ns) c.args.types.now)) in
-    let left : Left ≡ drop (length ns) Ts = rest_mapped g.P.ParamType.shown c.args.types.now (length ns) in (
+    let Left = map g.P.ParamType.denoted (take (length c.args.types.now - length ns) (drop (length ns) c.args.types.now)) in
+    let left : Left ≡ drop (length ns) Ts = rest_mapped g.P.ParamType.denoted c.args.types.now (length ns) in (
       inner.items,
       inner.shape,
       params_read g.V.WasmValue.tree g.V.WasmValue.is_of g.V.WasmValue.is_full src Ts Left ns inner.items c.loop-i.vals.items c.push_omitted.new.vals.items c.loop-i.i nodes c.loop-i.auto.i-end c.loop-i-test.false fits before left

@@ -8,4 +8,4 @@ abbrev pub invariant-loop-i : goal.invariant-loop-i
 invariant-loop-i g l =
     (l.i ≤ length l.types)
     × (length l.vals.items ≡ l.i)
-    × ((ts : List SpannedTree) → AreNodesOf l.src l.nodes ts → AreRead g.V.WasmValue.tree g.V.WasmValue.is_of (take l.i (map g.P.ParamType.shown l.types)) (take l.i ts) l.vals.items)
+    × ((ts : List SpannedTree) → AreNodesOf l.src l.nodes ts → AreRead g.V.WasmValue.tree g.V.WasmValue.is_of (take l.i (map g.P.ParamType.denoted l.types)) (take l.i ts) l.vals.items)

@@ -1,5 +1,5 @@
 use Rattle.std.proofs.Common.{◌∙◌, ap, refl, subst, sym}
-use Rattle.wave_wasm.specs.Borrowed.{shown}
+use Rattle.wave_wasm.specs.Borrowed.{denoted}
 use Rattle.wave_wasm.specs.Types.{TypeTree}
 use Rattle.wave_grammar.specs.declared.form.NodeType.{NodeType}
 use Rattle.wave_grammar.specs.declared.form.NodeType.TheVariants as node_type
@@ -16,7 +16,7 @@ returns-in_default g c =
       wrapper = tt;
       kind = tt;
       none = λ T expected U read is.
-          let same = some_is (g.V.Type.WasmType.tree c.in_ok-self.field-0.now) T (sym (ap (shown g.V.Type.WasmType.tree) c.in_ok-self.was) ∙ expected) in
+          let same = some_is (g.V.Type.WasmType.tree c.in_ok-self.field-0.now) T (sym (ap (denoted g.V.Type.WasmType.tree) c.in_ok-self.was) ∙ expected) in
           no_record g.V.Type.WasmType.tree T node_type.TupleSet found.0 found.1 (subst (λ (W : TypeTree). IsWrapper g.V.Type.WasmType.tree W node_type.TupleSet found.0 found.1) same c.wrapper_and_type.ensures)
           (λ kind. c.in_default.not-Record (c.kind.ensures ∙ kind)) U (subst (λ (k : NodeType). IsReadAt T k U) is read) refl;
     }

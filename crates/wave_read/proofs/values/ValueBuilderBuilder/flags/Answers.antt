@@ -1,7 +1,7 @@
 use Rattle.std.proofs.Common.{refl, sym, subst, Option, Bor}
 use Rattle.wave_grammar.specs.NodeTree.{node}
 use Rattle.wave_grammar.specs.declared.form.NodeType.TheVariants as kind
-use Rattle.wave_wasm.specs.Borrowed.{shown}
+use Rattle.wave_wasm.specs.Borrowed.{denoted}
 use Rattle.wave_grammar.specs.FlagParts.{flag_nodes}
 use Rattle.wave_leaf.specs.Reading.{IsReadWhereExpected}
 use Rattle.wave_leaf.proofs.LeafReading.PlainTypes.{no_row_spares, flags_no_row}
@@ -20,7 +20,7 @@ wrapped-requires g c =
 pub returns : goal.returns
 returns g c = λ o w source are.
     let n = node kind.Flags c.args.span (flag_nodes c.args.flags) in (
-      subst (λ (d : Option (Bor g.row.V-Type.Denot)). IsReadWhereExpected g.V.WasmValue.tree g.V.WasmValue.is_of g.V.WasmValue.is_full o w (shown g.V.Type.WasmType.tree d) source n c.wrapped.result) (sym c.in-Some.is)
+      subst (λ (d : Option (Bor g.row.V-Type.Denot)). IsReadWhereExpected g.V.WasmValue.tree g.V.WasmValue.is_of g.V.WasmValue.is_full o w (denoted g.V.Type.WasmType.tree d) source n c.wrapped.result) (sym c.in-Some.is)
           (c.wrapped.ensures o w (g.V.Type.WasmType.tree c.in-Some.expected.now) source n c.wrapper_and_type.ensures refl (c.flags_at-built.ensures.read o w source are)),
-      no_row_spares (shown g.V.Type.WasmType.tree c.args.self.expected) n c.wrapped.result flags_no_row,
+      no_row_spares (denoted g.V.Type.WasmType.tree c.args.self.expected) n c.wrapped.result flags_no_row,
     )

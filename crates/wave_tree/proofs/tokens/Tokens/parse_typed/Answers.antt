@@ -1,6 +1,6 @@
 use Rattle.std.proofs.Common.{rules, ◌≢◌, inr, Option, Bor, Err, [], arith, sym, ap, subst, ◌∙◌}
 use Rattle.std.specs.Prelude.{IfErr}
-use Rattle.wave_wasm.specs.Borrowed.{shown}
+use Rattle.wave_wasm.specs.Borrowed.{denoted}
 use Rattle.wave_lex.specs.declared.error.ParserErrorKind.TheVariants as because
 use Rattle.wave_lex.specs.Errors.{Diagnostic}
 use Rattle.wave_grammar.specs.PrefixAutomaton.{value}
@@ -50,7 +50,7 @@ returns-in-Ok-Err g c =
 pub returns-in-Err-clause-spares : goal.returns-in-Err-clause-spares
 returns-in-Err-clause-spares g c = λ plain row none memory.
     let takes = c.in-Err.ensures.memory (ap (λ (e : Diagnostic). e.kind) (sym c.into_error-in-Err.ensures) ∙ (sym c.refuse-in-Err.ensures.kind ∙ memory)) none in
-    subst (λ (o : Option (Bor g.row.V-Type.Denot)). TakesMemory (shown g.V.Type.WasmType.tree o)) c.new-builder.ensures takes plain
+    subst (λ (o : Option (Bor g.row.V-Type.Denot)). TakesMemory (denoted g.V.Type.WasmType.tree o)) c.new-builder.ensures takes plain
 
 pub returns-in-Err-clause-within : goal.returns-in-Err-clause-within
 returns-in-Err-clause-within g c =

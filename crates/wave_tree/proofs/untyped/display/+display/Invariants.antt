@@ -4,7 +4,7 @@ use denote.Shadow.{shadow}
 use Rattle.std.specs.Fmt.{HasWritten, IsPlainFormatter}
 use Rattle.wave_wasm.specs.Commas.{joined}
 use Rattle.wave_grammar.specs.NodeTree.{depth, nodes_depth, node_trees}
-use Rattle.wave_tree.specs.NodeDisplay.{shown_at}
+use Rattle.wave_tree.specs.NodeDisplay.{display_at}
 use Rattle.wave_tree.specs.Private.NodeDisplay.{entries_at, AreEntriesOf}
 use Rattle.wave_wasm.proofs.Displays.JoinedTexts.{separator, left}
 use Rattle.wave_tree.proofs.untyped.display.+display.Given as goal
@@ -35,7 +35,7 @@ decreases-write_case g l = 4 * depth l.node.now + 2
 
 abbrev pub invariant-write_items-loop-node : goal.invariant-write_items-loop-node
 invariant-write_items-loop-node g l =
-    (l.separator ≡ separator (map (shown_at l.src) (take l.node-index l.nodes))) × (IsPlainFormatter l.initial.f → HasWritten g.W.Write.write_str_gives l.initial.f (joined (map (shown_at l.src) (take l.node-index l.nodes))) l.f)
+    (l.separator ≡ separator (map (display_at l.src) (take l.node-index l.nodes))) × (IsPlainFormatter l.initial.f → HasWritten g.W.Write.write_str_gives l.initial.f (joined (map (display_at l.src) (take l.node-index l.nodes))) l.f)
 
 abbrev pub decreases-write_entries-loop-i : goal.decreases-write_entries-loop-i
 decreases-write_entries-loop-i g l = length l.nodes - l.i

@@ -1,7 +1,7 @@
 use Rattle.std.proofs.Common.{◌≡◌, map, take}
 use Rattle.wave_type.specs.TypeModel.{by_bytes}
-use Rattle.wave_wasm.specs.Borrowed.{shown_cases}
+use Rattle.wave_wasm.specs.Borrowed.{denoted_cases}
 use Rattle.wave_type.proofs.ty.parts.borrowed_cases.Given as goal
 
 abbrev pub invariant-loop-case : goal.invariant-loop-case
-invariant-loop-case l = shown_cases (λ t. t) l.answer.items ≡ map by_bytes (take l.case-index l.cases.items)
+invariant-loop-case l = denoted_cases (λ t. t) l.answer.items ≡ map by_bytes (take l.case-index l.cases.items)

@@ -1,6 +1,6 @@
 use Rattle.std.proofs.Common.{◌≡◌, subst}
 use Rattle.std.proofs.lemmas.Result.{IfOk-weaker}
-use Rattle.wave_wasm.specs.Borrowed.{shown_all}
+use Rattle.wave_wasm.specs.Borrowed.{denoted_all}
 use Rattle.wave_value.specs.ConstructorRules.{TakesTuple}
 use Rattle.wave_value.specs.Private.ValueModel.{Fits}
 use Rattle.wave_value.proofs.ViewAnswers.Parts.{places_taken}
@@ -10,4 +10,4 @@ pub returns-in-Tuple-clause-own : goal.returns-in-Tuple-clause-own
 returns-in-Tuple-clause-own c =
     let own = c.self.inside.own in
     let vals = c.in-Tuple.vals.items in
-    rw (← c.self.view_is) (IfOk-weaker c.borrowed_values.result (λ v. shown_all (λ w. w) v.items ≡ vals) (λ v. TakesTuple own (shown_all (λ w. w) v.items)) (λ v same. places_taken own vals _ (subst (Fits own) c.in-Tuple.is c.self.invariant) same) c.borrowed_values.ensures.values)
+    rw (← c.self.view_is) (IfOk-weaker c.borrowed_values.result (λ v. denoted_all (λ w. w) v.items ≡ vals) (λ v. TakesTuple own (denoted_all (λ w. w) v.items)) (λ v same. places_taken own vals _ (subst (Fits own) c.in-Tuple.is c.self.invariant) same) c.borrowed_values.ensures.values)

@@ -1,5 +1,5 @@
 use Rattle.std.proofs.Common.{arith, ℕ, List, ◌++◌, ap, ◌∙◌, Bor, codes, map, Option, append_assoc}
-use Rattle.wave_wasm.specs.Borrowed.{shown}
+use Rattle.wave_wasm.specs.Borrowed.{denoted}
 use Rattle.wave_wasm.specs.Types.{TypeTree, maybe_type, depth}
 use Rattle.wave_wasm.specs.TypeText.{type_text, payload_text}
 use Rattle.wave_wasm.specs.Commas.{joined}
@@ -49,13 +49,13 @@ push_tuple-push_type-requires g t c κs within =
 
 pub push_variant-loop-case-init : goal.push_variant-loop-case-init
 push_variant-loop-case-init g t c =
-    let f : Bor (List ℕ) × Option (Bor g.row.T.Denot) → List ℕ × Option TypeTree = λ x. (x.0.now, shown g.T.WasmType.tree x.1) in
+    let f : Bor (List ℕ) × Option (Bor g.row.T.Denot) → List ℕ × Option TypeTree = λ x. (x.0.now, denoted g.T.WasmType.tree x.1) in
     let s = variant_is _ _ c.requires (ap (map f) c.deref-case-items.ensures.value ∙ c.in_ok-cases.ensures) in
     adding_start (λ x. case_text (f x)) c.deref-case-items.result.now (codes "variant { ") (codes " }") (adding_as (s.text_is ∙ ap (λ z. codes "variant { " ++ (joined z ++ codes " }")) (map_map case_text f c.deref-case-items.result.now)) (adding_none _ _)) c.in_ok-push_str.ensures.bytes
 
 pub push_variant-push_payload-requires : goal.push_variant-push_payload-requires
 push_variant-push_payload-requires g t c κs within =
-    let f : Bor (List ℕ) × Option (Bor g.row.T.Denot) → List ℕ × Option TypeTree = λ x. (x.0.now, shown g.T.WasmType.tree x.1) in
+    let f : Bor (List ℕ) × Option (Bor g.row.T.Denot) → List ℕ × Option TypeTree = λ x. (x.0.now, denoted g.T.WasmType.tree x.1) in
     let s = variant_is _ _ c.requires c.in_ok-cases.ensures in
     let d = s.depth_is in
     let h = part_depth case_depth f c.deref-case-items.result.now _ c.loop-case.case-index c.case-item.result c.deref-case-items.ensures.value c.loop-case-test.true c.case-item.is in
@@ -63,9 +63,9 @@ push_variant-push_payload-requires g t c κs within =
 
 pub push_variant-loop-case-preserved : goal.push_variant-loop-case-preserved
 push_variant-loop-case-preserved g t c =
-    let f : Bor (List ℕ) × Option (Bor g.row.T.Denot) → List ℕ × Option TypeTree = λ x. (x.0.now, shown g.T.WasmType.tree x.1) in
+    let f : Bor (List ℕ) × Option (Bor g.row.T.Denot) → List ℕ × Option TypeTree = λ x. (x.0.now, denoted g.T.WasmType.tree x.1) in
     let a = adding_item (λ x. case_text (f x)) c.deref-case-items.result.now c.loop-case.case-index c.case-item.result _ _ c.loop-case-test.true c.case-item.is c.loop-case.invariant in
-    let payload = payload_text (maybe_type (shown g.T.WasmType.tree c.case-item.result.1)) in
+    let payload = payload_text (maybe_type (denoted g.T.WasmType.tree c.case-item.result.1)) in
     adding_two c.case-item.result.0.now payload (adding_more (comma_if c.loop-case.later) a c.in_ok-push_separator.ensures) c.in_ok-push_str-2.ensures.bytes c.in_ok-push_payload.ensures
 
 pub push_tuple-loop-item-preserved : goal.push_tuple-loop-item-preserved

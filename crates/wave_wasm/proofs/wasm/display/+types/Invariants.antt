@@ -1,6 +1,6 @@
 use Rattle.std.proofs.Common.{◌++◌, ◌+◌, ◌*◌, map, drop, codes}
 use Rattle.std.specs.String.{string_bytes}
-use Rattle.wave_wasm.specs.Borrowed.{shown}
+use Rattle.wave_wasm.specs.Borrowed.{denoted}
 use Rattle.wave_wasm.specs.Types.{depth, depth_of_maybe, maybe_type}
 use Rattle.wave_wasm.specs.TypeText.{type_text}
 use Rattle.wave_wasm.proofs.Displays.TextAppend.{Adding}
@@ -36,7 +36,7 @@ abbrev pub decreases-push_variant : goal.decreases-push_variant
 decreases-push_variant g l = 3 * depth (g.T.WasmType.tree l.ty.now) + 1
 
 abbrev pub decreases-push_payload : goal.decreases-push_payload
-decreases-push_payload g l = 3 * depth_of_maybe (maybe_type (shown g.T.WasmType.tree l.payload)) + 3
+decreases-push_payload g l = 3 * depth_of_maybe (maybe_type (denoted g.T.WasmType.tree l.payload)) + 3
 
 abbrev pub invariant-push_record-loop-field : goal.invariant-push_record-loop-field
 invariant-push_record-loop-field g l =
@@ -48,4 +48,4 @@ invariant-push_tuple-loop-item g l =
 
 abbrev pub invariant-push_variant-loop-case : goal.invariant-push_variant-loop-case
 invariant-push_variant-loop-case g l =
-    Adding (type_text (g.T.WasmType.tree l.ty)) (parted l.later (map (λ c. case_text (c.0.now, shown g.T.WasmType.tree c.1)) (drop l.case-index l.case-items)) ++ codes " }") (string_bytes l.fn.text) (string_bytes l.text)
+    Adding (type_text (g.T.WasmType.tree l.ty)) (parted l.later (map (λ c. case_text (c.0.now, denoted g.T.WasmType.tree c.1)) (drop l.case-index l.case-items)) ++ codes " }") (string_bytes l.fn.text) (string_bytes l.text)

@@ -1,5 +1,5 @@
 use Rattle.std.proofs.Common.{ap, sym, codes, ◌++◌, Bor, arith}
-use Rattle.wave_wasm.specs.Borrowed.{texts, shown_all}
+use Rattle.wave_wasm.specs.Borrowed.{texts, denoted_all}
 use Rattle.wave_wasm.specs.Types.{TypeTree}
 use Rattle.wave_wasm.specs.CommaParts.{comma_if}
 use Rattle.wave_wasm.specs.TypeText.{type_text, typed_names}
@@ -11,7 +11,7 @@ use Rattle.wave_wasm.proofs.wasm.display.push_typed_names.Goals as goal
 
 pub loop-i-init : goal.loop-i-init
 loop-i-init g c =
-    adding_as (ap (λ z. z ++ codes ")") (sym (parted_joined (typed_names (texts c.args.names.now.items) (shown_all g.T.WasmType.tree c.args.types.now.items))))) (adding_more (codes "(") (adding_none _ _) c.in_ok-push_str.ensures.bytes)
+    adding_as (ap (λ z. z ++ codes ")") (sym (parted_joined (typed_names (texts c.args.names.now.items) (denoted_all g.T.WasmType.tree c.args.types.now.items))))) (adding_more (codes "(") (adding_none _ _) c.in_ok-push_str.ensures.bytes)
 
 pub loop-i-preserved : goal.loop-i-preserved
 loop-i-preserved g c =

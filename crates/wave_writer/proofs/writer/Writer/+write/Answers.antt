@@ -3,7 +3,7 @@ use Rattle.std.proofs.lemmas.Result.{err_from_is_err_and}
 use Rattle.std.specs.List.{list_all}
 use Rattle.std.specs.Str.{bytes_eq}
 use Rattle.wave_wasm.specs.Commas.{enclosed, behind_name}
-use Rattle.wave_wasm.specs.Borrowed.{shown}
+use Rattle.wave_wasm.specs.Borrowed.{denoted}
 use Rattle.wave_wasm.specs.Text.{text, has_text}
 use Rattle.wave_wasm.specs.TextParts.{payload_text, has_payload_text}
 use Rattle.wave_wasm.specs.Values.{Value, maybe_value, depth, depth_of_maybe}
@@ -212,8 +212,8 @@ write_record-loop-field-preserved g t c =
 
 pub write_variant-returns : goal.write_variant-returns
 write_variant-returns g t c =
-    let w = start_written _ (ap text c.unwrap_variant.ensures ∙ variant_text c.unwrap_variant.result.0.now (shown g.V.WasmValue.tree c.unwrap_variant.result.1)) c.in_ok-write_case.ensures.ok in
-    let ok = ap has_text c.unwrap_variant.ensures ∙ variant_writable c.unwrap_variant.result.0.now (shown g.V.WasmValue.tree c.unwrap_variant.result.1) in
+    let w = start_written _ (ap text c.unwrap_variant.ensures ∙ variant_text c.unwrap_variant.result.0.now (denoted g.V.WasmValue.tree c.unwrap_variant.result.1)) c.in_ok-write_case.ensures.ok in
+    let ok = ap has_text c.unwrap_variant.ensures ∙ variant_writable c.unwrap_variant.result.0.now (denoted g.V.WasmValue.tree c.unwrap_variant.result.1) in
     writing_last w ok c.write_payload.ensures
 
 pub write_option-returns-in_err-write_text-in-Some : goal.write_option-returns-in_err-write_text-in-Some
@@ -234,12 +234,12 @@ write_result-returns-in_err-write_text-in-Err g t c =
 pub write_payload-returns-in_err-write_text-in-Some : goal.write_payload-returns-in_err-write_text-in-Some
 write_payload-returns-in_err-write_text-in-Some g t c =
     let p = err_from_is_err_and c.from_residual.result c.from_residual.ensures.1 in
-    rw (p.1, p.2) (start_refused _ (ap (λ o. payload_text (shown g.V.WasmValue.tree o)) c.in-Some.is) c.in_err-write_text-in-Some.ensures)
+    rw (p.1, p.2) (start_refused _ (ap (λ o. payload_text (denoted g.V.WasmValue.tree o)) c.in-Some.is) c.in_err-write_text-in-Some.ensures)
 
 pub write_payload-returns-in_ok-write_value-in-Some : goal.write_payload-returns-in_ok-write_value-in-Some
 write_payload-returns-in_ok-write_value-in-Some g t c =
-    let w = writing_more (start_written _ (ap (λ o. payload_text (shown g.V.WasmValue.tree o)) c.in-Some.is) c.in_ok-write_text-in-Some.ensures.ok) c.in_ok-write_value-in-Some.ensures.ok in
-    writing_last w (ap (λ o. has_payload_text (shown g.V.WasmValue.tree o)) c.in-Some.is ∙ c.in_ok-write_value-in-Some.ensures.writable) c.write_text-in-Some.ensures
+    let w = writing_more (start_written _ (ap (λ o. payload_text (denoted g.V.WasmValue.tree o)) c.in-Some.is) c.in_ok-write_text-in-Some.ensures.ok) c.in_ok-write_value-in-Some.ensures.ok in
+    writing_last w (ap (λ o. has_payload_text (denoted g.V.WasmValue.tree o)) c.in-Some.is ∙ c.in_ok-write_value-in-Some.ensures.writable) c.write_text-in-Some.ensures
 
 pub write_value-returns-in-F32-clause-err : goal.write_value-returns-in-F32-clause-err
 write_value-returns-in-F32-clause-err g t c =
@@ -374,7 +374,7 @@ write_record-loop-field-preserved-then-is_none g t c =
 pub write_variant-returns-in_err-write_case : goal.write_variant-returns-in_err-write_case
 write_variant-returns-in_err-write_case g t c =
     let p = err_from_is_err_and c.from_residual.result c.from_residual.ensures.1 in
-    rw (p.1, p.2) (start_refused _ (ap text c.unwrap_variant.ensures ∙ variant_text c.unwrap_variant.result.0.now (shown g.V.WasmValue.tree c.unwrap_variant.result.1)) c.in_err-write_case.ensures)
+    rw (p.1, p.2) (start_refused _ (ap text c.unwrap_variant.ensures ∙ variant_text c.unwrap_variant.result.0.now (denoted g.V.WasmValue.tree c.unwrap_variant.result.1)) c.in_err-write_case.ensures)
 
 pub write_variant-write_payload-requires : goal.write_variant-write_payload-requires
 write_variant-write_payload-requires g t c κs within =
@@ -398,7 +398,7 @@ write_result-write_payload-requires-in-Err g t c κs within =
 
 pub write_payload-write_value-requires : goal.write_payload-write_value-requires
 write_payload-write_value-requires g t c κs within =
-    let d = ap (λ o. depth_of_maybe (maybe_value (shown g.V.WasmValue.tree o))) c.in-Some.is in
+    let d = ap (λ o. depth_of_maybe (maybe_value (denoted g.V.WasmValue.tree o))) c.in-Some.is in
     (omega (arith, d), within)
 
 pub write_option-returns-in-None : goal.write_option-returns-in-None
@@ -411,20 +411,20 @@ write_option-returns-in_ok-write_text-in-Some g t c =
 
 pub write_result-returns-in_ok-write_text-in-Ok : goal.write_result-returns-in_ok-write_text-in-Ok
 write_result-returns-in_ok-write_text-in-Ok g t c =
-    writing_last (start_written _ (ap text c.in-Ok.ensures ∙ ok_text (shown g.V.WasmValue.tree c.in-Ok.payload)) c.in_ok-write_text-in-Ok.ensures.ok) (ap has_text c.in-Ok.ensures ∙ ok_writable (shown g.V.WasmValue.tree c.in-Ok.payload)) c.write_payload.ensures
+    writing_last (start_written _ (ap text c.in-Ok.ensures ∙ ok_text (denoted g.V.WasmValue.tree c.in-Ok.payload)) c.in_ok-write_text-in-Ok.ensures.ok) (ap has_text c.in-Ok.ensures ∙ ok_writable (denoted g.V.WasmValue.tree c.in-Ok.payload)) c.write_payload.ensures
 
 pub write_result-returns-in_ok-write_text-in-Err : goal.write_result-returns-in_ok-write_text-in-Err
 write_result-returns-in_ok-write_text-in-Err g t c =
-    writing_last (start_written _ (ap text c.in-Err.ensures ∙ err_text (shown g.V.WasmValue.tree c.in-Err.payload)) c.in_ok-write_text-in-Err.ensures.ok) (ap has_text c.in-Err.ensures ∙ err_writable (shown g.V.WasmValue.tree c.in-Err.payload)) c.write_payload-in-Err.ensures
+    writing_last (start_written _ (ap text c.in-Err.ensures ∙ err_text (denoted g.V.WasmValue.tree c.in-Err.payload)) c.in_ok-write_text-in-Err.ensures.ok) (ap has_text c.in-Err.ensures ∙ err_writable (denoted g.V.WasmValue.tree c.in-Err.payload)) c.write_payload-in-Err.ensures
 
 pub write_payload-returns-in_err-write_value-in-Some : goal.write_payload-returns-in_err-write_value-in-Some
 write_payload-returns-in_err-write_value-in-Some g t c =
     let p = err_from_is_err_and c.from_residual-in_err-write_value-in-Some.result c.from_residual-in_err-write_value-in-Some.ensures.1 in
-    rw (p.1, p.2) (writing_refused _ (start_written _ (ap (λ o. payload_text (shown g.V.WasmValue.tree o)) c.in-Some.is) c.in_ok-write_text-in-Some.ensures.ok) (λ h. ap (λ o. has_payload_text (shown g.V.WasmValue.tree o)) c.in-Some.is ∙ h) c.in_err-write_value-in-Some.ensures.err)
+    rw (p.1, p.2) (writing_refused _ (start_written _ (ap (λ o. payload_text (denoted g.V.WasmValue.tree o)) c.in-Some.is) c.in_ok-write_text-in-Some.ensures.ok) (λ h. ap (λ o. has_payload_text (denoted g.V.WasmValue.tree o)) c.in-Some.is ∙ h) c.in_err-write_value-in-Some.ensures.err)
 
 pub write_payload-returns-in-None : goal.write_payload-returns-in-None
 write_payload-returns-in-None g t c =
-    nothing_written _ _ _ (ap (λ o. payload_text (shown g.V.WasmValue.tree o)) c.in-None.is) (ap (λ o. has_payload_text (shown g.V.WasmValue.tree o)) c.in-None.is)
+    nothing_written _ _ _ (ap (λ o. payload_text (denoted g.V.WasmValue.tree o)) c.in-None.is) (ap (λ o. has_payload_text (denoted g.V.WasmValue.tree o)) c.in-None.is)
 
 pub write_value-returns-in-List-clause-ok : goal.write_value-returns-in-List-clause-ok
 write_value-returns-in-List-clause-ok g t c = c.write_list.ensures.ok

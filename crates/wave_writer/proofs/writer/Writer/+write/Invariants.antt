@@ -2,7 +2,7 @@ use Rattle.std.proofs.Common.{◌≡◌, ◌++◌, ◌+◌, ◌*◌, ◌&&◌, �
 use Rattle.std.specs.List.{list_all}
 use Rattle.wave_wasm.specs.Commas.{enclosed, behind_name}
 use Rattle.wave_wasm.specs.Text.{text, has_text}
-use Rattle.wave_wasm.specs.Borrowed.{shown, shown_all}
+use Rattle.wave_wasm.specs.Borrowed.{denoted, denoted_all}
 use Rattle.wave_wasm.specs.Values.{Value, maybe_value, depth, depth_of_maybe}
 use Rattle.wave_writer.proofs.CanonicalText.WrittenParts.{Writing}
 use Rattle.wave_wasm.proofs.CanonicalText.Sequences.{parted, depths}
@@ -35,17 +35,17 @@ abbrev pub decreases-write_map : goal.decreases-write_map
 decreases-write_map g l = 3 * depth (g.V.WasmValue.tree l.val.now) + 1
 
 abbrev pub decreases-write_items : goal.decreases-write_items
-decreases-write_items g l = 3 * depths depth (shown_all g.V.WasmValue.tree l.items.items) + 3
+decreases-write_items g l = 3 * depths depth (denoted_all g.V.WasmValue.tree l.items.items) + 3
 
 abbrev pub decreases-write_payload : goal.decreases-write_payload
-decreases-write_payload g l = 3 * depth_of_maybe (maybe_value (shown g.V.WasmValue.tree l.payload)) + 3
+decreases-write_payload g l = 3 * depth_of_maybe (maybe_value (denoted g.V.WasmValue.tree l.payload)) + 3
 
 abbrev pub invariant-write_items-loop-item : goal.invariant-write_items-loop-item
 invariant-write_items-loop-item g l =
     let left = drop l.item-index l.item-items in
     record {
-      writing : Writing (enclosed l.opening (map text (shown_all g.V.WasmValue.tree l.fn.items.items)) l.closing) (prefixed (map (λ v. text (g.V.WasmValue.tree v.now)) left) (text (g.V.WasmValue.tree l.last)) ++ l.closing) (g.W.TextWrite.output l.fn.self) (g.W.TextWrite.output l.self);
-      writable : (list_all (λ v. has_text (g.V.WasmValue.tree v.now)) left && has_text (g.V.WasmValue.tree l.last)) ≡ list_all has_text (shown_all g.V.WasmValue.tree l.fn.items.items);
+      writing : Writing (enclosed l.opening (map text (denoted_all g.V.WasmValue.tree l.fn.items.items)) l.closing) (prefixed (map (λ v. text (g.V.WasmValue.tree v.now)) left) (text (g.V.WasmValue.tree l.last)) ++ l.closing) (g.W.TextWrite.output l.fn.self) (g.W.TextWrite.output l.self);
+      writable : (list_all (λ v. has_text (g.V.WasmValue.tree v.now)) left && has_text (g.V.WasmValue.tree l.last)) ≡ list_all has_text (denoted_all g.V.WasmValue.tree l.fn.items.items);
     }
 
 abbrev pub invariant-write_record-loop-field : goal.invariant-write_record-loop-field

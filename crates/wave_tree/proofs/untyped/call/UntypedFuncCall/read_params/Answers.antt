@@ -21,4 +21,4 @@ returns-in-None-clause-caused g c =
 
 pub returns-in-None-clause-kind : goal.returns-in-None-clause-kind
 returns-in-None-clause-kind g c =
-    all_kind g.V.WasmValue.is_full (map g.P.ParamType.shown c.args.types.now) c.self.inside.name c.omitted_params.result c.omitted_params.ensures.refused
+    all_kind g.V.WasmValue.is_full (map g.P.ParamType.denoted c.args.types.now) c.self.inside.name c.omitted_params.result c.omitted_params.ensures.refused

@@ -1,6 +1,6 @@
 use Rattle.std.proofs.Common.{List, IfOk, sym, ap, subst, inl, ◌∙◌}
 use Rattle.wave_wasm.specs.Types.{TypeTree}
-use Rattle.wave_wasm.specs.Borrowed.{shown_all}
+use Rattle.wave_wasm.specs.Borrowed.{denoted_all}
 use Rattle.wave_tree.specs.UntypedCall.{GivesParamsAt}
 use Rattle.wave_grammar.specs.ErrorSpans.{IsTypeKind}
 use Rattle.wave_tree.proofs.TextReading.Calls.{memory_refuses, params_in_text}
@@ -22,4 +22,4 @@ returns-in-Err-clause-caused g c = λ was. absurd (cc (sym c.out_of_memory.ensur
 pub returns-in-Ok-clause-values : goal.returns-in-Ok-clause-values
 returns-in-Ok-clause-values g c =
     subst (λ (Ts : List TypeTree). IfOk c.read_params.result (λ vs. GivesParamsAt g.V.WasmValue.tree g.V.WasmValue.is_of Ts c.args.self.now.source c.args.self.now.params vs.items))
-    (ap (shown_all g.V.Type.WasmType.tree) c.as_slice.ensures.value ∙ c.in-Ok.ensures) c.read_params.ensures.values
+    (ap (denoted_all g.V.Type.WasmType.tree) c.as_slice.ensures.value ∙ c.in-Ok.ensures) c.read_params.ensures.values
