@@ -1,0 +1,4 @@
+pub mod Kinds
+pub mod Failures
+pub mod Answers
+pub mod Ends
