@@ -1,0 +1,5 @@
+mod Boxes
+mod Emptying
+mod Lending
+mod Rewrapping
+mod Steps

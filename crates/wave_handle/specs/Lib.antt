@@ -1,0 +1,3 @@
+pub mod TypeHandle
+pub mod FuncTypeHandle
+pub mod Private

@@ -1,0 +1,3 @@
+pub mod FuncTypeSlot
+pub mod Slots
+pub mod TypeSlot

@@ -1,0 +1,37 @@
+//! A box taken apart.
+ghost use Rattle.std.specs.Prelude.{◌≡◌};
+ghost use Rattle.std.specs.Box.Ownership.{box_owns};
+
+use std::alloc::Allocator;
+use std::marker::Model;
+
+/// The pointer and the allocator of a box. They own what it owned.
+pub(crate) struct Parts<T, A: Allocator> {
+    pub(crate) at: *mut T,
+    pub(crate) alloc: A,
+    pub(crate) ghost value: { T },
+}
+
+impl<T, A: Allocator> Model for Parts<T, A> {
+    ghost also_owns = { λ p. box_owns (A.dealloc_token p.alloc) T.row p.at p.value };
+}
+
+impl<T, A: Allocator> Parts<T, A> {
+    /// The parts of this box.
+    pub(crate) fn of(boxed: Box<T, A>) -> Parts<T, A>
+    where
+        T: Drop,
+        ensures { result.value ≡ boxed.value }
+    {
+        let (at, alloc) = Box::into_raw_with_allocator(boxed);
+        Parts { at, alloc }
+    }
+
+    /// The box whose parts these are.
+    pub(crate) fn into_box(self) -> Box<T, A>
+        ensures { result.value ≡ self.value }
+    {
+        let Parts { at, alloc } = self;
+        unsafe { Box::from_raw(alloc, at) }
+    }
+}
