@@ -1,0 +1,16 @@
+pub mod Fields
+pub mod Parts
+pub mod Taken
+pub mod Sizes
+pub mod Again
+pub mod Puts
+pub mod Signed
+pub mod Values
+pub mod TypeParts
+pub mod Readings
+pub mod Loops
+pub mod Builds
+pub mod Cases
+pub mod Records
+pub mod Depths
+pub mod Whole

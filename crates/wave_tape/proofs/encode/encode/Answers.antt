@@ -1,0 +1,5 @@
+use Rattle.wave_tape.proofs.Puts.{no_tape}
+use Rattle.wave_tape.proofs.encode.encode.Goals as goal
+
+pub returns-in-Err-clause-cause : goal.returns-in-Err-clause-cause
+returns-in-Err-clause-cause g c = no_tape c.in-Err.stop c.new.result (g.V.WasmValue.tree c.args.val.now) c.new.ensures.kind c.in-Err.ensures.err

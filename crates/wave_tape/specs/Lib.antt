@@ -1,0 +1,7 @@
+pub mod Tape
+pub mod Names
+pub mod Reading
+pub mod Errors
+pub mod Decoding
+pub mod Laws
+pub mod Private

@@ -1,0 +1,4 @@
+pub mod Kinds
+pub mod Readers
+pub mod Rows
+pub mod Writers

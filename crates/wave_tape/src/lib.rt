@@ -1,0 +1,8 @@
+//! A value as a tape: the bytes by which it crosses to C, Rust and Python.
+#![tactic(auto)]
+
+pub(crate) mod bytes;
+pub mod decode;
+pub mod encode;
+pub mod error;
+pub mod laws;
