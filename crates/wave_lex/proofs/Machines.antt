@@ -1,3 +1,4 @@
+pub mod ClosedShapes
+pub mod Counted
+pub mod Rows
 pub mod Steps
-pub mod Multiline
-pub mod FunctionNames

@@ -15,6 +15,5 @@ pub mod Parts
 pub mod Derive
 pub mod ErrorDetails
 pub mod Machines
-pub mod NameMachine
 pub mod Classes
 pub mod NumbersInTurn

@@ -15,8 +15,7 @@ use self::scan::{
 };
 use crate::asked::Asked;
 use crate::found::Found;
-use crate::machine::invalid::InvalidState;
-use crate::machine::longest_prefix;
+use crate::machine::{Start, longest_prefix};
 use std::fmt;
 use std::marker::Model;
 use std::ops::Range;
@@ -379,7 +378,7 @@ impl<'source> Lexer<'source> {
             self.end = self.start + length;
             return Found::Token(token);
         }
-        if let Some(length) = longest_prefix(InvalidState::Start, text) {
+        if let Some(length) = longest_prefix(Start::Invalid, text) {
             self.end = self.start + length;
             return Found::Invalid;
         }

@@ -3,7 +3,7 @@ ghost use Rattle.std.specs.Prelude.{◌≡◌, ℕ, ◌+◌, ◌<◌, ◌≤◌,
 ghost use Rattle.std.specs.Iterator.{at_most};
 ghost use Rattle.std.specs.Char.{digit_value};
 ghost use Rattle.std.specs.Str.{IsUtf8};
-ghost use Rattle.wave_lex.specs.Strings.{UnescapesTo};
+ghost use Rattle.wave_lex.specs.Strings.{UnescapesTo, short_escape};
 ghost use Rattle.wave_lex.specs.Multiline.{pieces, closing_piece, DropsReturn};
 ghost use Rattle.wave_lex.specs.declared.strings.StringPartsIter.TheVariants.{Normal};
 ghost use Rattle.wave_lex.specs.Remaining.{ended_lines, size_of};
@@ -14,7 +14,6 @@ ghost use Rattle.wave_lex.specs.Private.Lines.{IsNumberAt, PartTaken, EndIs, Lin
 
 use crate::error::{ParserError, ParserErrorKind};
 use crate::lex::sets::NoBackslashes;
-use crate::machine::escape::short_escape;
 use memchr::{memchr, memchr2};
 use std::marker::Model;
 use wave_wasm::byte_runs::run_of;
@@ -411,6 +410,21 @@ pub fn unescape(src: &str) -> Option<(char, usize)>
     }
     let scalar = char::from_u32(value)?;
     Some((scalar, count + 4))
+}
+
+/// What a backslash and this scalar stand for.
+fn short_escape(c: char) -> Option<char>
+    ensures { result ≡ short_escape c }
+{
+    match c {
+        '\\' => Some('\\'),
+        '\'' => Some('\''),
+        '"' => Some('"'),
+        't' => Some('\t'),
+        'n' => Some('\n'),
+        'r' => Some('\r'),
+        _ => None,
+    }
 }
 
 /// How many hexadecimal digits stand at the start, and the number that they are.

@@ -9,18 +9,12 @@ use Rattle.wave_wasm.specs.Lists.{AllOf}
 use Rattle.wave_wasm.specs.Commas.{joined, in_parens}
 use Rattle.wave_wasm.specs.Types.{TypeTree}
 use Rattle.wave_wasm.specs.Values.{Value}
-use Rattle.wave_lex.specs.declared.machine.name.NameState.{NameState}
-use Rattle.wave_lex.specs.declared.machine.name.NameState.TheVariants.{Label, Version}
-use Rattle.wave_lex.specs.declared.machine.name.Section.TheVariants as section
-use Rattle.wave_lex.specs.declared.machine.label.LabelState.TheVariants as word
-use Rattle.wave_lex.specs.declared.machine.name.Component.TheVariants as component
-use Rattle.wave_lex.specs.declared.machine.name.Number.TheVariants as number
-use Rattle.wave_lex.specs.NameMachine.{name_rest, name_step}
 use Rattle.wave_lex.specs.FunctionName.{IsName}
 use Rattle.wave_lex.specs.Regex.{nothing, Matches}
 use Rattle.wave_lex.specs.Derive.{derivative, derivative_by}
 use Rattle.wave_lex.specs.Tokens.{function_name}
-use Rattle.wave_lex.proofs.Machines.FunctionNames.{name_steps}
+use Rattle.wave_lex.proofs.RegularShapes.Comparisons.{same, same_true}
+use Rattle.wave_lex.proofs.Machines.ClosedShapes.{function_name_rests, function_name_closed}
 use Rattle.wave_lex.proofs.Tokenization.TokenEnds.{EndsBefore, no_longer, prefix_there, reached}
 use Rattle.wave_grammar.specs.Token.{Token, TokenizesTo, paren_open, paren_close}
 use Rattle.wave_grammar.specs.CommaSeparated.{Items}
@@ -43,19 +37,9 @@ use Rattle.wave_grammar.proofs.Elaboration.Params.{params_to, params_from}
 
 -- ---- names
 
--- no state of a name takes a `(`
-name_stops : (q : NameState) → derivative 40 (name_rest q) ≡ nothing
-name_stops (Label section.First word.Start) = refl
-name_stops (Label section.Namespace word.Start) = refl
-name_stops (Label section.Function word.Start) = refl
-name_stops (Label section.Member word.Start) = refl
-name_stops (Version component.Major number.Start) = refl
-name_stops (Version component.Minor number.Start) = refl
-name_stops (Version component.Patch number.Start) = refl
-name_stops _ = refl
-
-name_ends : (cs : List ℕ) → Matches function_name cs → derivative 40 (derivative_by cs function_name) ≡ nothing
-name_ends cs h = let (q, e) = reached NameState name_rest name_step name_steps (Label section.First word.Start) cs h in ap (derivative 40) e ∙ name_stops q
+-- nothing of a name takes a `(`
+name_ends : (cs : List ℕ) → derivative 40 (derivative_by cs function_name) ≡ nothing
+name_ends cs = same_true (derivative 40 (derivative_by cs function_name)) nothing (reached function_name function_name_rests function_name_closed refl (λ r. same (derivative 40 r) nothing) refl cs)
 
 -- a name is the longest before a `(`
 name_there : (cs x r : List ℕ) → encode_utf8_all cs ≡ x → Matches function_name cs → IsName (x ++ 40 ∷ r) (length x)
@@ -64,7 +48,7 @@ name_there cs x r e h = subst (λ (z : List ℕ). IsName (z ++ 40 ∷ r) (length
     ends : EndsBefore function_name cs (40 ∷ r)
     ends c rest there =
         let same : c ≡ 40 = (encode_same c 40 rest r (sym there ∙ ap (λ (z : List ℕ). z ++ r) (sym (encode_ascii 40 (ltb-true 40 128 refl))))).0 in
-        ap (λ (z : ℕ). derivative z (derivative_by cs function_name)) same ∙ name_ends cs h
+        ap (λ (z : ℕ). derivative z (derivative_by cs function_name)) same ∙ name_ends cs
 
 -- the parameters of a call, displayed after its name
 call_of : (s name : List ℕ) (params others : MaybeTree) (x : List ℕ) (tokens : List Token) → IsCall s name params → TokenizesTo (40 ∷ x) tokens → SpellsParams 100 tokens others → (other : IsCall (name ++ 40 ∷ x) name others) × (other.tokens ≡ tokens)

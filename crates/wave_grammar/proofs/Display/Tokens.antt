@@ -10,10 +10,9 @@ use Rattle.wave_lex.specs.Tokens as shapes
 use Rattle.wave_lex.specs.Tokens.{shape}
 use Rattle.wave_lex.specs.Labels.{IsLabel}
 use Rattle.wave_lex.specs.Tokenization.{Prefix}
-use Rattle.wave_lex.proofs.Machines.Multiline as multiline_state
-use Rattle.wave_lex.proofs.Machines.Multiline.{MultilineState, multiline_rest, multiline_step, multiline_steps}
+use Rattle.wave_lex.proofs.Machines.ClosedShapes.{multiline_string_rests, multiline_string_closed}
 use Rattle.wave_lex.proofs.RegularShapes.LabelWords.{spelled_by_itself}
-use Rattle.wave_lex.proofs.Tokenization.TokenEnds.{no_mark, none_follows}
+use Rattle.wave_lex.proofs.Tokenization.TokenEnds.{none_follows}
 use Rattle.wave_grammar.specs.Token.{Token, TokenizesTo, lexeme_of, text_of, number, label, char, string, multiline}
 use Rattle.wave_grammar.specs.LeafTokens.{name_of}
 use Rattle.wave_grammar.specs.Tree.{IsKey}
@@ -34,18 +33,9 @@ prefix_shapes s (t ∷ ts) q (g, k, whitespace, long, text, prefix) = ((long.is.
 pub cut_shapes : (s : List ℕ) (ts : List Token) → TokenizesTo s ts → AllOf HasShape ts
 cut_shapes s ts (q, prefix, end) = prefix_shapes s ts q prefix
 
-multiline_stops : (q : MultilineState) → nullable (multiline_rest q) ≡ true → no_mark stops (multiline_rest q) ≡ true
-multiline_stops multiline_state.Start e = cc
-multiline_stops multiline_state.Open1 e = cc
-multiline_stops multiline_state.Open2 e = cc
-multiline_stops multiline_state.Inside e = cc
-multiline_stops multiline_state.Quote1 e = cc
-multiline_stops multiline_state.Quote2 e = cc
-multiline_stops multiline_state.Close e = refl
-
 -- no mark goes on with a multiline string
 multiline_ends : (cs : List ℕ) → Matches shapes.multiline_string cs → NoStopAfter class.MultilineString cs
-multiline_ends = none_follows MultilineState multiline_rest multiline_step multiline_steps stops multiline_state.Start multiline_stops
+multiline_ends = none_follows shapes.multiline_string multiline_string_rests multiline_string_closed refl stops refl
 
 -- the text of a key or of a leaf is that token, where a mark follows
 pub alone : (t : Token) → IsKey t → HasShape t → IsOneToken (text_of t) t

@@ -16,12 +16,6 @@ use Rattle.wave_wasm.specs.Values.{Leaf, leaf_type, IsSound}
 use Rattle.wave_wasm.specs.HasType.{IsLeafOf}
 use Rattle.wave_wasm.specs.Text.{escaped, quoted_char, quoted}
 use Rattle.wave_lex.specs.declared.lex.Token.TheVariants as class
-use Rattle.wave_lex.specs.declared.machine.character.CharState.{CharState}
-use Rattle.wave_lex.specs.declared.machine.character.CharState.TheVariants as character
-use Rattle.wave_lex.specs.declared.machine.escape.EscapeState.TheVariants as escape
-use Rattle.wave_lex.specs.declared.machine.string.StringState.{StringState}
-use Rattle.wave_lex.specs.declared.machine.string.StringState.TheVariants as string
-use Rattle.wave_lex.specs.Machines.{character_rest, character_step, string_rest, string_step}
 use Rattle.wave_lex.specs.Regex as regex
 use Rattle.wave_lex.specs.Regex.{Regex, Matches, except, alt}
 use Rattle.wave_lex.specs.Derive.{nullable}
@@ -30,9 +24,9 @@ use Rattle.wave_lex.specs.Tokens as shapes
 use Rattle.wave_lex.specs.Tokens.{escape}
 use Rattle.wave_lex.proofs.StringDecoding.OneMeaning.{plain_from, escape_from}
 use Rattle.wave_lex.proofs.StringDecoding.Parts.{AllPlain}
-use Rattle.wave_lex.proofs.Machines.Steps.{character_steps, string_steps}
+use Rattle.wave_lex.proofs.Machines.ClosedShapes.{character_rests, character_closed, string_rests, string_closed}
 use Rattle.wave_lex.proofs.LongestPrefix.ByComputing.{ascii_spelled}
-use Rattle.wave_lex.proofs.Tokenization.TokenEnds.{no_mark, none_follows}
+use Rattle.wave_lex.proofs.Tokenization.TokenEnds.{none_follows}
 use Rattle.wave_grammar.specs.Token as token
 use Rattle.wave_grammar.proofs.RoundTrip.Tokens.{stops, NoStopAfter, stopped_cut}
 use Rattle.wave_grammar.proofs.RoundTrip.Escapes.{IsForm, is_form, all_plain}
@@ -40,21 +34,11 @@ use Rattle.wave_grammar.proofs.RoundTrip.Leaves.{IsWritten, bool_written, whole_
 
 -- ---- no mark goes on with a char or a string
 
-character_stops : (q : CharState) → nullable (character_rest q) ≡ true → no_mark stops (character_rest q) ≡ true
-character_stops character.Close e = refl
-character_stops (character.Escape escape.Backslash) e = cc
-character_stops _ e = cc
-
 pub character_ends : (cs : List ℕ) → Matches shapes.character cs → NoStopAfter class.Char cs
-character_ends = none_follows CharState character_rest character_step character_steps stops character.Start character_stops
-
-string_stops : (q : StringState) → nullable (string_rest q) ≡ true → no_mark stops (string_rest q) ≡ true
-string_stops string.Close e = refl
-string_stops (string.Escape escape.Backslash) e = cc
-string_stops _ e = cc
+character_ends = none_follows shapes.character character_rests character_closed refl stops refl
 
 pub string_ends : (cs : List ℕ) → Matches shapes.string cs → NoStopAfter class.String cs
-string_ends = none_follows StringState string_rest string_step string_steps stops string.Start string_stops
+string_ends = none_follows shapes.string string_rests string_closed refl stops refl
 
 -- ---- quotes
 

@@ -4,13 +4,7 @@ use Rattle.std.specs.Prelude.{encode_utf8_all, codes}
 use Rattle.std.proofs.Math.Seq.{take-append_seam, drop-append_seam}
 use Rattle.wave_lex.specs.declared.lex.Token.{Token}
 use Rattle.wave_lex.specs.declared.lex.Token.TheVariants.{Number, LabelOrKeyword, String}
-use Rattle.wave_lex.specs.declared.machine.number.NumberState.{NumberState}
-use Rattle.wave_lex.specs.declared.machine.number.NumberState.TheVariants as n
-use Rattle.wave_lex.specs.declared.machine.label.LabelTokenState.{LabelTokenState}
-use Rattle.wave_lex.specs.declared.machine.label.LabelTokenState.TheVariants as token
-use Rattle.wave_lex.specs.declared.machine.label.LabelState.TheVariants as l
-use Rattle.wave_lex.specs.Machines.{number_rest, number_step, label_token_rest, label_token_step}
-use Rattle.wave_lex.proofs.Machines.Steps.{number_steps, label_token_steps}
+use Rattle.wave_lex.proofs.Machines.ClosedShapes.{number_rests, number_closed, label_or_keyword_rests, label_or_keyword_closed}
 use Rattle.wave_lex.specs.Regex.{empty, Matches, is_one_of}
 use Rattle.wave_lex.specs.Derive.{derivative, derivative_by}
 use Rattle.wave_lex.specs.Tokens.{shape, whitespace, number, label_or_keyword}
@@ -101,19 +95,10 @@ end_cut = ([], refl, longest_here whitespace [] 0 refl refl refl refl)
 
 -- ---- numbers and labels
 
-number_stops : (q : NumberState) → no_mark stops (number_rest q) ≡ true
-number_stops n.Start = refl
-number_stops _ = refl
-
 -- no mark may follow a number
 pub number_ends : (cs : List ℕ) → Matches number cs → NoStopAfter Number cs
-number_ends = none_follows NumberState number_rest number_step number_steps stops n.Start (λ q last. number_stops q)
-
-label_stops : (q : LabelTokenState) → no_mark stops (label_token_rest q) ≡ true
-label_stops token.Start = refl
-label_stops (token.Label l.Start) = refl
-label_stops _ = refl
+number_ends = none_follows number number_rests number_closed refl stops refl
 
 -- no mark may follow a label
 pub label_ends : (cs : List ℕ) → Matches label_or_keyword cs → NoStopAfter LabelOrKeyword cs
-label_ends = none_follows LabelTokenState label_token_rest label_token_step label_token_steps stops token.Start (λ q last. label_stops q)
+label_ends = none_follows label_or_keyword label_or_keyword_rests label_or_keyword_closed refl stops refl

@@ -1,36 +1,28 @@
 -- Lower-case words behind hyphens lead a label back into such a word.
-use Rattle.std.proofs.Common.{◌≡◌, ℕ, ◌≤◌, ◌<◌, ◌+◌, Bool, true, false, List, refl, sym, ap, subst, ◌∙◌, length, drop, arith, get_or, Option, Some, None, length-drop, get_or-drop}
-use Rattle.std.specs.Prelude.{◌≢◌, if◌then◌else◌}
-use Rattle.wave_lex.specs.Regex.{Regex, is_within}
-use Rattle.wave_lex.specs.Derive.{derivative, after_next}
+use Rattle.std.proofs.Common.{◌≡◌, ℕ, ◌≤◌, ◌<◌, ◌+◌, true, false, List, refl, sym, ap, subst, ◌∙◌, length, drop, arith, get_or, Some, length-drop, get_or-drop}
+use Rattle.std.specs.Prelude.{◌≢◌, codes}
+use Rattle.wave_lex.specs.Regex.{Regex}
+use Rattle.wave_lex.specs.Derive.{derivative, derivative_by}
 use Rattle.wave_lex.specs.LongestMatch.{Greatest, IsPrefixOf}
-use Rattle.wave_lex.specs.Tokens.{label_or_keyword}
+use Rattle.wave_lex.specs.Tokens.{label, label_or_keyword}
 use Rattle.wave_lex.specs.Private.Reading.{LeadsTo, EndsWord}
-use Rattle.wave_lex.specs.Machines.{is_digit, is_lower, first_letter, label_step, label_token_rest, in_token}
-use Rattle.wave_lex.specs.declared.machine.label.LabelState.{LabelState}
-use Rattle.wave_lex.specs.declared.machine.label.LabelState.TheVariants as l
-use Rattle.wave_lex.specs.declared.machine.label.LabelTokenState.{LabelTokenState}
-use Rattle.wave_lex.specs.declared.machine.label.LabelTokenState.TheVariants as token
-use Rattle.wave_lex.proofs.Machines.Steps.{label_token_steps}
+use Rattle.wave_lex.specs.Machines.{rest, is_digit, is_lower}
+use Rattle.wave_lex.specs.declared.machine.Start.TheVariants.{LowerWord}
+use Rattle.wave_lex.proofs.Machines.Steps.{follows}
 use Rattle.wave_lex.proofs.QuickScan.Prefixes.{first_byte, leads_on, run_leads, run_ends}
-use Rattle.wave_lex.proofs.QuickScan.ByteRuns.{lower_ascii, lower_begins, lower_past, lower_stays, lowers_lead, label_dead}
+use Rattle.wave_lex.proofs.QuickScan.ByteRuns.{lower_ascii, lower_begins, lower_past, lower_stays, lowers_lead, label_dead, is_letter, letter_past}
 
 -- what may follow in a lower-case word
 abbrev in_word : Regex
-in_word = label_token_rest (token.Label l.Lower)
+in_word = rest LowerWord
 
 -- what may follow a hyphen
 abbrev behind_hyphen : Regex
-behind_hyphen = label_token_rest (token.Label l.Hyphen)
+behind_hyphen = derivative_by (codes "a-") label
 
 -- a lower-case letter behind a hyphen begins a word
-letter_steps : (b : ℕ) → is_lower b ≡ true → is_digit b ≡ false → label_step l.Hyphen b ≡ Some l.Lower
-letter_steps b e f =
-    ap (λ (z : Bool). if z then Some l.Digits else first_letter b) f
-    ∙ ap (λ (z : Bool). if z then Some l.Lower else (if is_within 65 90 b then Some l.Upper else None)) (lower_begins b e f).1
-
 letter_first : (b : ℕ) → is_lower b ≡ true → is_digit b ≡ false → derivative b behind_hyphen ≡ in_word
-letter_first b e f = label_token_steps (token.Label l.Hyphen) b ∙ ap (λ (z : Option LabelState). after_next LabelTokenState label_token_rest (in_token z)) (letter_steps b e f)
+letter_first b e f = follows is_letter behind_hyphen in_word refl refl letter_past b (lower_begins b e f)
 
 -- a hyphen, a lower-case letter, and such letters and digits
 word_leads : (b d : List ℕ) (n : ℕ) → d ≡ drop 1 b → 0 < length b → get_or b 0 0 ≡ 45 → is_digit (get_or b 1 0) ≡ false → 0 < n → n ≤ length d → ((i : ℕ) → i < n → is_lower (get_or d i 0) ≡ true)
@@ -40,7 +32,7 @@ word_leads b d n e some hyphen letter p fits h =
     let first : get_or d 0 0 ≡ get_or b 1 0 = ap (λ (z : List ℕ). get_or z 0 0) e ∙ get_or-drop 1 b 0 0 in
     subst (λ (z : ℕ). LeadsTo in_word in_word b z) same
     (leads_on in_word behind_hyphen in_word b d 1 n e
-    (first_byte in_word behind_hyphen 45 b b refl (omega arith) (label_token_steps (token.Label l.Lower) 45) some hyphen)
+    (first_byte in_word behind_hyphen 45 b b refl (omega arith) refl some hyphen)
     (run_leads behind_hyphen in_word d n p fits (λ i k. lower_ascii (get_or d i 0) (h i k)) (letter_first (get_or d 0 0) (h 0 p) (ap is_digit first ∙ letter)) (λ i k. lower_stays (get_or d i 0) (h i k))))
 
 -- what the code counts as a word behind a hyphen

@@ -1,20 +1,22 @@
 -- Where the text of a token ends: what follows goes on with no longer text of its shape.
 use Rattle.std.proofs.Common.{◌≡◌, ℕ, ◌≤◌, ◌<◌, Bool, true, false, nat_eq, nat_lt, zero, suc, List, [], ◌∷◌, ◌++◌, ◌⊎◌, inl, inr, Option, Some, None, refl, sym, ap, subst, ◌∙◌, length, take, drop, arith, append_assoc, length-append, length-take-le}
-use Rattle.std.specs.Prelude.{◌&&◌, ◌||◌, encode_utf8, encode_utf8_all}
+use Rattle.std.specs.Prelude.{◌&&◌, ◌||◌, not, encode_utf8, encode_utf8_all}
 use Rattle.std.proofs.lemmas.Bool.{cases_lt, eqb-true, ltb-true, or_cases, and_parts}
 use Rattle.std.proofs.lemmas.List.{take-append-drop}
 use Rattle.std.proofs.lemmas.Str.{encode_same, encode_ascii, len_utf8_bounds, length-encode}
 use Rattle.std.proofs.Math.Seq.{take-append_seam}
 use Rattle.wave_lex.specs.declared.lex.Token.{Token}
 use Rattle.wave_lex.specs.Regex.{Regex, nothing, Matches, is_one_of}
-use Rattle.wave_lex.specs.Derive.{nullable, derivative, derivative_by, after_next}
+use Rattle.wave_lex.specs.Derive.{nullable, derivative, derivative_by}
 use Rattle.wave_lex.specs.LongestMatch.{IsPrefixOf}
 use Rattle.wave_lex.specs.Tokens.{shape, whitespace}
 use Rattle.wave_lex.specs.Tokenization.{MayStandAt, IsToken, IsLongestToken, IsWhitespace}
 use Rattle.wave_lex.specs.Classes.{class_of}
 use Rattle.wave_lex.proofs.RegularShapes.Derivatives.{matches_from, matches_into, after_into, after_from, empty_into}
 use Rattle.wave_lex.proofs.RegularShapes.Comparisons.{same, same_true, each_below_at, after_past}
+use Rattle.wave_lex.proofs.LongestPrefix.ByComputing.{or_not}
 use Rattle.wave_lex.proofs.LongestPrefix.MachineWalks.{after_all_append, after_all_nothing}
+use Rattle.wave_lex.proofs.Machines.Steps.{is_in, each_in, passed_in, is_closed, text_leads}
 use Rattle.wave_lex.proofs.Tokenization.Classes.{group, token_shows, shape_not_empty}
 use Rattle.wave_lex.proofs.Tokenization.OneTokenization.{one_class}
 
@@ -170,23 +172,19 @@ ends_before marks small p cs (b ∷ r) none s e rest there =
     let w = encode_same b e r rest (ap (λ (z : List ℕ). z ++ r) (encode_ascii b ascii) ∙ there) in
     subst (λ (z : ℕ). derivative z (derivative_by cs p) ≡ nothing) w.0 (none b s)
 
--- ---- machines
+-- ---- shapes that lead to each other alone
 
-module _ (S : Type 0) (rest : S → Regex) (step : S → ℕ → Option S) (steps : (q : S) (c : ℕ) → derivative c (rest q) ≡ after_next S rest (step q c)) where
-  reached_by : (cs : List ℕ) (r : Regex) (o : Option S) → r ≡ after_next S rest o → nullable (derivative_by cs r) ≡ true → (p : S) × (derivative_by cs r ≡ rest p)
-  reached_by cs r None e h =
-      let dead : derivative_by cs r ≡ nothing = ap (derivative_by cs) e ∙ after_all_nothing cs in
-      let wrong : false ≡ true = sym (ap nullable dead) ∙ h in cc
-  reached_by [] r (Some q) e h = (q, e)
-  reached_by (c ∷ cs) r (Some q) e h = reached_by cs (derivative c r) (step q c) (ap (derivative c) e ∙ steps q c) h
+-- what may follow in the shape after each of the texts, where there are no others
+pub reached : (shape : Regex) (qs : List Regex) → is_closed qs ≡ true → is_in shape qs ≡ true → (p : Regex → Bool) → each_in p qs ≡ true → (cs : List ℕ) → p (derivative_by cs shape) ≡ true
+reached shape qs closed i p e cs = passed_in p qs (derivative_by cs shape) e (text_leads qs closed cs shape i)
 
-  -- a machine that has read a text of its shape stands in one of its states
-  pub reached : (q : S) (cs : List ℕ) → Matches (rest q) cs → (p : S) × (derivative_by cs (rest q) ≡ rest p)
-  reached q cs h = reached_by cs (rest q) (Some q) refl (matches_into cs (rest q) h)
+-- no mark begins a text of the shape where it has the empty text
+abbrev pub ends_without : List ℕ → Regex → Bool
+ends_without marks r = no_mark marks r || not (nullable r)
 
-  -- marks that follow no state in which it may end follow no text of its shape
-  pub none_follows : (marks : List ℕ) (q : S) → ((p : S) → nullable (rest p) ≡ true → no_mark marks (rest p) ≡ true) → (cs : List ℕ) → Matches (rest q) cs → NoMarkOf marks (derivative_by cs (rest q))
-  none_follows marks q stops cs h b s =
-      let (p, e) = reached q cs h in
-      let last : nullable (rest p) ≡ true = ap nullable (sym e) ∙ matches_into cs (rest q) h in
-      ap (derivative b) e ∙ same_true _ _ (passes (λ z. same (derivative z (rest p)) nothing) marks b (stops p last) s)
+-- marks that follow no shape that has the empty text follow no text of the shape
+pub none_follows : (shape : Regex) (qs : List Regex) → is_closed qs ≡ true → is_in shape qs ≡ true → (marks : List ℕ) → each_in (ends_without marks) qs ≡ true → (cs : List ℕ) → Matches shape cs → NoMarkOf marks (derivative_by cs shape)
+none_follows shape qs closed i marks e cs h b s =
+    let r = derivative_by cs shape in
+    let none : no_mark marks r ≡ true = or_not (no_mark marks r) (nullable r) (reached shape qs closed i (ends_without marks) e cs) (matches_into cs shape h) in
+    same_true _ _ (passes (λ z. same (derivative z r) nothing) marks b none s)

@@ -2,12 +2,11 @@
 use Rattle.std.specs.Prelude.{◌≡◌, ℕ, ◌<◌, false, List, Option, Some, None, length, drop, slice_index}
 use Rattle.wave_lex.specs.declared.lex.Token.{Token}
 use Rattle.wave_lex.specs.declared.lex.Token.TheVariants.{BraceOpen, BraceClose, ParenOpen, ParenClose, BracketOpen, BracketClose, Colon, Comma, Number}
-use Rattle.wave_lex.specs.declared.machine.label.LabelState.TheVariants.{Lower}
-use Rattle.wave_lex.specs.declared.machine.label.LabelTokenState.TheVariants.{Label}
+use Rattle.wave_lex.specs.declared.machine.Start.TheVariants.{LowerWord}
 use Rattle.wave_lex.specs.Regex.{Regex}
 use Rattle.wave_lex.specs.Derive.{derivative_by}
 use Rattle.wave_lex.specs.LongestMatch.{PrefixHas}
-use Rattle.wave_lex.specs.Machines.{is_lower, label_token_rest}
+use Rattle.wave_lex.specs.Machines.{is_lower, rest}
 use Rattle.wave_lex.specs.Tokenization.{IsLongestToken, IsWhitespace, NoToken}
 
 -- which byte the mark of a class is
@@ -46,10 +45,10 @@ IsStep q s (Some k) = (0 < k) × LeadsTo q q s k
 
 -- after the first k bytes of s a lower-case word of a label ends: they lead into such a word, and it does not go on
 pub record EndsWord (shape : Regex) (s : List ℕ) (k : ℕ) : Type 0 where
-  pub leads : LeadsTo shape (label_token_rest (Label Lower)) s k
+  pub leads : LeadsTo shape (rest LowerWord) s k
   pub stops : k < length s → is_lower (slice_index s k) ≡ false
 
 -- the first k bytes of s, where there are some, lead from one such word to the end of the next
 abbrev pub IsWordStep : List ℕ → Option ℕ → Type 0
 IsWordStep s None = Unit {0}
-IsWordStep s (Some k) = (0 < k) × EndsWord (label_token_rest (Label Lower)) s k
+IsWordStep s (Some k) = (0 < k) × EndsWord (rest LowerWord) s k

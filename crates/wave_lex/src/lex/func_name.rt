@@ -5,9 +5,7 @@ ghost use Rattle.wave_lex.specs.FunctionName.{NameIs};
 ghost use Rattle.wave_lex.specs.Tokenization.{Lexed, Stands, remainder_of, span};
 
 use crate::lex::{FuncNameToken, Lexer, Span};
-use crate::machine::label::LabelState;
-use crate::machine::longest_prefix;
-use crate::machine::name::{NameState, Section};
+use crate::machine::{Start, longest_prefix};
 use std::marker::Model;
 
 /// Takes function names from a source, one after the other; it skips nothing. Places are counted in bytes.
@@ -100,10 +98,7 @@ impl<'source> Iterator for FuncNameLexer<'source> {
     fn next(&mut self) -> Option<Result<FuncNameToken, Span>> {
         let rest = &self.source[self.end..];
         self.start = self.end;
-        if let Some(length) = longest_prefix(
-            NameState::Label(Section::First, LabelState::Start),
-            rest,
-        ) {
+        if let Some(length) = longest_prefix(Start::FunctionName, rest) {
             self.end = self.start + length;
             return Some(Ok(FuncNameToken::FunctionName));
         }

@@ -2,23 +2,19 @@
 //! in its state are counted sixteen at a time; the machine reads what stands after them. The ends of a
 //! comment and of a multiline string are searched, and a char of one scalar that stands for itself is found
 //! at once.
-ghost use Rattle.std.specs.Prelude.{◌≡◌, ℕ, ◌+◌, ◌<◌, ◌≤◌, true, false, Some, IfSome, is_some, length, drop, slice_index};
+ghost use Rattle.std.specs.Prelude.{◌≡◌, ℕ, ◌+◌, ◌<◌, ◌≤◌, true, false, Some, IfSome, is_some, length, drop, slice_index, codes};
+ghost use Rattle.wave_lex.specs.Derive.{derivative, derivative_by};
 ghost use Rattle.wave_lex.specs.LongestMatch.{Greatest, IsPrefixOf};
 ghost use Rattle.wave_lex.specs.Strings.{short_escape};
 ghost use Rattle.wave_lex.specs.Private.Machines.{after_sign, begins_number, ends_whole, is_blank};
-ghost use Rattle.wave_lex.specs.Machines.{is_digit, number_rest, string_rest};
+ghost use Rattle.wave_lex.specs.Machines.{is_digit, rest};
 ghost use Rattle.wave_lex.specs.Private.Reading.{LeadsTo, EndsWord, IsStep, IsWordStep};
-ghost use Rattle.wave_lex.specs.declared.machine.string.StringState.TheVariants.{Inside};
+ghost use Rattle.wave_lex.specs.declared.machine.Start.TheVariants.{InString};
 ghost use Rattle.wave_lex.specs.Tokenization.{IsWhitespace};
 ghost use Rattle.wave_lex.specs.Tokens.{character, label_or_keyword, multiline_string, number, one, string, whitespace};
 
 use crate::lex::sets::{Blanks, Digits, Lowers, Plains};
-use crate::machine::character::CharState;
-use crate::machine::label::{LabelState, LabelTokenState};
-use crate::machine::longest_prefix;
-use crate::machine::number::NumberState;
-use crate::machine::string::StringState;
-use crate::machine::whitespace::WhitespaceState;
+use crate::machine::{Start, longest_prefix};
 use crate::strings::hex_length;
 use memchr::{memchr, memmem};
 use wave_wasm::byte_runs::run_of;
@@ -57,7 +53,7 @@ fn commented_at(text: &str) -> usize
     if bytes[end] != b'/' {
         return end;
     }
-    let Some(more) = longest_prefix(WhitespaceState::Start, &text[end..]) else {
+    let Some(more) = longest_prefix(Start::Whitespace, &text[end..]) else {
         return end;
     };
     end + more
@@ -112,7 +108,7 @@ pub fn number_at(text: &str) -> Option<usize>
     let whole = &text.as_bytes()[sign..];
     let run = run_of::<Digits>(whole);
     if run == 0 {
-        return longest_prefix(NumberState::Start, text);
+        return longest_prefix(Start::Number, text);
     }
     if whole[0] == b'0' {
         if whole.len() == 1 {
@@ -121,7 +117,10 @@ pub fn number_at(text: &str) -> Option<usize>
         if ends_whole(whole[1]) {
             return Some(sign + 1);
         }
-        return longest_prefix(NumberState::Start, text);
+        let Some(more) = behind_whole(Start::Zero, &text[sign + 1..]) else {
+            return None;
+        };
+        return Some(sign + 1 + more);
     }
     let end = sign + run;
     if run == whole.len() {
@@ -130,10 +129,40 @@ pub fn number_at(text: &str) -> Option<usize>
     if ends_whole(whole[run]) {
         return Some(end);
     }
-    let Some(more) = longest_prefix(NumberState::Whole, &text[end..]) else {
+    let Some(more) = behind_whole(Start::WholePart, &text[end..]) else {
         return None;
     };
     Some(end + more)
+}
+
+/// How many bytes the longest rest of a number takes behind its whole part. The digits of a fraction are
+/// counted at once.
+fn behind_whole(start: Start, text: &str) -> Option<usize>
+    requires { derivative 46 (rest start) ≡ derivative_by (codes "0.") number }
+    ensures { Greatest (IsPrefixOf (rest start) text.now) result }
+{
+    let bytes = text.as_bytes();
+    if bytes.len() == 0 {
+        return longest_prefix(start, text);
+    }
+    if bytes[0] != b'.' {
+        return longest_prefix(start, text);
+    }
+    let digits = &bytes[1..];
+    let run = run_of::<Digits>(digits);
+    if run == 0 {
+        return longest_prefix(start, text);
+    }
+    if run == digits.len() {
+        return Some(run + 1);
+    }
+    if ends_whole(digits[run]) {
+        return Some(run + 1);
+    }
+    let Some(more) = longest_prefix(Start::Fraction, &text[run + 1..]) else {
+        return None;
+    };
+    Some(run + 1 + more)
 }
 
 /// How many bytes the longest label or keyword at the start takes.
@@ -143,10 +172,10 @@ pub fn label_at(text: &str) -> Option<usize>
     let bytes = text.as_bytes();
     let run = run_of::<Lowers>(bytes);
     if run == 0 {
-        return longest_prefix(LabelTokenState::Start, text);
+        return longest_prefix(Start::LabelOrKeyword, text);
     }
     if is_digit(bytes[0]) {
-        return longest_prefix(LabelTokenState::Start, text);
+        return longest_prefix(Start::LabelOrKeyword, text);
     }
     if run < bytes.len() && bytes[run] != b'-' {
         return Some(run);
@@ -158,8 +187,7 @@ pub fn label_at(text: &str) -> Option<usize>
     if bytes[place] != b'-' {
         return Some(place);
     }
-    let Some(more) = longest_prefix(LabelTokenState::Label(LabelState::Lower), &text[place..])
-    else {
+    let Some(more) = longest_prefix(Start::LowerWord, &text[place..]) else {
         return None;
     };
     Some(place + more)
@@ -172,7 +200,7 @@ pub fn char_at(text: &str) -> Option<usize>
     if let Some(count) = plain_char_at(text) {
         return Some(count);
     }
-    longest_prefix(CharState::Start, text)
+    longest_prefix(Start::Character, text)
 }
 
 /// How many bytes the string in one line at the start takes.
@@ -184,7 +212,7 @@ pub fn string_at(text: &str) -> Option<usize>
         return None;
     }
     if bytes[0] != b'"' {
-        return longest_prefix(StringState::Start, text);
+        return longest_prefix(Start::String, text);
     }
     let plain = run_of::<Plains>(text[1..].as_bytes()) + 1;
     if plain < bytes.len() && bytes[plain] == b'"' {
@@ -194,7 +222,7 @@ pub fn string_at(text: &str) -> Option<usize>
     if inside < bytes.len() && bytes[inside] == b'"' {
         return Some(inside + 1);
     }
-    let Some(more) = longest_prefix(StringState::Inside, &text[inside..]) else {
+    let Some(more) = longest_prefix(Start::InString, &text[inside..]) else {
         return None;
     };
     Some(inside + more)
@@ -212,7 +240,7 @@ pub fn multiline_at(text: &str) -> Option<usize>
 /// How many bytes the sign at the start takes: one, or none where no sign stands there.
 fn sign_at(text: &str) -> usize
     ensures within { result ≤ length text.now }
-    ensures leads { LeadsTo number (number_rest (after_sign result)) text.now result }
+    ensures leads { LeadsTo number (after_sign result) text.now result }
 {
     let bytes = text.as_bytes();
     if bytes.len() == 0 {
@@ -274,8 +302,8 @@ fn word_at(text: &str) -> Option<usize>
 
 /// Where the plain bytes and the escapes end that stand from this place on.
 fn inside_end(text: &str, from: usize) -> usize
-    requires { LeadsTo string (string_rest Inside) text.now from }
-    ensures { LeadsTo string (string_rest Inside) text.now result }
+    requires { LeadsTo string (rest InString) text.now from }
+    ensures { LeadsTo string (rest InString) text.now result }
 {
     let _length = text.len();
     let mut place = from;
@@ -287,8 +315,8 @@ fn inside_end(text: &str, from: usize) -> usize
 
 /// How many bytes the plain bytes or the escape take that stand at this place.
 fn piece_at(text: &str, place: usize) -> Option<usize>
-    requires { LeadsTo string (string_rest Inside) text.now place }
-    ensures { IsStep (string_rest Inside) (drop place text.now) result }
+    requires { LeadsTo string (rest InString) text.now place }
+    ensures { IsStep (rest InString) (drop place text.now) result }
 {
     let rest = &text.as_bytes()[place..];
     if let Some(count) = escape_at(rest) {
@@ -303,7 +331,7 @@ fn piece_at(text: &str, place: usize) -> Option<usize>
 
 /// How many bytes the escape takes that stands at the start; its number need be no scalar.
 fn escape_at(bytes: &[u8]) -> Option<usize>
-    ensures { IsStep (string_rest Inside) bytes.now result }
+    ensures { IsStep (rest InString) bytes.now result }
 {
     if bytes.len() < 2 || bytes[0] != b'\\' {
         return None;

@@ -8,16 +8,10 @@ use Rattle.std.proofs.lemmas.Str.{encode_same, encode_ascii}
 use Rattle.std.proofs.Math.Seq.{take-append_seam, drop-append_seam}
 use Rattle.wave_lex.specs.declared.lex.Token.{Token}
 use Rattle.wave_lex.specs.declared.lex.Token.TheVariants as class
-use Rattle.wave_lex.specs.declared.machine.label.LabelTokenState.{LabelTokenState}
-use Rattle.wave_lex.specs.declared.machine.label.LabelTokenState.TheVariants as token
-use Rattle.wave_lex.specs.declared.machine.label.LabelState.TheVariants as part
-use Rattle.wave_lex.specs.declared.machine.number.NumberState.{NumberState}
-use Rattle.wave_lex.specs.declared.machine.number.NumberState.TheVariants as state
 use Rattle.wave_lex.specs.Labels.{IsLabel}
 use Rattle.wave_lex.specs.LongestMatch.{IsPrefixOf}
 use Rattle.wave_lex.specs.Regex.{nothing, empty, Matches, is_one_of}
 use Rattle.wave_lex.specs.Derive.{nullable, derivative}
-use Rattle.wave_lex.specs.Machines.{number_rest, number_step, label_token_rest, label_token_step}
 use Rattle.wave_lex.specs.Classes.{class_of, ClassAt}
 use Rattle.wave_lex.specs.Tokenization.{MayStandAt, NoToken, IsWhitespace}
 use Rattle.wave_lex.specs.Tokens.{shape, whitespace, invalid, number, label_or_keyword}
@@ -27,7 +21,7 @@ use Rattle.wave_lex.proofs.Tokenization.Decimals.{decimal_ascii, decimal_number}
 use Rattle.wave_lex.proofs.RegularShapes.Derivatives.{matches_from, matches_into}
 use Rattle.wave_lex.proofs.RegularShapes.LabelWords.{spelled_by_itself}
 use Rattle.wave_lex.proofs.LongestPrefix.ByComputing.{ascii_spelled, longest_here}
-use Rattle.wave_lex.proofs.Machines.Steps.{number_steps, label_token_steps}
+use Rattle.wave_lex.proofs.Machines.ClosedShapes.{number_rests, number_closed, label_or_keyword_rests, label_or_keyword_closed}
 use Rattle.wave_type.specs.TypeSpelling.{Tokens, IsItem, IsTokenizedTo}
 
 -- ---- whitespace
@@ -165,25 +159,16 @@ pub ends_stop : (r : List ℕ) → Ends r → Stops r
 ends_stop [] h = tt
 ends_stop (b ∷ r) h = passes (λ z. is_one_of z stops) (codes " ),>") b refl h
 
-label_stops : (q : LabelTokenState) → no_mark stops (label_token_rest q) ≡ true
-label_stops token.Start = refl
-label_stops (token.Label part.Start) = refl
-label_stops _ = refl
-
-number_stops : (q : NumberState) → no_mark stops (number_rest q) ≡ true
-number_stops state.Start = refl
-number_stops _ = refl
-
 -- a label
 pub label_cut : (name r : List ℕ) (ts : Tokens) → IsLabel name → Stops r → IsTokenizedTo r ts → IsTokenizedTo (name ++ r) (name ∷ ts)
 label_cut name r ts h s cut =
     let has : Matches label_or_keyword name = ([], name, refl, inl refl, h) in
-    let none = none_follows LabelTokenState label_token_rest label_token_step label_token_steps stops token.Start (λ q last. label_stops q) name has in
+    let none = none_follows label_or_keyword label_or_keyword_rests label_or_keyword_closed refl stops refl name has in
     token_cut class.LabelOrKeyword name name r ts (spelled_by_itself name has) has (ends_before stops refl label_or_keyword name r none s) tt cut
 
 -- a number
 pub number_cut : (k : ℕ) (r : List ℕ) (ts : Tokens) → k < 2 ^ 64 → Stops r → IsTokenizedTo r ts → IsTokenizedTo (decimal k ++ r) (decimal k ∷ ts)
 number_cut k r ts l s cut =
     let has : Matches number (decimal k) = decimal_number k l in
-    let none = none_follows NumberState number_rest number_step number_steps stops state.Start (λ q last. number_stops q) (decimal k) has in
+    let none = none_follows number number_rests number_closed refl stops refl (decimal k) has in
     token_cut class.Number (decimal k) (decimal k) r ts (ascii_spelled (decimal k) (decimal_ascii k l)) has (ends_before stops refl number (decimal k) r none s) tt cut

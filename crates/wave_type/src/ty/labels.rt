@@ -10,8 +10,7 @@ ghost use Rattle.wave_type.specs.TypeWords.{is_label};
 use super::index::{Named, first_place};
 use super::{Shape, Type};
 use std::collections::BTreeMap;
-use wave_lex::machine::label::LabelState;
-use wave_lex::machine::longest_prefix;
+use wave_lex::machine::{Start, longest_prefix};
 
 impl Type {
     /// Whether within each record, variant, enum and flags of the type the names are labels, and
@@ -109,5 +108,5 @@ fn are_label_names<N: Named>(items: &Vec<N>, places: &BTreeMap<String, usize>) -
 pub(crate) fn is_label(name: &str) -> bool
     ensures { result ≡ is_label name.now }
 {
-    longest_prefix(LabelState::Start, name) == Some(name.len())
+    longest_prefix(Start::Label, name) == Some(name.len())
 }

@@ -1,7 +1,7 @@
 use Rattle.std.proofs.Common.{arith}
 use Rattle.wave_lex.specs.Tokens.{string}
-use Rattle.wave_lex.specs.Machines.{string_rest}
-use Rattle.wave_lex.specs.declared.machine.string.StringState.TheVariants.{Inside}
+use Rattle.wave_lex.specs.Machines.{rest}
+use Rattle.wave_lex.specs.declared.machine.Start.TheVariants.{InString}
 use Rattle.wave_lex.proofs.QuickScan.Prefixes.{prefix_behind, none_behind, lead_boundary}
 use Rattle.wave_lex.proofs.QuickScan.ByteRuns.{inside_none}
 use Rattle.wave_lex.proofs.QuickScan.EscapeRuns.{quote_leads, plains_lead, string_closes}
@@ -25,7 +25,7 @@ pub range_from-requires-2 : goal.range_from-requires-2
 range_from-requires-2 c = λ _. lead_boundary _ _ _ _ c.utf8.text c.inside_end-inside.ensures
 
 pub returns-in_default : goal.returns-in_default
-returns-in_default c = none_behind string (string_rest Inside) _ _ _ c.range_from-2.ensures.value c.inside_end-inside.ensures inside_none c.in_default.ensures
+returns-in_default c = none_behind string (rest InString) _ _ _ c.range_from-2.ensures.value c.inside_end-inside.ensures inside_none c.in_default.ensures
 
 pub returns : goal.returns
-returns c = prefix_behind string (string_rest Inside) _ _ _ _ c.range_from-2.ensures.value c.inside_end-inside.ensures c.in-Some.ensures
+returns c = prefix_behind string (rest InString) _ _ _ _ c.range_from-2.ensures.value c.inside_end-inside.ensures c.in-Some.ensures
