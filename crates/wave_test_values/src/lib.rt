@@ -21,6 +21,7 @@ pub fn call(rt: HostRuntime, name: &str, words: &[String]) -> Result<(), Stopped
         "Type::parse" | "FuncType::parse" | "parsed again" | "empty" | "fixed_length_list" => {
             types::of_text(rt, name, text)
         }
+        "Type::parse_within" | "FuncType::parse_within" => types::within(rt, name, words),
         "Type::clone"
         | "from_wasm_type"
         | "DisplayType"

@@ -108,6 +108,18 @@ pub fn of_text(rt: HostRuntime, name: &str, text: &str) -> Result<(), Stopped> {
     }
 }
 
+/// The type, or the type of a function, of the first word, within as many levels as the second says.
+pub fn within(rt: HostRuntime, name: &str, words: &[String]) -> Result<(), Stopped> {
+    let text = word(words, 0);
+    match word(words, 1).parse::<u32>() {
+        Ok(levels) if name == "Type::parse_within" => {
+            shown(rt, Type::parse_within(rt.alloc(), text, levels))
+        }
+        Ok(levels) => shown(rt, FuncType::parse_within(rt.alloc(), text, levels)),
+        Err(_) => Err(Stopped::NoCall),
+    }
+}
+
 /// The type of this kind that has no parts, where there is one; or of a map whose keys can't be.
 fn empty(alloc: Global, kind: &str) -> Result<Option<Type>, AllocError> {
     match kind {

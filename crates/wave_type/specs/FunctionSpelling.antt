@@ -31,6 +31,10 @@ IsFunctionOf text f = (ts : Tokens) × IsTokenizedTo text ts × SpellsFunction f
 abbrev pub levels_of_function : FunctionType → ℕ
 levels_of_function f = max (levels_of_fields (fields_of f.params)) (levels_of_fields (fields_of f.results))
 
--- the text spells no function within a hundred levels, or there was no memory
+-- the text spells no function within n levels, or there was no memory
+abbrev pub IsNoFunctionWithin : ℕ → List ℕ → TypeErrorKind → Type 0
+IsNoFunctionWithin n text kind = (kind ≡ OutOfMemory) ⊎ ((f : FunctionType) → IsFunctionOf text f → n < levels_of_function f)
+
+-- so within a hundred levels
 abbrev pub IsNoFunction : List ℕ → TypeErrorKind → Type 0
-IsNoFunction text kind = (kind ≡ OutOfMemory) ⊎ ((f : FunctionType) → IsFunctionOf text f → 100 < levels_of_function f)
+IsNoFunction text kind = IsNoFunctionWithin 100 text kind

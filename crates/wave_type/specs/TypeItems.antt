@@ -52,10 +52,18 @@ IsFaultOf expectations text e =
 abbrev pub for_memory : TypeRefusal
 for_memory = record { kind = OutOfMemory; span = span 0 0 }
 
--- the text is refused as no type within a hundred levels, or there was no memory
-abbrev pub IsTypeFault : List ℕ → TypeRefusal → Type 0
-IsTypeFault text e = (e ≡ for_memory) ⊎ IsFaultOf (expected_of_type 100) text e
+-- the text is refused as no type within n levels, or there was no memory
+abbrev pub IsTypeFaultWithin : ℕ → List ℕ → TypeRefusal → Type 0
+IsTypeFaultWithin n text e = (e ≡ for_memory) ⊎ IsFaultOf (expected_of_type n) text e
 
--- so as no type of a function
+-- so within a hundred levels
+abbrev pub IsTypeFault : List ℕ → TypeRefusal → Type 0
+IsTypeFault text e = IsTypeFaultWithin 100 text e
+
+-- the text is refused as no type of a function within n levels, or there was no memory
+abbrev pub IsFunctionFaultWithin : ℕ → List ℕ → TypeRefusal → Type 0
+IsFunctionFaultWithin n text e = (e ≡ for_memory) ⊎ IsFaultOf (expected_of_function n) text e
+
+-- so within a hundred levels
 abbrev pub IsFunctionFault : List ℕ → TypeRefusal → Type 0
-IsFunctionFault text e = (e ≡ for_memory) ⊎ IsFaultOf (expected_of_function 100) text e
+IsFunctionFault text e = IsFunctionFaultWithin 100 text e

@@ -145,6 +145,10 @@ abbrev mutual
   levels_of_cases no_cases = 0
   levels_of_cases (case_of name payload more) = max (levels_of_payload payload) (levels_of_cases more)
 
--- the text spells no type within a hundred levels, or there was no memory
+-- the text spells no type within n levels, or there was no memory
+abbrev pub IsNoTypeWithin : ℕ → List ℕ → TypeErrorKind → Type 0
+IsNoTypeWithin n text kind = (kind ≡ OutOfMemory) ⊎ ((T : TypeTree) → IsTypeOf text T → n < levels_of T)
+
+-- so within a hundred levels
 abbrev pub IsNoType : List ℕ → TypeErrorKind → Type 0
-IsNoType text kind = (kind ≡ OutOfMemory) ⊎ ((T : TypeTree) → IsTypeOf text T → 100 < levels_of T)
+IsNoType text kind = IsNoTypeWithin 100 text kind

@@ -8,12 +8,12 @@ use Rattle.wave_type.specs.declared.error.TypeErrorKind.{TypeErrorKind}
 use Rattle.wave_type.specs.declared.error.TypeErrorKind.TheVariants as kinds
 use Rattle.wave_type.specs.declared.error.TypeErrorKind.TheVariants.{OutOfMemory, UnexpectedToken, UnexpectedEnd}
 use Rattle.wave_type.specs.declared.tokens.Token.{Token as Piece}
-use Rattle.wave_type.specs.FunctionSpelling.{SpellsFunction, IsNoFunction}
+use Rattle.wave_type.specs.FunctionSpelling.{SpellsFunction, IsNoFunctionWithin}
 use Rattle.wave_type.specs.FunctionType.{FunctionType}
 use Rattle.wave_type.specs.TypeErrors.{TypeRefusal}
 use Rattle.wave_type.specs.TypeFaults.{Expectation, payloads_expected, payload_expected, results_expected, Step, takes, passes, refuses, step, refused, expected_of_type, expected_of_function}
 use Rattle.wave_type.specs.TypeItems.{Item, texts_of_items, AreItems, IsFaultOf, for_memory}
-use Rattle.wave_type.specs.TypeSpelling.{Tokens, IsTokenizedTo, Spells, IsNoType, levels_of}
+use Rattle.wave_type.specs.TypeSpelling.{Tokens, IsTokenizedTo, Spells, IsNoTypeWithin, levels_of}
 use Rattle.wave_type.specs.Private.FunctionReading.{function_read}
 use Rattle.wave_type.specs.Private.TypeReading.{type_read}
 use Rattle.wave_type.specs.Private.TypeTokens.{texts_of, items_of, Fails, IsRefusal, IsRefusalAt}
@@ -122,18 +122,19 @@ module _ (text : List ℕ) (tokens : List Piece) (ts : Tokens) (are : AreItems t
       text_fault (inl memory) = inl (stands.memory memory)
       text_fault (inr r) = elim (memory_or kind) as (λ _. (e ≡ for_memory) ⊎ IsFaultOf expectations text e) [ inl memory ↦ inl (stands.memory memory) | inr other ↦ inr (standing r other) ]
 
-    -- so it spells nothing within a hundred levels that isn't refused
-    module _ {A : Type 0} (P : A → Tokens → Type 0) (levels : A → ℕ) (expectations : List Expectation) (runs : (a : A) (us : Tokens) → levels a ≤ 100 → P a us → refused us expectations ≡ None) where
-      none_spelled : IsRefusal expectations ts kind left → (e.kind ≡ OutOfMemory) ⊎ ((a : A) → (us : Tokens) × IsTokenizedTo text us × P a us → 100 < levels a)
-      none_spelled (inl memory) = inl (ap (λ z. z.kind) (stands.memory memory))
-      none_spelled (inr r) =
-          inr (λ a h. low 100 (levels a) (nat_lt 100 (levels a)) refl (λ le. let wrong : None ≡ Some (kind, left) = sym (runs a ts le (only_spells (P a) h)) ∙ r in cc))
+    -- so it spells nothing within this number of levels that isn't refused
+    module _ (limit : ℕ) where
+      module _ {A : Type 0} (P : A → Tokens → Type 0) (levels : A → ℕ) (expectations : List Expectation) (runs : (a : A) (us : Tokens) → levels a ≤ limit → P a us → refused us expectations ≡ None) where
+        none_spelled : IsRefusal expectations ts kind left → (e.kind ≡ OutOfMemory) ⊎ ((a : A) → (us : Tokens) × IsTokenizedTo text us × P a us → limit < levels a)
+        none_spelled (inl memory) = inl (ap (λ z. z.kind) (stands.memory memory))
+        none_spelled (inr r) =
+            inr (λ a h. low limit (levels a) (nat_lt limit (levels a)) refl (λ le. let wrong : None ≡ Some (kind, left) = sym (runs a ts le (only_spells (P a) h)) ∙ r in cc))
 
-    pub no_type_of : IsRefusal (expected_of_type 100) ts kind left → IsNoType text e.kind
-    no_type_of = none_spelled (λ T us. Spells T us []) levels_of (expected_of_type 100) (λ T us le h. type_runs 100 T us [] le h [])
+      pub no_type_of : IsRefusal (expected_of_type limit) ts kind left → IsNoTypeWithin limit text e.kind
+      no_type_of = none_spelled (λ T us. Spells T us []) levels_of (expected_of_type limit) (λ T us le h. type_runs limit T us [] le h [])
 
-    pub no_function_of : IsRefusal (expected_of_function 100) ts kind left → IsNoFunction text e.kind
-    no_function_of = none_spelled SpellsFunction levels_of_function (expected_of_function 100) (function_runs 100)
+      pub no_function_of : IsRefusal (expected_of_function limit) ts kind left → IsNoFunctionWithin limit text e.kind
+      no_function_of = none_spelled SpellsFunction levels_of_function (expected_of_function limit) (function_runs limit)
 
 -- ---- the tokens as a whole
 

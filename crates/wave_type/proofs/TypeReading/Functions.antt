@@ -1,5 +1,5 @@
 -- The type of a function is read exactly where tokens spell it.
-use Rattle.std.proofs.Common.{◌≡◌, ℕ, ◌≤◌, true, false, List, [], ◌∷◌, Option, Some, None, String, Bor, map, refl, ap, subst, ◌∙◌, length, codes}
+use Rattle.std.proofs.Common.{◌≡◌, ℕ, true, false, List, [], ◌∷◌, Option, Some, None, String, Bor, map, refl, ap, subst, ◌∙◌, length, codes}
 use Rattle.wave_wasm.specs.Names.{AreDistinct}
 use Rattle.wave_wasm.specs.Types.{TypeTree, Fields, no_fields, field, fields_of, field_names}
 use Rattle.wave_wasm.specs.TypeText.{kind_word}
@@ -15,7 +15,7 @@ use Rattle.wave_type.specs.FunctionSpelling.{SpellsParts, SpellsResults, SpellsF
 use Rattle.wave_type.specs.TypeSpelling.{Tokens, Spells, SpellsFields}
 use Rattle.wave_type.specs.Private.TypeReading.{after, Reads, type_read}
 use Rattle.wave_type.specs.Private.FunctionReading.{params_read, result_parts_read, results_read, signature_read, function_read}
-use Rattle.wave_type.proofs.TypeReading.Complete.{IsComplete, paren, name_stands, after_other, head_word, no_mark_word}
+use Rattle.wave_type.proofs.TypeReading.Complete.{paren, name_stands, after_other, head_word, no_mark_word}
 use Rattle.wave_type.proofs.TypeReading.Sound.{IsSound, onward_back, after_back, fields_back, read_sound}
 use Rattle.wave_type.proofs.TypeReading.WholeTexts.{none_left}
 

@@ -16,7 +16,7 @@ use Rattle.wave_lex.specs.Classes.{class_of, ClassAt}
 use Rattle.wave_lex.specs.Tokenization.{MayStandAt, NoToken, IsWhitespace}
 use Rattle.wave_lex.specs.Tokens.{shape, whitespace, invalid, number, label_or_keyword}
 use Rattle.wave_lex.proofs.Tokenization.Classes.{group, token_shows, class_here, not_quoted}
-use Rattle.wave_lex.proofs.Tokenization.TokenEnds.{stops_here, EndsBefore, no_longer, prefix_there, token_there, no_whitespace, whitespace_before, space_whitespace, passes, StopsBy, no_mark, ends_before, none_follows}
+use Rattle.wave_lex.proofs.Tokenization.TokenEnds.{stops_here, EndsBefore, no_longer, prefix_there, token_there, no_whitespace, whitespace_before, space_whitespace, passes, StopsBy, ends_before, none_follows}
 use Rattle.wave_lex.proofs.Tokenization.Decimals.{decimal_ascii, decimal_number}
 use Rattle.wave_lex.proofs.RegularShapes.Derivatives.{matches_from, matches_into}
 use Rattle.wave_lex.proofs.RegularShapes.LabelWords.{spelled_by_itself}

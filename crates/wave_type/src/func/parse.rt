@@ -2,14 +2,14 @@
 ghost use Rattle.std.specs.Prelude.{◌≡◌, ◌≤◌, IfOk, IfErr, ◌∷◌, ◌++◌, [], map, codes};
 ghost use Rattle.wave_lex.specs.Errors.{LiesInText};
 ghost use Rattle.wave_wasm.specs.Borrowed.{named};
-ghost use Rattle.wave_type.specs.FunctionSpelling.{SpellsFunction, IsFunctionOf, IsNoFunction, levels_of_function};
+ghost use Rattle.wave_type.specs.FunctionSpelling.{SpellsFunction, IsFunctionOf, IsNoFunction, IsNoFunctionWithin, levels_of_function};
 ghost use Rattle.wave_type.specs.Private.FunctionType.{named_function};
 ghost use Rattle.wave_type.specs.DistinctLabels.{FunctionHasDistinctLabels};
 ghost use Rattle.wave_type.specs.Private.FunctionReading.{params_read, result_parts_read, results_read, function_read};
 ghost use Rattle.wave_type.specs.Private.TypeReading.{after, type_read};
 ghost use Rattle.wave_type.specs.Private.TypeTokens.{Answers, IsRefusal};
 ghost use Rattle.wave_type.specs.TypeFaults.{expected_of_function, mark_expected, last_expected, results_expected, result_expected, more_fields};
-ghost use Rattle.wave_type.specs.TypeItems.{IsFunctionFault};
+ghost use Rattle.wave_type.specs.TypeItems.{IsFunctionFault, IsFunctionFaultWithin};
 ghost use Rattle.wave_type.specs.TypeModel.{by_bytes};
 
 use super::FuncType;
@@ -17,7 +17,7 @@ use crate::error::{TypeError, TypeErrorKind};
 use crate::reader::Reader;
 use crate::tokens::tokens_of;
 use crate::ty::Type;
-use crate::ty::parse::{MAX_LEVELS, refusal};
+use crate::ty::parse::{DEFAULT_LEVELS, refusal};
 use std::alloc::{AllocError, Global};
 
 impl FuncType {
@@ -32,12 +32,25 @@ impl FuncType {
         ensures fault { IfErr result (λ e. IsFunctionFault text.now e) }
         ensures within { IfErr result (λ e. LiesInText text.now e.span) }
     {
+        FuncType::parse_within(alloc, text, DEFAULT_LEVELS)
+    }
+
+    /// As `parse`, but at most `levels` types may stand one inside another in a parameter or a result, as
+    /// in `Type::parse_within`. At 0 levels only a function without parameters and results is read.
+    pub fn parse_within(alloc: Global, text: &str, levels: u32) -> Result<FuncType, TypeError>
+        ensures spelled { IfOk result (λ f. IsFunctionOf text.now f) }
+        ensures levels { IfOk result (λ f. levels_of_function f ≤ levels) }
+        ensures labels { IfOk result (λ f. FunctionHasDistinctLabels f) }
+        ensures refused { IfErr result (λ e. IsNoFunctionWithin levels text.now e.kind) }
+        ensures fault { IfErr result (λ e. IsFunctionFaultWithin levels text.now e) }
+        ensures within { IfErr result (λ e. LiesInText text.now e.span) }
+    {
         let tokens = match tokens_of(alloc, text) {
             Ok(tokens) => tokens,
             Err(_) => return Err(TypeError::new(TypeErrorKind::OutOfMemory, 0..0)),
         };
         let mut reader = Reader::new(tokens.as_slice());
-        match whole_function(alloc, &mut reader, MAX_LEVELS) {
+        match whole_function(alloc, &mut reader, levels as usize) {
             Ok(function) => Ok(function),
             Err(kind) => Err(refusal(text, &tokens, reader.count(), kind)),
         }

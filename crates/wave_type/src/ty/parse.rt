@@ -4,8 +4,8 @@ ghost use Rattle.wave_lex.specs.Errors.{LiesInText};
 ghost use Rattle.wave_lex.specs.Labels.{HasDistinctLabels};
 ghost use Rattle.wave_type.specs.Private.TypeTokens.{IsRefusal, IsRefusalAt, items_of};
 ghost use Rattle.wave_type.specs.TypeFaults.{expected_of_type};
-ghost use Rattle.wave_type.specs.TypeItems.{AreItems, IsTypeFault, kind_at};
-ghost use Rattle.wave_type.specs.TypeSpelling.{Spells, IsTypeOf, IsNoType, levels_of};
+ghost use Rattle.wave_type.specs.TypeItems.{AreItems, IsTypeFault, IsTypeFaultWithin, kind_at};
+ghost use Rattle.wave_type.specs.TypeSpelling.{Spells, IsTypeOf, IsNoType, IsNoTypeWithin, levels_of};
 
 use super::Type;
 use crate::error::{TypeError, TypeErrorKind};
@@ -13,8 +13,8 @@ use crate::reader::Reader;
 use crate::tokens::{Token, tokens_of};
 use std::alloc::Global;
 
-/// How many types may stand one inside another.
-pub(crate) const MAX_LEVELS: usize = 100;
+/// How many types may stand one inside another where no other number is handed in.
+pub(crate) const DEFAULT_LEVELS: u32 = 100;
 
 impl Type {
     /// The type that the text spells, in the form in which types are displayed: as in WIT, with
@@ -31,12 +31,27 @@ impl Type {
         ensures fault { IfErr result (λ e. IsTypeFault text.now e) }
         ensures within { IfErr result (λ e. LiesInText text.now e.span) }
     {
+        Type::parse_within(alloc, text, DEFAULT_LEVELS)
+    }
+
+    /// As `parse`, but at most `levels` types may stand one inside another: `list<u8>` has two levels,
+    /// and a type without parts one. A type that is one too many is refused as `NestingTooDeep` at its
+    /// word, so at 0 levels each type is refused at its first token. Each level takes some stack, so a
+    /// caller with little of it hands in fewer than the hundred of `parse`.
+    pub fn parse_within(alloc: Global, text: &str, levels: u32) -> Result<Type, TypeError>
+        ensures spelled { IfOk result (λ ty. IsTypeOf text.now ty) }
+        ensures levels { IfOk result (λ ty. levels_of ty ≤ levels) }
+        ensures labels { IfOk result (λ ty. HasDistinctLabels ty) }
+        ensures refused { IfErr result (λ e. IsNoTypeWithin levels text.now e.kind) }
+        ensures fault { IfErr result (λ e. IsTypeFaultWithin levels text.now e) }
+        ensures within { IfErr result (λ e. LiesInText text.now e.span) }
+    {
         let tokens = match tokens_of(alloc, text) {
             Ok(tokens) => tokens,
             Err(_) => return Err(TypeError::new(TypeErrorKind::OutOfMemory, 0..0)),
         };
         let mut reader = Reader::new(tokens.as_slice());
-        match whole_type(alloc, &mut reader, MAX_LEVELS) {
+        match whole_type(alloc, &mut reader, levels as usize) {
             Ok(ty) => Ok(ty),
             Err(kind) => Err(refusal(text, &tokens, reader.count(), kind)),
         }
