@@ -12,8 +12,8 @@
    - `out` has been written before, be it with zeros, as far as its length says. `report` need not have been.
    - No call comes from a signal handler, nor from the child that a process with threads has forked.
    - malloc, realloc and free are of one allocator, and align as C says.
-   - There is stack enough, else the process dies: a level of a value takes up to 3,100 bytes at a type (in a record or
-     a map; 2,000 in what else there is) and 1,150 without one, also where it is explained. So 384 KB serve every text and
+   - There is stack enough, else the process dies: a level of a value takes up to 2,200 bytes at a type (in a record or
+     a map; 1,900 in what else there is) and 1,150 without one, also where it is explained. So 384 KB serve every text and
      type within 100 levels, 3.2 MB within 1000. A type's text takes 750 bytes a level, and has at most 100.
 
    `levels` is the limit of levels, which is how many values stand one inside another: 0 stands for 100, and more than

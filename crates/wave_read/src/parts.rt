@@ -40,7 +40,6 @@ use wave_lex::lex::Span;
 use wave_wasm::wasm::{WasmType, WasmTypeKind, WasmValue};
 
 /// What has been read of the parts of a value, at its type.
-#[derive(Drop)]
 pub enum Partial<'ty, T, V> {
     /// The value has this fault, whatever its parts are.
     Faulty(Fault),
@@ -62,6 +61,26 @@ pub enum Partial<'ty, T, V> {
     Fields(Fields<'ty, T, V>),
     /// The entries of a map.
     Entries(Entries<'ty, T, V>),
+}
+
+impl<'ty, T, V: Drop> Drop for Partial<'ty, T, V> {
+    /// Never inlined, so that what drops a `Frame` is small enough to be inlined: else each place where the
+    /// parser gives up would keep a copy of the frame in the stack of each level.
+    #[inline(never)]
+    fn drop(self) {
+        match self {
+            Partial::Faulty(_) => {}
+            Partial::Simple(_) => {}
+            Partial::Empty(_) => {}
+            Partial::Items(_) => {}
+            Partial::TupleItems(_) => {}
+            Partial::OfSome(_) => {}
+            Partial::OfResult(_) => {}
+            Partial::OfCase(_) => {}
+            Partial::Fields(_) => {}
+            Partial::Entries(_) => {}
+        }
+    }
 }
 
 impl<'ty, V: WasmValue> Partial<'ty, V::Type, V> {
