@@ -20,7 +20,7 @@ use Rattle.wave_wasm.specs.HasType.{IsLeafOf, HasType, HasPayload, HasTypes, Has
 use Rattle.wave_wasm.proofs.Names.NameTests.{passes}
 use Rattle.wave_wasm.proofs.Names.Subsequences.{unlike}
 use Rattle.wave_tape.specs.Tape.{bytes_of, payload_bytes, field_bytes, field_row_bytes, leaf_bytes, text_bytes, count_bytes, width_of, tape}
-use Rattle.wave_tape.specs.Reading.{Reading, number_at, whole_of, leaf_at, times, row_at, names_behind, flags_at, pair_at, value_at, payload_at, types_at, type_row_at, fields_at, field_row_at, case_at, tape_at}
+use Rattle.wave_tape.specs.Reading.{Reading, number_at, name_at, whole_of, leaf_at, times, row_at, names_behind, flags_at, pair_at, value_at, payload_at, types_at, type_row_at, fields_at, field_row_at, case_at, tape_at}
 use Rattle.wave_tape.specs.Private.Rows.{row_or_zero}
 use Rattle.wave_tape.proofs.Fields.{done, ok_is, wide8, wide64, number_again, name_again, text_again, char_again, choice_again, zero_again}
 use Rattle.wave_tape.proofs.Parts.{row_rows, list_bytes, pair_bytes, map_bytes, name_rows}
@@ -28,7 +28,7 @@ use Rattle.wave_tape.proofs.Signed.{fits8, fits16, fits32, fits64}
 use Rattle.wave_tape.proofs.Readings.{read_as}
 use Rattle.wave_tape.proofs.Taken.{limit_of, wide}
 use Rattle.wave_tape.proofs.Sizes.{leaf_some, first_some, value_some, rows_long, names_long}
-use Rattle.wave_tape.specs.Laws.{OneTapeEach}
+use Rattle.wave_tape.specs.Laws.{OneTapeEach, OneCallTapeEach}
 
 -- ---- values of one token
 
@@ -86,17 +86,17 @@ leaf_again S one rest (is, sound) lt = subst (λ (R : Simple). leaf_at R (leaf_b
 -- ---- parts in turn
 
 -- each such part is read again
-abbrev Again : {A : Type 0} → (List ℕ → Reading A) → (A → List ℕ) → (A → Type 0) → Type 0
+abbrev pub Again : {A : Type 0} → (List ℕ → Reading A) → (A → List ℕ) → (A → Type 0) → Type 0
 Again {A = A} read f P = (x : A) (rest : List ℕ) → P x → length (f x ++ rest) < 2 ^ 64 → read (f x ++ rest) ≡ Ok (x, rest)
 
 -- the bytes behind the first part are fewer
-behind_below : (front more rest : List ℕ) → length ((front ++ more) ++ rest) < 2 ^ 64 → (length (front ++ (more ++ rest)) < 2 ^ 64) × (length (more ++ rest) < 2 ^ 64)
+pub behind_below : (front more rest : List ℕ) → length ((front ++ more) ++ rest) < 2 ^ 64 → (length (front ++ (more ++ rest)) < 2 ^ 64) × (length (more ++ rest) < 2 ^ 64)
 behind_below front more rest lt = (
   omega (arith, lt, length-append (front ++ more) rest, length-append front more, length-append front (more ++ rest), length-append more rest),
   omega (arith, lt, length-append (front ++ more) rest, length-append front more, length-append more rest),
 )
 
-times_again : {A : Type 0} (read : List ℕ → Reading A) (f : A → List ℕ) (P : A → Type 0) → Again read f P → (xs : List A) (rest : List ℕ) → AllOf P xs → length (flat_map f xs ++ rest) < 2 ^ 64 → times read (length xs) (flat_map f xs ++ rest) ≡ Ok (xs, rest)
+pub times_again : {A : Type 0} (read : List ℕ → Reading A) (f : A → List ℕ) (P : A → Type 0) → Again read f P → (xs : List A) (rest : List ℕ) → AllOf P xs → length (flat_map f xs ++ rest) < 2 ^ 64 → times read (length xs) (flat_map f xs ++ rest) ≡ Ok (xs, rest)
 times_again read f P each [] rest all lt = refl
 times_again read f P each (x ∷ xs) rest all lt =
     let below = behind_below (f x) (flat_map f xs) rest lt in
@@ -108,7 +108,7 @@ row_again read P each n [] rest counted all lt = subst (λ (k : ℕ). row_at rea
 row_again read P each n (v ∷ vs) rest counted all lt =
     subst (λ (k : ℕ). row_at read k (row_or_zero bytes_of (v ∷ vs) ++ rest) ≡ Ok (v ∷ vs, rest)) counted (times_again read bytes_of P each (v ∷ vs) rest all lt)
 
-pair_again : {A B : Type 0} (first : List ℕ → Reading A) (second : List ℕ → Reading B) (f : A → List ℕ) (g : B → List ℕ) (P : A → Type 0) (Q : B → Type 0) → Again first f P → Again second g Q → Again (pair_at first second) (λ (p : A × B). f p.0 ++ g p.1) (λ (p : A × B). P p.0 × Q p.1)
+pub pair_again : {A B : Type 0} (first : List ℕ → Reading A) (second : List ℕ → Reading B) (f : A → List ℕ) (g : B → List ℕ) (P : A → Type 0) (Q : B → Type 0) → Again first f P → Again second g Q → Again (pair_at first second) (λ (p : A × B). f p.0 ++ g p.1) (λ (p : A × B). P p.0 × Q p.1)
 pair_again first second f g P Q each_first each_second p rest h lt =
     let below = behind_below (f p.0) (g p.1) rest lt in
     ap (pair_at first second) (append_assoc (f p.0) (g p.1) rest) ∙ rw (each_first p.0 (g p.1 ++ rest) h.0 below.0, each_second p.1 rest h.1 below.1) refl
@@ -157,11 +157,11 @@ flags_again names (one ∷ picked) rest h lt =
 -- ---- a value
 
 -- a count and the parts behind it
-record Counted (n : ℕ) (bytes rest : List ℕ) : Type 0 where
+pub record Counted (n : ℕ) (bytes rest : List ℕ) : Type 0 where
   pub small : n < 2 ^ 64
   pub below : length (bytes ++ rest) < 2 ^ 64
 
-counted : (n : ℕ) (bytes rest : List ℕ) → n ≤ length bytes → length (count_bytes n ++ (bytes ++ rest)) < 2 ^ 64 → Counted n bytes rest
+pub counted : (n : ℕ) (bytes rest : List ℕ) → n ≤ length bytes → length (count_bytes n ++ (bytes ++ rest)) < 2 ^ 64 → Counted n bytes rest
 counted n bytes rest le lt = record { small = omega (arith, le, lt, length-append bytes rest); below = omega (arith, lt) }
 
 as_value : (T : TypeTree) (v w : Value) (rest : List ℕ) → v ≡ w → length (bytes_of v ++ rest) < 2 ^ 64 → (length (bytes_of w ++ rest) < 2 ^ 64 → value_at T (bytes_of w ++ rest) ≡ Ok (w, rest)) → value_at T (bytes_of v ++ rest) ≡ Ok (v, rest)
@@ -297,13 +297,30 @@ tape_again T v distinct h lt =
     let version : number_at w8 (1 ∷ bytes_of v) ≡ Ok (1, bytes_of v) = number_again w8 (2 ^ 8) wide8 1 (bytes_of v) (omega arith) in
     rw (version, e) refl
 
-one_row : (v w : Value) (r s : List ℕ) → done {A = Value × List ℕ} (v, r) ≡ done (w, s) → (v ≡ w) × (r ≡ s)
-one_row v w r s e =
-    let same = ok_is (v, r) (w, s) e in
-    (ap (λ (x : Value × List ℕ). x.0) same, ap (λ (x : Value × List ℕ). x.1) same)
+-- what is read of the same bytes is the same
+pub one_start : {A : Type 0} (a b : A) (r s : List ℕ) → done {A = A × List ℕ} (a, r) ≡ done (b, s) → (a ≡ b) × (r ≡ s)
+one_start {A = A} a b r s e =
+    let same = ok_is (a, r) (b, s) e in
+    (ap (λ (x : A × List ℕ). x.0) same, ap (λ (x : A × List ℕ). x.1) same)
 
 pub one_tape : OneTapeEach
 one_tape T v w r s distinct hv hw lt e =
     let rows : bytes_of v ++ r ≡ bytes_of w ++ s = ap (drop 1) e in
     let small : length (bytes_of v ++ r) < 2 ^ 64 = omega (arith, lt) in
-    one_row v w r s (sym (value_again T distinct v r hv small) ∙ (ap (value_at T) rows ∙ value_again T distinct w s hw (subst (λ (x : List ℕ). length x < 2 ^ 64) rows small)))
+    one_start v w r s (sym (value_again T distinct v r hv small) ∙ (ap (value_at T) rows ∙ value_again T distinct w s hw (subst (λ (x : List ℕ). length x < 2 ^ 64) rows small)))
+
+-- the bytes of a call behind its version
+abbrev rest_of : List ℕ → List Value → List ℕ → List ℕ
+rest_of name vs r = text_bytes name ++ (flat_map bytes_of vs ++ r)
+
+pub one_call_tape : OneCallTapeEach
+one_call_tape Ts name other vs ws r s distinct hv hw lt e =
+    let first : (text_bytes name ++ flat_map bytes_of vs) ++ r ≡ rest_of name vs r = append_assoc (text_bytes name) (flat_map bytes_of vs) r in
+    let second : (text_bytes other ++ flat_map bytes_of ws) ++ s ≡ rest_of other ws s = append_assoc (text_bytes other) (flat_map bytes_of ws) s in
+    let rows : rest_of name vs r ≡ rest_of other ws s = sym first ∙ (ap (drop 1) e ∙ second) in
+    let whole : length (rest_of name vs r) < 2 ^ 64 = subst (λ (x : List ℕ). length x < 2 ^ 64) first (omega (arith, lt)) in
+    let small = name_small name (flat_map bytes_of vs ++ r) whole in
+    let small_other = name_small other (flat_map bytes_of ws ++ s) (subst (λ (x : List ℕ). length x < 2 ^ 64) rows whole) in
+    let names = one_start name other (flat_map bytes_of vs ++ r) (flat_map bytes_of ws ++ s) (sym (name_again name (flat_map bytes_of vs ++ r) small.0) ∙ (ap name_at rows ∙ name_again other (flat_map bytes_of ws ++ s) small_other.0)) in
+    let args = one_start vs ws r s (sym (types_again Ts distinct vs r hv small.1) ∙ (ap (types_at Ts) names.1 ∙ types_again Ts distinct ws s hw small_other.1)) in
+    (names.0, args.0, args.1)

@@ -6,6 +6,9 @@ pub mod Again
 pub mod Puts
 pub mod Signed
 pub mod Values
+pub mod TypeTapes
+pub mod TypeAgain
+pub mod NamedTypes
 pub mod TypeParts
 pub mod Readings
 pub mod Loops

@@ -1,15 +1,14 @@
 -- How the parts that were appended join to the whole.
-use Rattle.std.proofs.Common.{◌≡◌, ℕ, zero, suc, eqb, ◌<◌, ◌≤◌, ◌+◌, ◌%◌, ◌&&◌, inl, inr, Bool, true, false, List, [], ◌∷◌, ◌++◌, length, get_or, drop, Result, Ok, Err, refl, sym, ap, subst, ◌∙◌, append_assoc, arith}
+use Rattle.std.proofs.Common.{◌≡◌, ℕ, zero, suc, eqb, ◌<◌, ◌≤◌, ◌+◌, ◌%◌, ◌&&◌, inl, inr, Bool, true, false, List, [], ◌∷◌, ◌++◌, length, get_or, drop, take, Result, Ok, Err, refl, sym, ap, subst, ◌∙◌, append_assoc, arith}
 use Rattle.std.specs.Int.{w8, to_le_bytes}
 use Rattle.std.specs.Prelude.{OnOk, IfErr}
 use Rattle.std.proofs.lemmas.Bool.{eqb-true}
-use Rattle.std.proofs.lemmas.List.{append-nil}
+use Rattle.std.proofs.lemmas.List.{append-nil, take_all, take_at, take-take, length-take}
 use Rattle.wave_wasm.proofs.CanonicalText.Sequences.{at_item, at_end}
 use Rattle.wave_tape.specs.declared.error.Stop.{Stop}
 use Rattle.wave_tape.specs.declared.error.Stop.TheVariants as stops
-use Rattle.wave_wasm.specs.Values.{Value}
-use Rattle.wave_tape.specs.Tape.{count_bytes, has_tape}
-use Rattle.wave_tape.specs.Errors.{Refusal, kind_of, HasNoTape}
+use Rattle.wave_tape.specs.Tape.{count_bytes}
+use Rattle.wave_tape.specs.Errors.{Refusal, kind_of, place_of, HasNoTape}
 use Rattle.wave_tape.specs.Private.Writers.{IsGrounded, Puts}
 
 -- a part's cause is one of the whole
@@ -18,13 +17,34 @@ grounded_later stops.Memory has all f h = tt
 grounded_later (stops.Refused left) has all f h = h
 grounded_later (stops.Fault kind left) has all f h = (h.0, f h.1)
 
+-- ---- what was there stays in front
+
+pub kept_same : (old : List ℕ) → take (length old) old ≡ old
+kept_same old = take_all (length old) old (omega arith)
+
+pub kept_add : (old : List ℕ) {new : List ℕ} (bytes : List ℕ) → new ≡ old ++ bytes → take (length old) new ≡ old
+kept_add old bytes put = ap (take (length old)) put ∙ take_at old bytes (length old) refl
+
+pub kept_later : (old mid new : List ℕ) → take (length old) mid ≡ old → take (length mid) new ≡ mid → take (length old) new ≡ old
+kept_later old mid new first later =
+    let short = ap length first in
+    sym (take-take (length old) (length mid) new (omega (arith, short, length-take (length old) mid))) ∙ (ap (take (length old)) later ∙ first)
+
+-- nothing was appended before memory was refused
+pub memory_stop : {whole : List ℕ} {all : Bool} (old : List ℕ) → Puts whole all (Err stops.Memory) old old
+memory_stop old = record { ok = tt; err = tt; kept = kept_same old }
+
 -- a part is refused
-pub puts_stop : {part whole : List ℕ} {has all : Bool} {s : Stop} {old mid new end : List ℕ} → (has ≡ false → all ≡ false) → Puts part has (Err s) old mid → Puts whole all (Err s) new end
-puts_stop {has = has} {all = all} {s = s} f h = record { ok = tt; err = grounded_later s has all f h.err }
+pub puts_stop : {part whole : List ℕ} {has all : Bool} {s : Stop} (start : List ℕ) {old new : List ℕ} → (has ≡ false → all ≡ false) → take (length start) old ≡ start → Puts part has (Err s) old new → Puts whole all (Err s) start new
+puts_stop {has = has} {all = all} {s = s} start {old = old} {new = new} f kept h = record { ok = tt; err = grounded_later s has all f h.err; kept = kept_later start old new kept h.kept }
 
 -- bytes are refused for want of memory alone
-pub bytes_stop : {part whole : List ℕ} {all : Bool} {s : Stop} {old mid new end : List ℕ} → Puts part true (Err s) old mid → Puts whole all (Err s) new end
-bytes_stop h = puts_stop (λ e. absurd cc) h
+pub bytes_stop_in : {part whole : List ℕ} {all : Bool} {s : Stop} (start : List ℕ) {old new : List ℕ} → take (length start) old ≡ start → Puts part true (Err s) old new → Puts whole all (Err s) start new
+bytes_stop_in start kept h = puts_stop start (λ e. absurd cc) kept h
+
+-- so of the first bytes
+pub bytes_stop : {part whole : List ℕ} {all : Bool} {s : Stop} {old new : List ℕ} → Puts part true (Err s) old new → Puts whole all (Err s) old new
+bytes_stop {old = old} h = bytes_stop_in old (kept_same old) h
 
 -- other words for the bytes
 pub puts_as : {bytes whole : List ℕ} {has all : Bool} {r : Result (Unit {0}) Stop} {old new : List ℕ} → whole ≡ bytes → all ≡ has → Puts bytes has r old new → Puts whole all r old new
@@ -38,11 +58,11 @@ joined front bytes whole old mid new put same last =
 -- the last part decides
 pub puts_last : (front : List ℕ) {bytes whole : List ℕ} {has all : Bool} {r : Result (Unit {0}) Stop} {old mid new : List ℕ} → mid ≡ old ++ front → whole ≡ front ++ bytes → all ≡ has → Puts bytes has r mid new → Puts whole all r old new
 puts_last front {bytes = bytes} {whole = whole} {has = has} {all = all} {r = r} {old = old} {mid = mid} {new = new} put same a h =
-    by r h.ok h.err
+    by r h.ok h.err (kept_later old mid new (kept_add old front put) h.kept)
   where
-    by : (r : Result (Unit {0}) Stop) → OnOk r ((new ≡ mid ++ bytes) × (has ≡ true)) → IfErr r (λ s. IsGrounded s has) → Puts whole all r old new
-    by (Ok u) ok err = record { ok = (joined front bytes whole old mid new put same ok.0, a ∙ ok.1); err = tt }
-    by (Err s) ok err = record { ok = tt; err = grounded_later s has all (λ e. a ∙ e) err }
+    by : (r : Result (Unit {0}) Stop) → OnOk r ((new ≡ mid ++ bytes) × (has ≡ true)) → IfErr r (λ s. IsGrounded s has) → take (length old) new ≡ old → Puts whole all r old new
+    by (Ok u) ok err kept = record { ok = (joined front bytes whole old mid new put same ok.0, a ∙ ok.1); err = tt; kept = kept }
+    by (Err s) ok err kept = record { ok = tt; err = grounded_later s has all (λ e. a ∙ e) err; kept = kept }
 
 -- ---- parts in turn: h says the bytes of what is left, k whether all of it has a tape
 
@@ -78,6 +98,12 @@ counted_start n long left old new whole same put is =
     ap (λ (z : List ℕ). z ++ left) put
     ∙ (append_assoc old (count_bytes n) left ∙ ap (λ (z : List ℕ). old ++ z) (ap (λ (k : ℕ). count_bytes k ++ left) same ∙ sym is))
 
+-- so behind the byte of a kind and a count
+pub headed_start : (kind n long : ℕ) (left old new whole : List ℕ) → n ≡ long → new ≡ old ++ (kind ∷ count_bytes n) → whole ≡ kind ∷ (count_bytes long ++ left) → new ++ left ≡ old ++ whole
+headed_start kind n long left old new whole same put is =
+    ap (λ (z : List ℕ). z ++ left) put
+    ∙ (append_assoc old (kind ∷ count_bytes n) left ∙ ap (λ (z : List ℕ). old ++ z) (ap (λ (k : ℕ). kind ∷ (count_bytes k ++ left)) same ∙ sym is))
+
 -- two parts are appended, one behind the other
 pub both_put : (old : List ℕ) {mid new : List ℕ} (a b : List ℕ) → mid ≡ old ++ a → new ≡ mid ++ b → new ≡ old ++ (a ++ b)
 both_put old a b first second = second ∙ (ap (λ (z : List ℕ). z ++ b) first ∙ append_assoc old a b)
@@ -100,8 +126,8 @@ pub some_of : (n : ℕ) → eqb n 0 ≡ false → 1 ≤ n
 some_of zero e = absurd (cc)
 some_of (suc n) e = omega arith
 
--- a value has no tape for one of two causes
-pub no_tape : (s : Stop) (e : Refusal) (v : Value) → e.kind ≡ kind_of s → IsGrounded s (has_tape v) → HasNoTape e v
-no_tape stops.Memory e v kind h = inl kind
-no_tape (stops.Refused left) e v kind h = absurd h
-no_tape (stops.Fault k left) e v kind h = inr (kind ∙ h.0, h.1)
+-- there is no tape for one of two causes
+pub no_tape : (s : Stop) (e : Refusal) (has : Bool) → e.kind ≡ kind_of s → e.place ≡ place_of 0 s → IsGrounded s has → HasNoTape e has
+no_tape stops.Memory e has kind place h = (place, inl kind)
+no_tape (stops.Refused left) e has kind place h = absurd h
+no_tape (stops.Fault k left) e has kind place h = (omega (arith, place), inr (kind ∙ h.0, h.1))

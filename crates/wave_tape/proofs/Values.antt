@@ -9,9 +9,9 @@ use Rattle.wave_wasm.specs.Values.{Leaf, Value, Values, FieldValues, Entries, no
 use Rattle.wave_wasm.specs.ConstructorContracts.{leaf_entries}
 use Rattle.wave_wasm.proofs.CanonicalText.ValueParts.{not_leaf}
 use Rattle.wave_wasm.proofs.CanonicalText.Sequences.{depths}
-use Rattle.wave_tape.specs.Tape.{bytes_of, item_bytes, row_bytes, field_bytes, field_row_bytes, entry_bytes, text_bytes, count_bytes, leaf_bytes, has_tape, have_tapes, fields_have_tapes, entries_have_tapes}
+use Rattle.wave_tape.specs.Tape.{bytes_of, item_bytes, row_bytes, field_bytes, field_row_bytes, entry_bytes, name_bytes, count_bytes, leaf_bytes}
+use Rattle.wave_wasm.specs.Text.{is_writable, are_writable, are_writable_fields, are_writable_entries}
 use Rattle.wave_tape.specs.Private.Rows.{row_or_zero}
-use Rattle.wave_tape.proofs.Parts.{name_rows}
 
 -- ---- items
 
@@ -23,16 +23,16 @@ row_flat : (vs : Values) → row_bytes vs ≡ row_or_zero bytes_of (value_list v
 row_flat no_values = refl
 row_flat (value_and v more) = ap (λ (z : List ℕ). bytes_of v ++ z) (items_flat more)
 
-items_have : (vs : Values) → have_tapes vs ≡ list_all has_tape (value_list vs)
+items_have : (vs : Values) → are_writable vs ≡ list_all is_writable (value_list vs)
 items_have no_values = refl
-items_have (value_and v more) = ap (λ (b : Bool). has_tape v && b) (items_have more)
+items_have (value_and v more) = ap (λ (b : Bool). is_writable v && b) (items_have more)
 
 -- the value has these bytes, and a tape where the test says so
 pub record IsOf (v : Value) (bytes : List ℕ) (has : Bool) : Type 0 where
   pub bytes_are : bytes_of v ≡ bytes
-  pub has_is : has_tape v ≡ has
+  pub has_is : is_writable v ≡ has
 
-pub list_is : (v : Value) (items : List Value) → kind_of v ≡ kinds.List → items ≡ list_items v → IsOf v (count_bytes (length items) ++ flat_map bytes_of items) (list_all has_tape items)
+pub list_is : (v : Value) (items : List Value) → kind_of v ≡ kinds.List → items ≡ list_items v → IsOf v (count_bytes (length items) ++ flat_map bytes_of items) (list_all is_writable items)
 list_is (value.list vs) items k e = rw e (record { bytes_are = ap (λ (z : List ℕ). count_bytes (length (value_list vs)) ++ z) (items_flat vs); has_is = items_have vs })
 list_is (value.leaf one) items k e = absurd (not_leaf one kinds.List refl k)
 list_is (value.unreadable type.f32) items k e = absurd (cc)
@@ -40,7 +40,7 @@ list_is (value.unreadable type.f64) items k e = absurd (cc)
 list_is (value.unreadable type.unsupported) items k e = absurd (cc)
 list_is _ items k e = absurd (cc)
 
-pub fixed_is : (v : Value) (items : List Value) → kind_of v ≡ kinds.FixedLengthList → items ≡ list_items v → IsOf v (row_or_zero bytes_of items) (list_all has_tape items)
+pub fixed_is : (v : Value) (items : List Value) → kind_of v ≡ kinds.FixedLengthList → items ≡ list_items v → IsOf v (row_or_zero bytes_of items) (list_all is_writable items)
 fixed_is (value.fixed vs) items k e = rw e (record { bytes_are = row_flat vs; has_is = items_have vs })
 fixed_is (value.leaf one) items k e = absurd (not_leaf one kinds.FixedLengthList refl k)
 fixed_is (value.unreadable type.f32) items k e = absurd (cc)
@@ -48,7 +48,7 @@ fixed_is (value.unreadable type.f64) items k e = absurd (cc)
 fixed_is (value.unreadable type.unsupported) items k e = absurd (cc)
 fixed_is _ items k e = absurd (cc)
 
-pub tuple_is : (v : Value) (items : List Value) → kind_of v ≡ kinds.Tuple → items ≡ tuple_items v → IsOf v (row_or_zero bytes_of items) (list_all has_tape items)
+pub tuple_is : (v : Value) (items : List Value) → kind_of v ≡ kinds.Tuple → items ≡ tuple_items v → IsOf v (row_or_zero bytes_of items) (list_all is_writable items)
 tuple_is (value.tuple vs) items k e = rw e (record { bytes_are = row_flat vs; has_is = items_have vs })
 tuple_is (value.leaf one) items k e = absurd (not_leaf one kinds.Tuple refl k)
 tuple_is (value.unreadable type.f32) items k e = absurd (cc)
@@ -62,7 +62,7 @@ abbrev pub one_field : List ℕ × Value → List ℕ
 one_field f = bytes_of f.1
 
 abbrev pub has_field : List ℕ × Value → Bool
-has_field f = has_tape f.1
+has_field f = is_writable f.1
 
 fields_flat : (fs : FieldValues) → field_bytes fs ≡ flat_map one_field (field_list fs)
 fields_flat no_fields = refl
@@ -72,9 +72,9 @@ field_row_flat : (fs : FieldValues) → field_row_bytes fs ≡ row_or_zero one_f
 field_row_flat no_fields = refl
 field_row_flat (field name v more) = ap (λ (z : List ℕ). bytes_of v ++ z) (fields_flat more)
 
-fields_have : (fs : FieldValues) → fields_have_tapes fs ≡ list_all has_field (field_list fs)
+fields_have : (fs : FieldValues) → are_writable_fields fs ≡ list_all has_field (field_list fs)
 fields_have no_fields = refl
-fields_have (field name v more) = ap (λ (b : Bool). has_tape v && b) (fields_have more)
+fields_have (field name v more) = ap (λ (b : Bool). is_writable v && b) (fields_have more)
 
 pub record_tape : (v : Value) (fields : List (List ℕ × Value)) → kind_of v ≡ kinds.Record → fields ≡ record_fields v → IsOf v (row_or_zero one_field fields) (list_all has_field fields)
 record_tape (value.record_value fs) fields k e = rw e (record { bytes_are = field_row_flat fs; has_is = fields_have fs })
@@ -91,8 +91,8 @@ row_full f (x ∷ xs) some = refl
 
 -- ---- flags
 
-pub flags_is : (v : Value) (names : List (List ℕ)) → kind_of v ≡ kinds.Flags → names ≡ flags_names v → IsOf v (count_bytes (length names) ++ flat_map text_bytes names) true
-flags_is (value.flags ns) names k e = rw e (record { bytes_are = ap (λ (z : List ℕ). count_bytes (length ns) ++ z) (sym (name_rows ns)); has_is = refl })
+pub flags_is : (v : Value) (names : List (List ℕ)) → kind_of v ≡ kinds.Flags → names ≡ flags_names v → IsOf v (count_bytes (length names) ++ name_bytes names) true
+flags_is (value.flags ns) names k e = rw e (record { bytes_are = refl; has_is = refl })
 flags_is (value.leaf one) names k e = absurd (not_leaf one kinds.Flags refl k)
 flags_is (value.unreadable type.f32) names k e = absurd (cc)
 flags_is (value.unreadable type.f64) names k e = absurd (cc)
@@ -105,7 +105,7 @@ abbrev pub one_entry : Value × Value → List ℕ
 one_entry e = bytes_of e.0 ++ bytes_of e.1
 
 abbrev pub has_entry : Value × Value → Bool
-has_entry e = has_tape e.0 && has_tape e.1
+has_entry e = is_writable e.0 && is_writable e.1
 
 entries_flat : (es : Entries) → entry_bytes es ≡ flat_map one_entry (leaf_entries (entry_list es))
 entries_flat no_entries = refl
@@ -113,9 +113,9 @@ entries_flat (entry key v more) =
     ap (λ (z : List ℕ). leaf_bytes key ++ (bytes_of v ++ z)) (entries_flat more)
     ∙ sym (append_assoc (leaf_bytes key) (bytes_of v) (flat_map one_entry (leaf_entries (entry_list more))))
 
-entries_have : (es : Entries) → entries_have_tapes es ≡ list_all has_entry (leaf_entries (entry_list es))
+entries_have : (es : Entries) → are_writable_entries es ≡ list_all has_entry (leaf_entries (entry_list es))
 entries_have no_entries = refl
-entries_have (entry key v more) = ap (λ (b : Bool). has_tape v && b) (entries_have more)
+entries_have (entry key v more) = ap (λ (b : Bool). is_writable v && b) (entries_have more)
 
 entries_long : (es : List (Leaf × Value)) → length (leaf_entries es) ≡ length es
 entries_long [] = refl
@@ -164,7 +164,7 @@ is_tapeless kinds.Unsupported = true
 is_tapeless _ = false
 
 -- a value of a kind without a tape
-pub without_tape : (v : Value) (k : WasmTypeKind) → k ≡ kind_of v → (k ≡ kinds.F32) ⊎ ((k ≡ kinds.F64) ⊎ (k ≡ kinds.Unsupported)) → has_tape v ≡ false
+pub without_tape : (v : Value) (k : WasmTypeKind) → k ≡ kind_of v → (k ≡ kinds.F32) ⊎ ((k ≡ kinds.F64) ⊎ (k ≡ kinds.Unsupported)) → is_writable v ≡ false
 without_tape v k e which = without v (ap is_tapeless (sym e) ∙ tapeless k which)
   where
     tapeless : (k : WasmTypeKind) → (k ≡ kinds.F32) ⊎ ((k ≡ kinds.F64) ⊎ (k ≡ kinds.Unsupported)) → is_tapeless k ≡ true
@@ -172,7 +172,7 @@ without_tape v k e which = without v (ap is_tapeless (sym e) ∙ tapeless k whic
     tapeless k (inr (inl is)) = ap is_tapeless is
     tapeless k (inr (inr is)) = ap is_tapeless is
 
-    without : (v : Value) → is_tapeless (kind_of v) ≡ true → has_tape v ≡ false
+    without : (v : Value) → is_tapeless (kind_of v) ≡ true → is_writable v ≡ false
     without (value.unreadable kind) h = refl
     without (value.leaf (value.bool b)) h = cc
     without (value.leaf (value.whole type.s8 z)) h = cc

@@ -67,14 +67,14 @@ abbrev fails_as : Fault → Result Value Fault
 fails_as x = Err x
 
 pub first_fault : (Full : Type 0) (s : Stop) (e : Refusal) (bytes : List ℕ) (len : ℕ) (read : Result Value Fault) → len ≡ length bytes → Stands e s len → Fails Full s read → IsFirstFault Full e bytes read
-first_fault Full stops.Memory e bytes len read same stands h = inl (inl stands.kind)
+first_fault Full stops.Memory e bytes len read same stands h = inl (inl (stands.kind, stands.place))
 first_fault Full (stops.Refused left) e bytes len read same stands h = inl (inr (stands.kind, h))
 first_fault Full (stops.Fault kind left) e bytes len read same stands h =
     inr (left, h ∙ ap (λ (k : TapeErrorKind). fails_as (record { kind = k; left = left })) (sym stands.kind), stands.place ∙ ap (λ (n : ℕ). n - left) same)
 
 -- what is read of a tape is refused for lack of memory, or by a constructor
 pub lacking : (Full : Type 0) (s : Stop) (e : Refusal) (len : ℕ) (read : Result Value Fault) (v : Value) → Stands e s len → Fails Full s read → read ≡ Ok v → IsLacking Full e
-lacking Full stops.Memory e len read v stands h ok = inl stands.kind
+lacking Full stops.Memory e len read v stands h ok = inl (stands.kind, stands.place)
 lacking Full (stops.Refused left) e len read v stands h ok = inr (stands.kind, h)
 lacking Full (stops.Fault kind left) e len read v stands h ok = absurd cc
 

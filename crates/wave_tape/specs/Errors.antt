@@ -1,8 +1,6 @@
 -- What a refusal says.
-use Rattle.std.specs.Prelude.{ℕ, ◌≡◌, ◌⊎◌, ◌-◌, false, List, ◌++◌, codes}
+use Rattle.std.specs.Prelude.{ℕ, ◌≡◌, ◌⊎◌, ◌-◌, Bool, false, List, ◌++◌, codes}
 use Rattle.std.specs.Fmt.{decimal}
-use Rattle.wave_wasm.specs.Values.{Value}
-use Rattle.wave_tape.specs.Tape.{has_tape}
 use Rattle.wave_tape.specs.declared.error.TapeErrorKind.{TapeErrorKind}
 use Rattle.wave_tape.specs.declared.error.TapeErrorKind.TheVariants as kinds
 use Rattle.wave_tape.specs.declared.error.Stop.{Stop}
@@ -42,6 +40,6 @@ place_of len stops.Memory = 0
 place_of len (stops.Refused left) = len - left
 place_of len (stops.Fault kind left) = len - left
 
--- the value has no tape, or memory was refused
-abbrev pub HasNoTape : Refusal → Value → Type 0
-HasNoTape e v = (e.kind ≡ kinds.OutOfMemory) ⊎ ((e.kind ≡ kinds.Unsupported) × (has_tape v ≡ false))
+-- no tape was made: memory was refused, or a part has no bytes. The place is 0
+abbrev pub HasNoTape : Refusal → Bool → Type 0
+HasNoTape e has = (e.place ≡ 0) × ((e.kind ≡ kinds.OutOfMemory) ⊎ ((e.kind ≡ kinds.Unsupported) × (has ≡ false)))

@@ -1,4 +1,5 @@
 pub mod Tape
+pub mod TypeTape
 pub mod Names
 pub mod Reading
 pub mod Errors

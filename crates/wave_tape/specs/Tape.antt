@@ -1,6 +1,7 @@
 -- The tape of a value: the bytes by which it crosses to another language. Writer and reader know its type, so nothing of the type is told.
 -- Numbers have their lowest byte first, and nothing is aligned. A count is a number of 8 bytes. A name or a text is the count of its bytes, and these.
-use Rattle.std.specs.Prelude.{ℕ, Bool, true, false, ◌&&◌, List, [], ◌∷◌, ◌++◌, length}
+use Rattle.std.specs.Prelude.{ℕ, List, [], ◌∷◌, ◌++◌, length}
+use Rattle.std.specs.List.{flat_map}
 use Rattle.std.specs.Int.{Width, w8, w16, w32, w64, to_le_bytes, cast_unsigned, from_bool}
 use Rattle.wave_wasm.specs.Types.{Whole, s8, s16, s32, s64, u8, u16, u32, u64}
 use Rattle.wave_wasm.specs.Values as value
@@ -91,35 +92,6 @@ abbrev mutual
 abbrev pub tape : Value → List ℕ
 tape v = 1 ∷ bytes_of v
 
--- no part of the value is an f32, an f64 or unsupported: those have no bytes
-abbrev mutual
-  pub has_tape : Value → Bool
-  has_tape (value.leaf one) = true
-  has_tape (value.unreadable kind) = false
-  has_tape (value.list vs) = have_tapes vs
-  has_tape (value.fixed vs) = have_tapes vs
-  has_tape (value.tuple vs) = have_tapes vs
-  has_tape (value.record_value fs) = fields_have_tapes fs
-  has_tape (value.variant name payload) = payload_has_tape payload
-  has_tape (value.enum name) = true
-  has_tape (value.option payload) = payload_has_tape payload
-  has_tape (value.ok payload) = payload_has_tape payload
-  has_tape (value.err payload) = payload_has_tape payload
-  has_tape (value.flags names) = true
-  has_tape (value.map es) = entries_have_tapes es
-
-  pub payload_has_tape : MaybeValue → Bool
-  payload_has_tape no_value = true
-  payload_has_tape (a_value v) = has_tape v
-
-  pub have_tapes : Values → Bool
-  have_tapes no_values = true
-  have_tapes (value_and v more) = has_tape v && have_tapes more
-
-  pub fields_have_tapes : FieldValues → Bool
-  fields_have_tapes no_fields = true
-  fields_have_tapes (field name v more) = has_tape v && fields_have_tapes more
-
-  pub entries_have_tapes : Entries → Bool
-  entries_have_tapes no_entries = true
-  entries_have_tapes (entry key v more) = has_tape v && entries_have_tapes more
+-- the tape of a call: the version, 1, the name of the function, and the arguments, one behind the other
+abbrev pub call_tape : List ℕ → List Value → List ℕ
+call_tape name vs = 1 ∷ (text_bytes name ++ flat_map bytes_of vs)

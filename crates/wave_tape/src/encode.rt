@@ -1,9 +1,10 @@
 //! Values as tapes.
-ghost use Rattle.std.specs.Prelude.{◌≡◌, ◌++◌, true, IfErr, OnOk, OnErr};
+ghost use Rattle.std.specs.Prelude.{◌≡◌, ◌++◌, length, map, true, IfErr, OnOk, OnErr};
 ghost use Rattle.std.specs.List.{flat_map, list_all};
 ghost use Rattle.wave_wasm.specs.Values.{kind_of, maybe_value};
-ghost use Rattle.wave_wasm.specs.Borrowed.{denoted, denoted_all};
-ghost use Rattle.wave_tape.specs.Tape.{tape, bytes_of, payload_bytes, text_bytes, count_bytes, has_tape, payload_has_tape};
+ghost use Rattle.wave_wasm.specs.Borrowed.{denoted, denoted_all, texts};
+ghost use Rattle.wave_wasm.specs.Text.{is_writable, is_writable_maybe};
+ghost use Rattle.wave_tape.specs.Tape.{tape, call_tape, bytes_of, payload_bytes, text_bytes, name_bytes, count_bytes};
 ghost use Rattle.wave_tape.specs.Private.Writers.{Puts};
 ghost use Rattle.wave_tape.specs.Private.Rows.{row_or_zero};
 ghost use Rattle.wave_tape.specs.Errors.{HasNoTape};
@@ -14,36 +15,75 @@ use wave_wasm::wasm::{WasmTypeKind, WasmValue};
 
 /// Appends the tape of the value: the version, 1, and the bytes of the value, as docs/FORMATS.md lays
 /// them out. An error leaves `out` as it was: of kind `Unsupported` where a part of the value is an
-/// `f32`, an `f64` or unsupported, which have no tape, and else `OutOfMemory`. Its place is how many bytes
-/// of the tape were made before.
+/// `f32`, an `f64` or unsupported, which have no bytes, and else `OutOfMemory`. Its place is 0.
 pub fn encode<V: WasmValue>(alloc: Global, val: &V, out: &mut Vec<u8>) -> Result<(), TapeError>
     ensures ok { OnOk result (out.new.items ≡ out.old.items ++ tape (V.tree val.now)) }
-    ensures whole { OnOk result (has_tape (V.tree val.now) ≡ true) }
+    ensures whole { OnOk result (is_writable (V.tree val.now) ≡ true) }
     ensures err { OnErr result (out.new.items ≡ out.old.items) }
-    ensures cause { IfErr result (λ e. HasNoTape e (V.tree val.now)) }
+    ensures cause { IfErr result (λ e. HasNoTape e (is_writable (V.tree val.now))) }
 {
-    let mut tape = Vec::new(alloc);
-    if let Err(stop) = put_tape(alloc, val, &mut tape) {
-        return Err(TapeError::new(stop, tape.len()));
-    }
-    match out.extend_from_slice(&tape) {
+    let before = out.len();
+    match put_tape(alloc, val, out) {
         Ok(()) => Ok(()),
-        Err(_) => Err(TapeError::new(Stop::Memory, 0)),
+        Err(stop) => {
+            out.truncate(before);
+            Err(TapeError::new(stop, 0))
+        }
+    }
+}
+
+/// Appends the tape of a call: the version, 1, the name of the function, and the bytes of each
+/// argument. How many arguments there are the function's type says. Errors are as those of `encode`.
+pub fn encode_call<V: WasmValue>(
+    alloc: Global,
+    name: &str,
+    args: &[V],
+    out: &mut Vec<u8>,
+) -> Result<(), TapeError>
+    ensures ok { OnOk result (out.new.items ≡ out.old.items ++ call_tape name.now (map V.tree args.now)) }
+    ensures whole { OnOk result (list_all is_writable (map V.tree args.now) ≡ true) }
+    ensures err { OnErr result (out.new.items ≡ out.old.items) }
+    ensures cause { IfErr result (λ e. HasNoTape e (list_all is_writable (map V.tree args.now))) }
+{
+    let before = out.len();
+    match put_call(alloc, name, args, out) {
+        Ok(()) => Ok(()),
+        Err(stop) => {
+            out.truncate(before);
+            Err(TapeError::new(stop, 0))
+        }
     }
 }
 
 /// Appends the tape of the value.
 fn put_tape<V: WasmValue>(alloc: Global, val: &V, out: &mut Vec<u8>) -> Result<(), Stop>
-    ensures { Puts (tape (V.tree val.now)) (has_tape (V.tree val.now)) result out.old.items out.new.items }
+    ensures { Puts (tape (V.tree val.now)) (is_writable (V.tree val.now)) result out.old.items out.new.items }
 {
     put_bytes(out, &[1])?;
     put_value(alloc, val, out)
 }
 
+/// Appends the tape of the call.
+fn put_call<V: WasmValue>(
+    alloc: Global,
+    name: &str,
+    args: &[V],
+    out: &mut Vec<u8>,
+) -> Result<(), Stop>
+    ensures { Puts (call_tape name.now (map V.tree args.now)) (list_all is_writable (map V.tree args.now)) result out.old.items out.new.items }
+{
+    put_bytes(out, &[1])?;
+    put_text(out, name)?;
+    for arg in args {
+        put_value(alloc, arg, out)?;
+    }
+    Ok(())
+}
+
 /// Appends the bytes of the value within a tape.
 #[cycle(put)]
 fn put_value<V: WasmValue>(alloc: Global, val: &V, out: &mut Vec<u8>) -> Result<(), Stop>
-    ensures { Puts (bytes_of (V.tree val.now)) (has_tape (V.tree val.now)) result out.old.items out.new.items }
+    ensures { Puts (bytes_of (V.tree val.now)) (is_writable (V.tree val.now)) result out.old.items out.new.items }
 {
     match val.kind() {
         WasmTypeKind::Bool => put_bytes(out, &[u8::from(val.unwrap_bool())]),
@@ -77,7 +117,7 @@ fn put_value<V: WasmValue>(alloc: Global, val: &V, out: &mut Vec<u8>) -> Result<
 #[cycle(put)]
 fn put_list<V: WasmValue>(alloc: Global, val: &V, out: &mut Vec<u8>) -> Result<(), Stop>
     requires { kind_of (V.tree val.now) ≡ WasmTypeKind.List }
-    ensures { Puts (bytes_of (V.tree val.now)) (has_tape (V.tree val.now)) result out.old.items out.new.items }
+    ensures { Puts (bytes_of (V.tree val.now)) (is_writable (V.tree val.now)) result out.old.items out.new.items }
 {
     let items = val.unwrap_list(alloc)?;
     put_count(out, items.len())?;
@@ -88,7 +128,7 @@ fn put_list<V: WasmValue>(alloc: Global, val: &V, out: &mut Vec<u8>) -> Result<(
 #[cycle(put)]
 fn put_fixed<V: WasmValue>(alloc: Global, val: &V, out: &mut Vec<u8>) -> Result<(), Stop>
     requires { kind_of (V.tree val.now) ≡ WasmTypeKind.FixedLengthList }
-    ensures { Puts (bytes_of (V.tree val.now)) (has_tape (V.tree val.now)) result out.old.items out.new.items }
+    ensures { Puts (bytes_of (V.tree val.now)) (is_writable (V.tree val.now)) result out.old.items out.new.items }
 {
     let items = val.unwrap_list(alloc)?;
     put_row(alloc, &items, out)
@@ -98,7 +138,7 @@ fn put_fixed<V: WasmValue>(alloc: Global, val: &V, out: &mut Vec<u8>) -> Result<
 #[cycle(put)]
 fn put_tuple<V: WasmValue>(alloc: Global, val: &V, out: &mut Vec<u8>) -> Result<(), Stop>
     requires { kind_of (V.tree val.now) ≡ WasmTypeKind.Tuple }
-    ensures { Puts (bytes_of (V.tree val.now)) (has_tape (V.tree val.now)) result out.old.items out.new.items }
+    ensures { Puts (bytes_of (V.tree val.now)) (is_writable (V.tree val.now)) result out.old.items out.new.items }
 {
     let items = val.unwrap_tuple(alloc)?;
     put_row(alloc, &items, out)
@@ -107,7 +147,7 @@ fn put_tuple<V: WasmValue>(alloc: Global, val: &V, out: &mut Vec<u8>) -> Result<
 /// Items whose number the type says; 0 where there are none.
 #[cycle(put)]
 fn put_row<V: WasmValue>(alloc: Global, items: &[&V], out: &mut Vec<u8>) -> Result<(), Stop>
-    ensures { Puts (row_or_zero bytes_of (denoted_all V.tree items.now)) (list_all has_tape (denoted_all V.tree items.now)) result out.old.items out.new.items }
+    ensures { Puts (row_or_zero bytes_of (denoted_all V.tree items.now)) (list_all is_writable (denoted_all V.tree items.now)) result out.old.items out.new.items }
 {
     if items.is_empty() {
         return put_bytes(out, &[0]);
@@ -118,7 +158,7 @@ fn put_row<V: WasmValue>(alloc: Global, items: &[&V], out: &mut Vec<u8>) -> Resu
 /// The items, one behind the other.
 #[cycle(put)]
 fn put_items<V: WasmValue>(alloc: Global, items: &[&V], out: &mut Vec<u8>) -> Result<(), Stop>
-    ensures { Puts (flat_map bytes_of (denoted_all V.tree items.now)) (list_all has_tape (denoted_all V.tree items.now)) result out.old.items out.new.items }
+    ensures { Puts (flat_map bytes_of (denoted_all V.tree items.now)) (list_all is_writable (denoted_all V.tree items.now)) result out.old.items out.new.items }
 {
     for item in items {
         put_value(alloc, *item, out)?;
@@ -130,7 +170,7 @@ fn put_items<V: WasmValue>(alloc: Global, items: &[&V], out: &mut Vec<u8>) -> Re
 #[cycle(put)]
 fn put_record<V: WasmValue>(alloc: Global, val: &V, out: &mut Vec<u8>) -> Result<(), Stop>
     requires { kind_of (V.tree val.now) ≡ WasmTypeKind.Record }
-    ensures { Puts (bytes_of (V.tree val.now)) (has_tape (V.tree val.now)) result out.old.items out.new.items }
+    ensures { Puts (bytes_of (V.tree val.now)) (is_writable (V.tree val.now)) result out.old.items out.new.items }
 {
     let fields = val.unwrap_record(alloc)?;
     if fields.is_empty() {
@@ -146,7 +186,7 @@ fn put_record<V: WasmValue>(alloc: Global, val: &V, out: &mut Vec<u8>) -> Result
 #[cycle(put)]
 fn put_variant<V: WasmValue>(alloc: Global, val: &V, out: &mut Vec<u8>) -> Result<(), Stop>
     requires { kind_of (V.tree val.now) ≡ WasmTypeKind.Variant }
-    ensures { Puts (bytes_of (V.tree val.now)) (has_tape (V.tree val.now)) result out.old.items out.new.items }
+    ensures { Puts (bytes_of (V.tree val.now)) (is_writable (V.tree val.now)) result out.old.items out.new.items }
 {
     let (case, payload) = val.unwrap_variant();
     put_text(out, case)?;
@@ -157,7 +197,7 @@ fn put_variant<V: WasmValue>(alloc: Global, val: &V, out: &mut Vec<u8>) -> Resul
 #[cycle(put)]
 fn put_option<V: WasmValue>(alloc: Global, val: &V, out: &mut Vec<u8>) -> Result<(), Stop>
     requires { kind_of (V.tree val.now) ≡ WasmTypeKind.Option }
-    ensures { Puts (bytes_of (V.tree val.now)) (has_tape (V.tree val.now)) result out.old.items out.new.items }
+    ensures { Puts (bytes_of (V.tree val.now)) (is_writable (V.tree val.now)) result out.old.items out.new.items }
 {
     match val.unwrap_option() {
         None => put_bytes(out, &[0]),
@@ -172,7 +212,7 @@ fn put_option<V: WasmValue>(alloc: Global, val: &V, out: &mut Vec<u8>) -> Result
 #[cycle(put)]
 fn put_result<V: WasmValue>(alloc: Global, val: &V, out: &mut Vec<u8>) -> Result<(), Stop>
     requires { kind_of (V.tree val.now) ≡ WasmTypeKind.Result }
-    ensures { Puts (bytes_of (V.tree val.now)) (has_tape (V.tree val.now)) result out.old.items out.new.items }
+    ensures { Puts (bytes_of (V.tree val.now)) (is_writable (V.tree val.now)) result out.old.items out.new.items }
 {
     match val.unwrap_result() {
         Ok(payload) => {
@@ -193,7 +233,7 @@ fn put_payload<V: WasmValue>(
     payload: Option<&V>,
     out: &mut Vec<u8>,
 ) -> Result<(), Stop>
-    ensures { Puts (payload_bytes (maybe_value (denoted V.tree payload.entry))) (payload_has_tape (maybe_value (denoted V.tree payload.entry))) result out.old.items out.new.items }
+    ensures { Puts (payload_bytes (maybe_value (denoted V.tree payload.entry))) (is_writable_maybe (maybe_value (denoted V.tree payload.entry))) result out.old.items out.new.items }
 {
     match payload {
         None => Ok(()),
@@ -204,21 +244,17 @@ fn put_payload<V: WasmValue>(
 /// Flags: the count of their names, and these.
 fn put_flags<V: WasmValue>(alloc: Global, val: &V, out: &mut Vec<u8>) -> Result<(), Stop>
     requires { kind_of (V.tree val.now) ≡ WasmTypeKind.Flags }
-    ensures { Puts (bytes_of (V.tree val.now)) (has_tape (V.tree val.now)) result out.old.items out.new.items }
+    ensures { Puts (bytes_of (V.tree val.now)) (is_writable (V.tree val.now)) result out.old.items out.new.items }
 {
     let names = val.unwrap_flags(alloc)?;
-    put_count(out, names.len())?;
-    for name in &names {
-        put_text(out, *name)?;
-    }
-    Ok(())
+    put_names(&names, out)
 }
 
 /// A map: the count of its entries, and these.
 #[cycle(put)]
 fn put_map<V: WasmValue>(alloc: Global, val: &V, out: &mut Vec<u8>) -> Result<(), Stop>
     requires { kind_of (V.tree val.now) ≡ WasmTypeKind.Map }
-    ensures { Puts (bytes_of (V.tree val.now)) (has_tape (V.tree val.now)) result out.old.items out.new.items }
+    ensures { Puts (bytes_of (V.tree val.now)) (is_writable (V.tree val.now)) result out.old.items out.new.items }
 {
     let entries = val.unwrap_map(alloc)?;
     put_count(out, entries.len())?;
@@ -229,8 +265,19 @@ fn put_map<V: WasmValue>(alloc: Global, val: &V, out: &mut Vec<u8>) -> Result<()
     Ok(())
 }
 
+/// Names: their count, and these.
+pub(crate) fn put_names(names: &[&str], out: &mut Vec<u8>) -> Result<(), Stop>
+    ensures { Puts (count_bytes (length (texts names.now)) ++ name_bytes (texts names.now)) true result out.old.items out.new.items }
+{
+    put_count(out, names.len())?;
+    for name in names {
+        put_text(out, *name)?;
+    }
+    Ok(())
+}
+
 /// A name or a text: the count of its bytes, and these.
-fn put_text(out: &mut Vec<u8>, name: &str) -> Result<(), Stop>
+pub(crate) fn put_text(out: &mut Vec<u8>, name: &str) -> Result<(), Stop>
     ensures { Puts (text_bytes name.now) true result out.old.items out.new.items }
 {
     put_count(out, name.len())?;
@@ -238,14 +285,14 @@ fn put_text(out: &mut Vec<u8>, name: &str) -> Result<(), Stop>
 }
 
 /// A count, as a number of 8 bytes.
-fn put_count(out: &mut Vec<u8>, count: usize) -> Result<(), Stop>
+pub(crate) fn put_count(out: &mut Vec<u8>, count: usize) -> Result<(), Stop>
     ensures { Puts (count_bytes count) true result out.old.items out.new.items }
 {
     put_bytes(out, &(count as u64).to_le_bytes())
 }
 
 /// These bytes.
-fn put_bytes(out: &mut Vec<u8>, bytes: &[u8]) -> Result<(), Stop>
+pub(crate) fn put_bytes(out: &mut Vec<u8>, bytes: &[u8]) -> Result<(), Stop>
     ensures { Puts bytes.now true result out.old.items out.new.items }
 {
     out.extend_from_slice(bytes)?;

@@ -83,7 +83,8 @@ impl TapeError {
         self.kind
     }
 
-    /// How many bytes stand before the part that is refused; 0 where memory was refused.
+    /// How many bytes stand before the part that is refused, or before the end of a value that its
+    /// constructor refuses; 0 where memory was refused, or a tape was not written.
     pub fn place(&self) -> usize
         ensures { result ≡ self.now.place }
     {

@@ -8,9 +8,10 @@ use Rattle.wave_wasm.specs.ConstructorContracts.{IsOfListKind}
 use Rattle.wave_wasm.specs.Values.{Value, IsWellFormed, maybe_value, depth, depth_of_maybe}
 use Rattle.wave_wasm.proofs.CanonicalText.Sequences.{part_depth}
 use Rattle.wave_wasm.proofs.CanonicalText.ValueParts.{list_sequence, tuple_sequence, record_is}
-use Rattle.wave_tape.specs.Tape.{bytes_of, payload_bytes, count_bytes, text_bytes, has_tape, payload_has_tape}
+use Rattle.wave_wasm.specs.Text.{is_writable, is_writable_maybe}
+use Rattle.wave_tape.specs.Tape.{bytes_of, payload_bytes, count_bytes, text_bytes}
 use Rattle.wave_tape.specs.Private.Rows.{row_or_zero}
-use Rattle.wave_tape.proofs.Puts.{bytes_stop, puts_stop, puts_as, puts_last, counted_start, put_next, put_all, has_next, has_none, has_all, zero_of, some_of, byte_is, both_put, and_left, and_right, and_both}
+use Rattle.wave_tape.proofs.Puts.{bytes_stop, puts_stop, memory_stop, kept_same, kept_later, puts_as, puts_last, counted_start, put_next, put_all, has_next, has_none, has_all, zero_of, some_of, byte_is, both_put, and_left, and_right, and_both}
 use Rattle.wave_tape.proofs.Signed.{fits8, fits16, fits32, fits64, signed_bytes, signed_byte}
 use Rattle.wave_tape.proofs.Values.{list_is, fixed_is, tuple_is, record_tape, map_is, row_full, without_tape, one_field, has_field, one_entry, has_entry}
 use Rattle.wave_tape.proofs.encode.+put.Goals as goal
@@ -75,7 +76,7 @@ pub put_row-returns-then-is_empty : goal.put_row-returns-then-is_empty
 put_row-returns-then-is_empty g t c =
     let tree : Bor g.row.V.Denot → Value = λ v. g.V.WasmValue.tree v.now in
     let none = nil_from_length c.args.items.now (zero_of _ (sym c.is_empty.ensures ∙ c.if-is_empty.true)) in
-    puts_as (ap (λ l. row_or_zero bytes_of (map tree l)) none) (ap (λ l. list_all has_tape (map tree l)) none) c.put_bytes.ensures
+    puts_as (ap (λ l. row_or_zero bytes_of (map tree l)) none) (ap (λ l. list_all is_writable (map tree l)) none) c.put_bytes.ensures
 
 pub put_row-returns : goal.put_row-returns
 put_row-returns g t c =
@@ -93,31 +94,33 @@ put_items-put_value-requires g t c κs within =
 pub put_items-returns-in_err-put_value : goal.put_items-returns-in_err-put_value
 put_items-returns-in_err-put_value g t c =
     let tree : Bor g.row.V.Denot → Value = λ v. g.V.WasmValue.tree v.now in
-    let k : List (Bor g.row.V.Denot) → Bool = λ l. list_all has_tape (map tree l) in
+    let k : List (Bor g.row.V.Denot) → Bool = λ l. list_all is_writable (map tree l) in
     let p = err_from_is_err_and c.from_residual.result c.from_residual.ensures.1 in
-    rw (p.1, p.2) (puts_stop (has_none k c.args.items.now c.loop-item.item-index c.item-item.result (has_tape (tree c.item-item.result)) _ c.loop-item-test.true c.item-item.is refl c.loop-item.invariant.has) c.in_err-put_value.ensures)
+    rw (p.1, p.2) (puts_stop _ (has_none k c.args.items.now c.loop-item.item-index c.item-item.result (is_writable (tree c.item-item.result)) _ c.loop-item-test.true c.item-item.is refl c.loop-item.invariant.has) c.loop-item.invariant.kept c.in_err-put_value.ensures)
 
 pub put_items-loop-item-preserved : goal.put_items-loop-item-preserved
 put_items-loop-item-preserved g t c =
     let tree : Bor g.row.V.Denot → Value = λ v. g.V.WasmValue.tree v.now in
     let h : List (Bor g.row.V.Denot) → List ℕ = λ l. flat_map bytes_of (map tree l) in
-    let k : List (Bor g.row.V.Denot) → Bool = λ l. list_all has_tape (map tree l) in
+    let k : List (Bor g.row.V.Denot) → Bool = λ l. list_all is_writable (map tree l) in
     record {
       put = put_next h c.args.items.now c.loop-item.item-index c.item-item.result (bytes_of (tree c.item-item.result)) _ _ _ c.loop-item-test.true c.item-item.is refl c.in_ok-put_value.ensures.ok.0 c.loop-item.invariant.put;
-      has = has_next k c.args.items.now c.loop-item.item-index c.item-item.result (has_tape (tree c.item-item.result)) _ c.loop-item-test.true c.item-item.is refl c.in_ok-put_value.ensures.ok.1 c.loop-item.invariant.has;
+      has = has_next k c.args.items.now c.loop-item.item-index c.item-item.result (is_writable (tree c.item-item.result)) _ c.loop-item-test.true c.item-item.is refl c.in_ok-put_value.ensures.ok.1 c.loop-item.invariant.has;
+      kept = kept_later _ _ _ c.loop-item.invariant.kept c.in_ok-put_value.ensures.kept;
     }
 
 pub put_items-returns : goal.put_items-returns
 put_items-returns g t c =
     let tree : Bor g.row.V.Denot → Value = λ v. g.V.WasmValue.tree v.now in
     let h : List (Bor g.row.V.Denot) → List ℕ = λ l. flat_map bytes_of (map tree l) in
-    let k : List (Bor g.row.V.Denot) → Bool = λ l. list_all has_tape (map tree l) in
+    let k : List (Bor g.row.V.Denot) → Bool = λ l. list_all is_writable (map tree l) in
     record {
       ok = (
         put_all h c.args.items.now c.loop-item.item-index _ _ c.loop-item-test.false refl c.loop-item.invariant.put,
         has_all k c.args.items.now c.loop-item.item-index _ c.loop-item-test.false refl c.loop-item.invariant.has,
       );
       err = tt;
+      kept = c.loop-item.invariant.kept;
     }
 
 -- ---- a record
@@ -139,6 +142,7 @@ put_record-loop-field-init g t c =
     record {
       put = ap (λ (z : List ℕ). c.args.out.now.items ++ z) (sym (s.bytes_are ∙ row_full one_field (map f fields) some));
       has = sym s.has_is;
+      kept = kept_same _;
     }
 
 pub put_record-put_value-requires : goal.put_record-put_value-requires
@@ -154,7 +158,7 @@ put_record-returns-in_err-put_value g t c =
     let f : Bor (List ℕ) × Bor g.row.V.Denot → List ℕ × Value = λ x. (x.0.now, g.V.WasmValue.tree x.1.now) in
     let k : List (Bor (List ℕ) × Bor g.row.V.Denot) → Bool = λ l. list_all has_field (map f l) in
     let p = err_from_is_err_and c.from_residual-in_err-put_value.result c.from_residual-in_err-put_value.ensures.1 in
-    rw (p.1, p.2) (puts_stop (has_none k c.deref-field-items.result.now c.loop-field.field-index c.field-item.result (has_field (f c.field-item.result)) _ c.loop-field-test.true c.field-item.is refl c.loop-field.invariant.has) c.in_err-put_value.ensures)
+    rw (p.1, p.2) (puts_stop _ (has_none k c.deref-field-items.result.now c.loop-field.field-index c.field-item.result (has_field (f c.field-item.result)) _ c.loop-field-test.true c.field-item.is refl c.loop-field.invariant.has) c.loop-field.invariant.kept c.in_err-put_value.ensures)
 
 pub put_record-loop-field-preserved : goal.put_record-loop-field-preserved
 put_record-loop-field-preserved g t c =
@@ -164,6 +168,7 @@ put_record-loop-field-preserved g t c =
     record {
       put = put_next h c.deref-field-items.result.now c.loop-field.field-index c.field-item.result (one_field (f c.field-item.result)) _ _ _ c.loop-field-test.true c.field-item.is refl c.in_ok-put_value.ensures.ok.0 c.loop-field.invariant.put;
       has = has_next k c.deref-field-items.result.now c.loop-field.field-index c.field-item.result (has_field (f c.field-item.result)) _ c.loop-field-test.true c.field-item.is refl c.in_ok-put_value.ensures.ok.1 c.loop-field.invariant.has;
+      kept = kept_later _ _ _ c.loop-field.invariant.kept c.in_ok-put_value.ensures.kept;
     }
 
 pub put_record-returns : goal.put_record-returns
@@ -177,6 +182,7 @@ put_record-returns g t c =
         has_all k c.deref-field-items.result.now c.loop-field.field-index _ c.loop-field-test.false refl c.loop-field.invariant.has,
       );
       err = tt;
+      kept = c.loop-field.invariant.kept;
     }
 
 -- ---- payloads
@@ -193,11 +199,11 @@ put_variant-put_payload-requires g t c κs within =
 
 pub put_variant-returns : goal.put_variant-returns
 put_variant-returns g t c =
-    puts_last (text_bytes c.unwrap_variant.result.0.now) c.in_ok-put_text.ensures.ok.0 (ap bytes_of c.unwrap_variant.ensures) (ap has_tape c.unwrap_variant.ensures) c.put_payload.ensures
+    puts_last (text_bytes c.unwrap_variant.result.0.now) c.in_ok-put_text.ensures.ok.0 (ap bytes_of c.unwrap_variant.ensures) (ap is_writable c.unwrap_variant.ensures) c.put_payload.ensures
 
 pub put_option-returns-in-None : goal.put_option-returns-in-None
 put_option-returns-in-None g t c =
-    puts_as (ap bytes_of c.in-None.ensures) (ap has_tape c.in-None.ensures) c.put_bytes.ensures
+    puts_as (ap bytes_of c.in-None.ensures) (ap is_writable c.in-None.ensures) c.put_bytes.ensures
 
 pub put_option-returns-in_err-put_bytes-in-Some : goal.put_option-returns-in_err-put_bytes-in-Some
 put_option-returns-in_err-put_bytes-in-Some g t c =
@@ -211,7 +217,7 @@ put_option-put_value-requires g t c κs within =
 
 pub put_option-returns-in_ok-put_bytes-in-Some : goal.put_option-returns-in_ok-put_bytes-in-Some
 put_option-returns-in_ok-put_bytes-in-Some g t c =
-    puts_last (1 ∷ []) c.in_ok-put_bytes-in-Some.ensures.ok.0 (ap bytes_of c.in-Some.ensures) (ap has_tape c.in-Some.ensures) c.put_value.ensures
+    puts_last (1 ∷ []) c.in_ok-put_bytes-in-Some.ensures.ok.0 (ap bytes_of c.in-Some.ensures) (ap is_writable c.in-Some.ensures) c.put_value.ensures
 
 pub put_result-returns-in_err-put_bytes-in-Ok : goal.put_result-returns-in_err-put_bytes-in-Ok
 put_result-returns-in_err-put_bytes-in-Ok g t c =
@@ -225,7 +231,7 @@ put_result-put_payload-requires g t c κs within =
 
 pub put_result-returns-in_ok-put_bytes-in-Ok : goal.put_result-returns-in_ok-put_bytes-in-Ok
 put_result-returns-in_ok-put_bytes-in-Ok g t c =
-    puts_last (0 ∷ []) c.in_ok-put_bytes-in-Ok.ensures.ok.0 (ap bytes_of c.in-Ok.ensures) (ap has_tape c.in-Ok.ensures) c.put_payload.ensures
+    puts_last (0 ∷ []) c.in_ok-put_bytes-in-Ok.ensures.ok.0 (ap bytes_of c.in-Ok.ensures) (ap is_writable c.in-Ok.ensures) c.put_payload.ensures
 
 pub put_result-returns-in_err-put_bytes-in-Err : goal.put_result-returns-in_err-put_bytes-in-Err
 put_result-returns-in_err-put_bytes-in-Err g t c =
@@ -239,16 +245,17 @@ put_result-put_payload-requires-in-Err g t c κs within =
 
 pub put_result-returns-in_ok-put_bytes-in-Err : goal.put_result-returns-in_ok-put_bytes-in-Err
 put_result-returns-in_ok-put_bytes-in-Err g t c =
-    puts_last (1 ∷ []) c.in_ok-put_bytes-in-Err.ensures.ok.0 (ap bytes_of c.in-Err.ensures) (ap has_tape c.in-Err.ensures) c.put_payload-in-Err.ensures
+    puts_last (1 ∷ []) c.in_ok-put_bytes-in-Err.ensures.ok.0 (ap bytes_of c.in-Err.ensures) (ap is_writable c.in-Err.ensures) c.put_payload-in-Err.ensures
 
 pub put_payload-returns-in-None : goal.put_payload-returns-in-None
 put_payload-returns-in-None g t c =
     record {
       ok = (
         sym (ap (λ (z : List ℕ). c.args.out.now.items ++ z) (ap (λ o. payload_bytes (maybe_value (denoted g.V.WasmValue.tree o))) c.in-None.is) ∙ append-nil c.args.out.now.items),
-        ap (λ o. payload_has_tape (maybe_value (denoted g.V.WasmValue.tree o))) c.in-None.is,
+        ap (λ o. is_writable_maybe (maybe_value (denoted g.V.WasmValue.tree o))) c.in-None.is,
       );
       err = tt;
+      kept = kept_same _;
     }
 
 pub put_payload-put_value-requires : goal.put_payload-put_value-requires
@@ -258,7 +265,7 @@ put_payload-put_value-requires g t c κs within =
 
 pub put_payload-returns-in-Some : goal.put_payload-returns-in-Some
 put_payload-returns-in-Some g t c =
-    puts_as (ap (λ o. payload_bytes (maybe_value (denoted g.V.WasmValue.tree o))) c.in-Some.is) (ap (λ o. payload_has_tape (maybe_value (denoted g.V.WasmValue.tree o))) c.in-Some.is) c.put_value.ensures
+    puts_as (ap (λ o. payload_bytes (maybe_value (denoted g.V.WasmValue.tree o))) c.in-Some.is) (ap (λ o. is_writable_maybe (maybe_value (denoted g.V.WasmValue.tree o))) c.in-Some.is) c.put_value.ensures
 
 -- ---- a map
 
@@ -276,6 +283,7 @@ put_map-loop-entry-init g t c =
     record {
       put = counted_start c.len.result (length (map f entries)) (flat_map one_entry (map f entries)) c.args.out.now.items c.put_count.new.out.items _ count c.in_ok-put_count.ensures.ok.0 m.is.bytes_are;
       has = sym m.is.has_is;
+      kept = c.in_ok-put_count.ensures.kept;
     }
 
 pub put_map-put_value-requires : goal.put_map-put_value-requires
@@ -301,7 +309,7 @@ put_map-returns-in_err-put_value g t c =
     let k : List (Bor g.row.V.Denot × Bor g.row.V.Denot) → Bool = λ l. list_all has_entry (map f l) in
     let p = err_from_is_err_and c.from_residual-in_err-put_value.result c.from_residual-in_err-put_value.ensures.1 in
     let blocks = has_none k c.deref-entry-items.result.now c.loop-entry.entry-index c.entry-item.result (has_entry (f c.entry-item.result)) _ c.loop-entry-test.true c.entry-item.is refl c.loop-entry.invariant.has in
-    rw (p.1, p.2) (puts_stop (λ none. blocks (and_left _ none)) c.in_err-put_value.ensures)
+    rw (p.1, p.2) (puts_stop _ (λ none. blocks (and_left _ none)) c.loop-entry.invariant.kept c.in_err-put_value.ensures)
 
 pub put_map-returns-in_err-put_value-2 : goal.put_map-returns-in_err-put_value-2
 put_map-returns-in_err-put_value-2 g t c =
@@ -309,7 +317,7 @@ put_map-returns-in_err-put_value-2 g t c =
     let k : List (Bor g.row.V.Denot × Bor g.row.V.Denot) → Bool = λ l. list_all has_entry (map f l) in
     let p = err_from_is_err_and c.from_residual-in_err-put_value-2.result c.from_residual-in_err-put_value-2.ensures.1 in
     let blocks = has_none k c.deref-entry-items.result.now c.loop-entry.entry-index c.entry-item.result (has_entry (f c.entry-item.result)) _ c.loop-entry-test.true c.entry-item.is refl c.loop-entry.invariant.has in
-    rw (p.1, p.2) (puts_stop (λ none. blocks (and_right _ none)) c.in_err-put_value-2.ensures)
+    rw (p.1, p.2) (puts_stop _ (λ none. blocks (and_right _ none)) (kept_later _ _ _ c.loop-entry.invariant.kept c.in_ok-put_value.ensures.kept) c.in_err-put_value-2.ensures)
 
 pub put_map-loop-entry-preserved : goal.put_map-loop-entry-preserved
 put_map-loop-entry-preserved g t c =
@@ -319,6 +327,7 @@ put_map-loop-entry-preserved g t c =
     record {
       put = put_next h c.deref-entry-items.result.now c.loop-entry.entry-index c.entry-item.result (one_entry (f c.entry-item.result)) _ _ _ c.loop-entry-test.true c.entry-item.is refl (both_put _ _ _ c.in_ok-put_value.ensures.ok.0 c.in_ok-put_value-2.ensures.ok.0) c.loop-entry.invariant.put;
       has = has_next k c.deref-entry-items.result.now c.loop-entry.entry-index c.entry-item.result (has_entry (f c.entry-item.result)) _ c.loop-entry-test.true c.entry-item.is refl (and_both c.in_ok-put_value.ensures.ok.1 c.in_ok-put_value-2.ensures.ok.1) c.loop-entry.invariant.has;
+      kept = kept_later _ _ _ (kept_later _ _ _ c.loop-entry.invariant.kept c.in_ok-put_value.ensures.kept) c.in_ok-put_value-2.ensures.kept;
     }
 
 pub put_map-returns : goal.put_map-returns
@@ -332,6 +341,7 @@ put_map-returns g t c =
         has_all k c.deref-entry-items.result.now c.loop-entry.entry-index _ c.loop-entry-test.false refl c.loop-entry.invariant.has,
       );
       err = tt;
+      kept = c.loop-entry.invariant.kept;
     }
 
 -- ---- by kind
@@ -392,51 +402,51 @@ put_value-put_map-requires g t c κs within = (omega arith, (within.0, (within.1
 
 pub put_value-returns-in-Bool : goal.put_value-returns-in-Bool
 put_value-returns-in-Bool g t c =
-    puts_as (ap bytes_of c.unwrap_bool.ensures ∙ ap (λ (n : ℕ). n ∷ []) (sym c.from.ensures)) (ap has_tape c.unwrap_bool.ensures) c.put_bytes.ensures
+    puts_as (ap bytes_of c.unwrap_bool.ensures ∙ ap (λ (n : ℕ). n ∷ []) (sym c.from.ensures)) (ap is_writable c.unwrap_bool.ensures) c.put_bytes.ensures
 
 pub put_value-returns-in-U8 : goal.put_value-returns-in-U8
 put_value-returns-in-U8 g t c =
-    puts_as (ap bytes_of c.unwrap_u8.ensures ∙ (byte_is c.unwrap_u8.result (omega arith) ∙ sym c.to_le_bytes.ensures)) (ap has_tape c.unwrap_u8.ensures) c.put_bytes-in-U8.ensures
+    puts_as (ap bytes_of c.unwrap_u8.ensures ∙ (byte_is c.unwrap_u8.result (omega arith) ∙ sym c.to_le_bytes.ensures)) (ap is_writable c.unwrap_u8.ensures) c.put_bytes-in-U8.ensures
 
 pub put_value-returns-in-U16 : goal.put_value-returns-in-U16
 put_value-returns-in-U16 g t c =
-    puts_as (ap bytes_of c.unwrap_u16.ensures ∙ sym c.to_le_bytes-in-U16.ensures) (ap has_tape c.unwrap_u16.ensures) c.put_bytes-in-U16.ensures
+    puts_as (ap bytes_of c.unwrap_u16.ensures ∙ sym c.to_le_bytes-in-U16.ensures) (ap is_writable c.unwrap_u16.ensures) c.put_bytes-in-U16.ensures
 
 pub put_value-returns-in-U32 : goal.put_value-returns-in-U32
 put_value-returns-in-U32 g t c =
-    puts_as (ap bytes_of c.unwrap_u32.ensures ∙ sym c.to_le_bytes-in-U32.ensures) (ap has_tape c.unwrap_u32.ensures) c.put_bytes-in-U32.ensures
+    puts_as (ap bytes_of c.unwrap_u32.ensures ∙ sym c.to_le_bytes-in-U32.ensures) (ap is_writable c.unwrap_u32.ensures) c.put_bytes-in-U32.ensures
 
 pub put_value-returns-in-U64 : goal.put_value-returns-in-U64
 put_value-returns-in-U64 g t c =
-    puts_as (ap bytes_of c.unwrap_u64.ensures ∙ sym c.to_le_bytes-in-U64.ensures) (ap has_tape c.unwrap_u64.ensures) c.put_bytes-in-U64.ensures
+    puts_as (ap bytes_of c.unwrap_u64.ensures ∙ sym c.to_le_bytes-in-U64.ensures) (ap is_writable c.unwrap_u64.ensures) c.put_bytes-in-U64.ensures
 
 pub put_value-returns-in-S8 : goal.put_value-returns-in-S8
 put_value-returns-in-S8 g t c =
-    puts_as (ap bytes_of c.unwrap_s8.ensures ∙ (signed_byte c.unwrap_s8.result (fits8 _ (subst IsWellFormed c.unwrap_s8.ensures c.kind.ensures.formed)) ∙ sym c.to_le_bytes-in-S8.ensures)) (ap has_tape c.unwrap_s8.ensures) c.put_bytes-in-S8.ensures
+    puts_as (ap bytes_of c.unwrap_s8.ensures ∙ (signed_byte c.unwrap_s8.result (fits8 _ (subst IsWellFormed c.unwrap_s8.ensures c.kind.ensures.formed)) ∙ sym c.to_le_bytes-in-S8.ensures)) (ap is_writable c.unwrap_s8.ensures) c.put_bytes-in-S8.ensures
 
 pub put_value-returns-in-S16 : goal.put_value-returns-in-S16
 put_value-returns-in-S16 g t c =
-    puts_as (ap bytes_of c.unwrap_s16.ensures ∙ (signed_bytes w16 c.unwrap_s16.result (fits16 _ (subst IsWellFormed c.unwrap_s16.ensures c.kind.ensures.formed)) ∙ sym c.to_le_bytes-in-S16.ensures)) (ap has_tape c.unwrap_s16.ensures) c.put_bytes-in-S16.ensures
+    puts_as (ap bytes_of c.unwrap_s16.ensures ∙ (signed_bytes w16 c.unwrap_s16.result (fits16 _ (subst IsWellFormed c.unwrap_s16.ensures c.kind.ensures.formed)) ∙ sym c.to_le_bytes-in-S16.ensures)) (ap is_writable c.unwrap_s16.ensures) c.put_bytes-in-S16.ensures
 
 pub put_value-returns-in-S32 : goal.put_value-returns-in-S32
 put_value-returns-in-S32 g t c =
-    puts_as (ap bytes_of c.unwrap_s32.ensures ∙ (signed_bytes w32 c.unwrap_s32.result (fits32 _ (subst IsWellFormed c.unwrap_s32.ensures c.kind.ensures.formed)) ∙ sym c.to_le_bytes-in-S32.ensures)) (ap has_tape c.unwrap_s32.ensures) c.put_bytes-in-S32.ensures
+    puts_as (ap bytes_of c.unwrap_s32.ensures ∙ (signed_bytes w32 c.unwrap_s32.result (fits32 _ (subst IsWellFormed c.unwrap_s32.ensures c.kind.ensures.formed)) ∙ sym c.to_le_bytes-in-S32.ensures)) (ap is_writable c.unwrap_s32.ensures) c.put_bytes-in-S32.ensures
 
 pub put_value-returns-in-S64 : goal.put_value-returns-in-S64
 put_value-returns-in-S64 g t c =
-    puts_as (ap bytes_of c.unwrap_s64.ensures ∙ (signed_bytes w64 c.unwrap_s64.result (fits64 _ (subst IsWellFormed c.unwrap_s64.ensures c.kind.ensures.formed)) ∙ sym c.to_le_bytes-in-S64.ensures)) (ap has_tape c.unwrap_s64.ensures) c.put_bytes-in-S64.ensures
+    puts_as (ap bytes_of c.unwrap_s64.ensures ∙ (signed_bytes w64 c.unwrap_s64.result (fits64 _ (subst IsWellFormed c.unwrap_s64.ensures c.kind.ensures.formed)) ∙ sym c.to_le_bytes-in-S64.ensures)) (ap is_writable c.unwrap_s64.ensures) c.put_bytes-in-S64.ensures
 
 pub put_value-returns-in-Char : goal.put_value-returns-in-Char
 put_value-returns-in-Char g t c =
-    puts_as (ap bytes_of c.unwrap_char.ensures ∙ (ap (to_le_bytes w32) (sym c.from-in-Char.ensures) ∙ sym c.to_le_bytes-in-Char.ensures)) (ap has_tape c.unwrap_char.ensures) c.put_bytes-in-Char.ensures
+    puts_as (ap bytes_of c.unwrap_char.ensures ∙ (ap (to_le_bytes w32) (sym c.from-in-Char.ensures) ∙ sym c.to_le_bytes-in-Char.ensures)) (ap is_writable c.unwrap_char.ensures) c.put_bytes-in-Char.ensures
 
 pub put_value-returns-in-String : goal.put_value-returns-in-String
 put_value-returns-in-String g t c =
-    puts_as (ap bytes_of c.unwrap_string.ensures) (ap has_tape c.unwrap_string.ensures) c.put_text.ensures
+    puts_as (ap bytes_of c.unwrap_string.ensures) (ap is_writable c.unwrap_string.ensures) c.put_text.ensures
 
 pub put_value-returns-in-Enum : goal.put_value-returns-in-Enum
 put_value-returns-in-Enum g t c =
-    puts_as (ap bytes_of c.unwrap_enum.ensures) (ap has_tape c.unwrap_enum.ensures) c.put_text-in-Enum.ensures
+    puts_as (ap bytes_of c.unwrap_enum.ensures) (ap is_writable c.unwrap_enum.ensures) c.put_text-in-Enum.ensures
 
 pub put_value-unwrap_bool-requires : goal.put_value-unwrap_bool-requires
 put_value-unwrap_bool-requires g t c = sym c.kind.ensures.kind ∙ c.in-Bool.is
@@ -475,7 +485,7 @@ pub put_value-unwrap_enum-requires : goal.put_value-unwrap_enum-requires
 put_value-unwrap_enum-requires g t c = sym c.kind.ensures.kind ∙ c.in-Enum.is
 
 pub put_value-returns-in-F32 : goal.put_value-returns-in-F32
-put_value-returns-in-F32 g t c = record { ok = tt; err = (refl, without_tape _ _ c.kind.ensures.kind c.in-F32.is) }
+put_value-returns-in-F32 g t c = record { ok = tt; err = (refl, without_tape _ _ c.kind.ensures.kind c.in-F32.is); kept = kept_same _ }
 
 pub put_tuple-unwrap_tuple-requires : goal.put_tuple-unwrap_tuple-requires
 put_tuple-unwrap_tuple-requires g t c = c.requires
@@ -496,7 +506,7 @@ pub put_map-unwrap_map-requires : goal.put_map-unwrap_map-requires
 put_map-unwrap_map-requires g t c = c.requires
 
 pub put_items-loop-item-init : goal.put_items-loop-item-init
-put_items-loop-item-init g t c = record { put = refl; has = refl }
+put_items-loop-item-init g t c = record { put = refl; has = refl; kept = kept_same _ }
 
 pub put_row-put_items-requires : goal.put_row-put_items-requires
 put_row-put_items-requires g t c κs within = (omega arith, within)
@@ -504,24 +514,24 @@ put_row-put_items-requires g t c κs within = (omega arith, within)
 pub put_list-returns-in_err-items : goal.put_list-returns-in_err-items
 put_list-returns-in_err-items g t c =
     let p = err_from_is_err_and c.from_residual.result c.from_residual.ensures.1 in
-    rw (p.1, p.2) (record { ok = tt; err = tt })
+    rw (p.1, p.2) (memory_stop _)
 
 pub put_fixed-returns-in_err-items : goal.put_fixed-returns-in_err-items
 put_fixed-returns-in_err-items g t c =
     let p = err_from_is_err_and c.from_residual.result c.from_residual.ensures.1 in
-    rw (p.1, p.2) (record { ok = tt; err = tt })
+    rw (p.1, p.2) (memory_stop _)
 
 pub put_tuple-returns-in_err-items : goal.put_tuple-returns-in_err-items
 put_tuple-returns-in_err-items g t c =
     let p = err_from_is_err_and c.from_residual.result c.from_residual.ensures.1 in
-    rw (p.1, p.2) (record { ok = tt; err = tt })
+    rw (p.1, p.2) (memory_stop _)
 
 pub put_record-returns-in_err-fields : goal.put_record-returns-in_err-fields
 put_record-returns-in_err-fields g t c =
     let p = err_from_is_err_and c.from_residual.result c.from_residual.ensures.1 in
-    rw (p.1, p.2) (record { ok = tt; err = tt })
+    rw (p.1, p.2) (memory_stop _)
 
 pub put_map-returns-in_err-entries : goal.put_map-returns-in_err-entries
 put_map-returns-in_err-entries g t c =
     let p = err_from_is_err_and c.from_residual.result c.from_residual.ensures.1 in
-    rw (p.1, p.2) (record { ok = tt; err = tt })
+    rw (p.1, p.2) (memory_stop _)

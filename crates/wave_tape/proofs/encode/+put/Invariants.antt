@@ -1,9 +1,10 @@
-use Rattle.std.proofs.Common.{◌≡◌, ◌++◌, ◌+◌, ◌*◌, drop}
+use Rattle.std.proofs.Common.{◌≡◌, ◌++◌, ◌+◌, ◌*◌, drop, take, length}
 use Rattle.std.specs.List.{flat_map, list_all}
 use Rattle.wave_wasm.specs.Borrowed.{denoted, denoted_all, denoted_fields, denoted_pairs}
 use Rattle.wave_wasm.specs.Values.{depth, depth_of_maybe, maybe_value}
 use Rattle.wave_wasm.proofs.CanonicalText.Sequences.{depths}
-use Rattle.wave_tape.specs.Tape.{bytes_of, has_tape}
+use Rattle.wave_wasm.specs.Text.{is_writable}
+use Rattle.wave_tape.specs.Tape.{bytes_of}
 use Rattle.wave_tape.proofs.Values.{one_field, has_field, one_entry, has_entry}
 use Rattle.wave_tape.proofs.encode.+put.Given as goal
 
@@ -48,7 +49,8 @@ invariant-put_items-loop-item g l =
     let left = denoted_all g.V.WasmValue.tree (drop l.item-index l.items) in
     record {
       put : l.out.items ++ flat_map bytes_of left ≡ l.fn.out.items ++ flat_map bytes_of (denoted_all g.V.WasmValue.tree l.items);
-      has : list_all has_tape left ≡ list_all has_tape (denoted_all g.V.WasmValue.tree l.items);
+      has : list_all is_writable left ≡ list_all is_writable (denoted_all g.V.WasmValue.tree l.items);
+      kept : take (length l.fn.out.items) l.out.items ≡ l.fn.out.items;
     }
 
 abbrev pub invariant-put_record-loop-field : goal.invariant-put_record-loop-field
@@ -56,7 +58,8 @@ invariant-put_record-loop-field g l =
     let left = denoted_fields g.V.WasmValue.tree (drop l.field-index l.field-items) in
     record {
       put : l.out.items ++ flat_map one_field left ≡ l.fn.out.items ++ bytes_of (g.V.WasmValue.tree l.val);
-      has : list_all has_field left ≡ has_tape (g.V.WasmValue.tree l.val);
+      has : list_all has_field left ≡ is_writable (g.V.WasmValue.tree l.val);
+      kept : take (length l.fn.out.items) l.out.items ≡ l.fn.out.items;
     }
 
 abbrev pub invariant-put_map-loop-entry : goal.invariant-put_map-loop-entry
@@ -64,5 +67,6 @@ invariant-put_map-loop-entry g l =
     let left = denoted_pairs g.V.WasmValue.tree (drop l.entry-index l.entry-items) in
     record {
       put : l.out.items ++ flat_map one_entry left ≡ l.fn.out.items ++ bytes_of (g.V.WasmValue.tree l.val);
-      has : list_all has_entry left ≡ has_tape (g.V.WasmValue.tree l.val);
+      has : list_all has_entry left ≡ is_writable (g.V.WasmValue.tree l.val);
+      kept : take (length l.fn.out.items) l.out.items ≡ l.fn.out.items;
     }

@@ -1,5 +1,6 @@
+use Rattle.wave_wasm.specs.Text.{is_writable}
 use Rattle.wave_tape.proofs.Puts.{no_tape}
 use Rattle.wave_tape.proofs.encode.encode.Goals as goal
 
 pub returns-in-Err-clause-cause : goal.returns-in-Err-clause-cause
-returns-in-Err-clause-cause g c = no_tape c.in-Err.stop c.new.result (g.V.WasmValue.tree c.args.val.now) c.new.ensures.kind c.in-Err.ensures.err
+returns-in-Err-clause-cause g c = no_tape c.in-Err.stop c.new.result (is_writable (g.V.WasmValue.tree c.args.val.now)) c.new.ensures.kind c.new.ensures.place c.in-Err.ensures.err

@@ -1,51 +1,16 @@
-use Rattle.std.proofs.Common.{ℕ, List, ap, sym, refl, ◌∙◌, Bor, length, get_or, []}
-use Rattle.wave_wasm.proofs.CanonicalText.Sequences.{item_again}
-use Rattle.std.proofs.lemmas.List.{length-map}
+use Rattle.std.proofs.Common.{ap, ◌∙◌}
 use Rattle.std.proofs.lemmas.Result.{err_from_is_err_and}
-use Rattle.std.specs.List.{flat_map}
 use Rattle.wave_wasm.specs.Borrowed.{texts}
-use Rattle.wave_tape.specs.Tape.{text_bytes}
-use Rattle.wave_tape.proofs.Puts.{bytes_stop, counted_start, put_next, put_all}
+use Rattle.wave_tape.proofs.Puts.{memory_stop, puts_as}
 use Rattle.wave_tape.proofs.Values.{flags_is}
 use Rattle.wave_tape.proofs.encode.put_flags.Goals as goal
 
-abbrev left_of : List (Bor (List ℕ)) → List ℕ
-left_of names = flat_map text_bytes (texts names)
-
-pub returns-in_err-put_count : goal.returns-in_err-put_count
-returns-in_err-put_count g c =
-    let p = err_from_is_err_and c.from_residual-in_err-put_count.result c.from_residual-in_err-put_count.ensures.1 in
-    rw (p.1, p.2) (bytes_stop c.in_err-put_count.ensures)
-
-pub loop-name-init : goal.loop-name-init
-loop-name-init g c =
-    let names = c.deref-name-items.result.now in
-    let same = ap texts c.deref-name-items.ensures.value ∙ c.in_ok-names.ensures in
-    let s = flags_is _ (texts names) c.requires same in
-    let count = c.len.ensures ∙ (c.in_ok-names.names.ok.0 ∙ (ap length (sym c.deref-name-items.ensures.value) ∙ sym (length-map names (λ (n : Bor (List ℕ)). n.now)))) in
-    counted_start c.len.result (length (texts names)) (left_of names) c.args.out.now.items c.put_count.new.out.items _ count c.in_ok-put_count.ensures.ok.0 s.bytes_are
-
-pub returns-in_err-put_text : goal.returns-in_err-put_text
-returns-in_err-put_text g c =
-    let p = err_from_is_err_and c.from_residual-in_err-put_text.result c.from_residual-in_err-put_text.ensures.1 in
-    rw (p.1, p.2) (bytes_stop c.in_err-put_text.ensures)
-
--- what stands for a name where there is none
-abbrev no_name : Bor (List ℕ)
-no_name = record { ref_ptr = (0, 0); now = [] }
-
-pub loop-name-preserved : goal.loop-name-preserved
-loop-name-preserved g c =
-    let names = c.deref-name-items.result.now in
-    let name = get_or names c.loop-name.name-index no_name in
-    put_next left_of names c.loop-name.name-index name (text_bytes name.now) _ _ _ c.loop-name-test.true (item_again names c.loop-name.name-index no_name c.loop-name-test.true) refl c.in_ok-put_text.ensures.ok.0 c.loop-name.invariant
-
 pub returns : goal.returns
 returns g c =
-    let s = flags_is _ _ c.requires c.in_ok-names.ensures in
-    record { ok = (put_all left_of c.deref-name-items.result.now c.loop-name.name-index _ _ c.loop-name-test.false refl c.loop-name.invariant, s.has_is); err = tt }
+    let s = flags_is _ (texts c.deref.result.now) c.requires (ap texts c.deref.ensures.value ∙ c.in_ok-names.ensures) in
+    puts_as s.bytes_are s.has_is c.put_names.ensures
 
 pub returns-in_err-names : goal.returns-in_err-names
 returns-in_err-names g c =
     let p = err_from_is_err_and c.from_residual.result c.from_residual.ensures.1 in
-    rw (p.1, p.2) (record { ok = tt; err = tt })
+    rw (p.1, p.2) (memory_stop _)
