@@ -4,6 +4,8 @@ use Rattle.wave_lex.specs.declared.error.ParserErrorKind.{ParserErrorKind}
 use Rattle.wave_lex.specs.declared.error.ParserErrorKind.TheVariants as kind
 use Rattle.wave_type.specs.declared.error.TypeErrorKind.{TypeErrorKind}
 use Rattle.wave_type.specs.declared.error.TypeErrorKind.TheVariants as type_kind
+use Rattle.wave_tape.specs.declared.error.TapeErrorKind.{TapeErrorKind}
+use Rattle.wave_tape.specs.declared.error.TapeErrorKind.TheVariants as tape_kind
 use Rattle.wave_c.specs.declared.ended.Argument.{Argument}
 use Rattle.wave_c.specs.declared.ended.Argument.TheVariants.{TypeText, ValueText}
 
@@ -41,3 +43,16 @@ kind_number kind.DuplicateFlag = 13
 kind_number kind.WasmValueError = 14
 kind_number kind.NestingTooDeep = 15
 kind_number kind.OutOfMemory = 16
+
+-- that of a kind of refusals of tapes
+abbrev pub tape_kind_number : TapeErrorKind → ℕ
+tape_kind_number tape_kind.Version = 201
+tape_kind_number tape_kind.End = 202
+tape_kind_number tape_kind.Trailing = 203
+tape_kind_number tape_kind.Byte = 204
+tape_kind_number tape_kind.Char = 205
+tape_kind_number tape_kind.Utf8 = 206
+tape_kind_number tape_kind.Name = 207
+tape_kind_number tape_kind.Unsupported = 208
+tape_kind_number tape_kind.Value = 209
+tape_kind_number tape_kind.OutOfMemory = 210

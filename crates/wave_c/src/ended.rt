@@ -1,21 +1,22 @@
 // How a call ends, and what C is told of it.
 ghost use Rattle.std.specs.Prelude.{◌≡◌};
-ghost use Rattle.wave_c.specs.Ends.{ArePlaced, IsPlaced, status_of, report_of, report_of_failure, refusal_report};
-ghost use Rattle.wave_c.specs.Failures.{IsOfRefusal, IsOfTypeRefusal};
+ghost use Rattle.wave_c.specs.Ends.{ArePlaced, IsPlaced, IsTold, status_of, report_of, report_of_failure, refusal_report};
+ghost use Rattle.wave_c.specs.Failures.{IsOfRefusal, IsOfTypeRefusal, IsOfTapeRefusal};
 ghost use Rattle.wave_c.specs.declared.ended.Failure.TheVariants as failure;
 
 use crate::Report;
-use crate::kinds::{argument_number, kind_number, type_kind_number};
+use crate::kinds::{argument_number, kind_number, tape_kind_number, type_kind_number};
 use std::alloc::AllocError;
 use wave_lex::error::{ParserError, ParserErrorKind};
+use wave_tape::error::{TapeError, TapeErrorKind};
 use wave_type::error::{TypeError, TypeErrorKind};
 
 /// An argument that has to be UTF-8.
 #[derive(Clone, Copy)]
 pub(crate) enum Argument {
-    /// The text of the type.
+    /// The text of a type.
     TypeText,
-    /// The text of the value.
+    /// The text of a value or of a call.
     ValueText,
 }
 
@@ -30,6 +31,10 @@ pub(crate) enum Failure {
     NoType(TypeError),
     /// The text is refused.
     Refused(ParserError),
+    /// The bytes are the tape of no value of the type.
+    NoTape(TapeError),
+    /// The handle is closed.
+    Closed,
 }
 
 impl From<AllocError> for Failure {
@@ -64,6 +69,18 @@ impl From<ParserError> for Failure {
     }
 }
 
+impl From<TapeError> for Failure {
+    ghost from_gives = { λ e f. IsOfTapeRefusal e f };
+
+    fn from(error: TapeError) -> Failure {
+        if error.kind() == TapeErrorKind::OutOfMemory {
+            Failure::Memory
+        } else {
+            Failure::NoTape(error)
+        }
+    }
+}
+
 /// How a call ends.
 #[derive(Drop)]
 pub(crate) enum Ended {
@@ -75,12 +92,20 @@ pub(crate) enum Ended {
     Failed(Failure),
 }
 
-/// Writes the answer to the start of the buffer, where it fits.
-pub(crate) fn place(out: &mut [u8], answer: Result<String, Failure>) -> Ended
-    ensures { IsPlaced answer out.old out.new result }
+/// Writes the answer to the start of the buffer, where it fits, and fills the report in; the status.
+pub(crate) fn answer(out: &mut [u8], said: Result<Vec<u8>, Failure>, report: &mut Report) -> u32
+    ensures { IsTold said out.old out.new result report.new }
 {
-    match answer {
-        Ok(text) => place_bytes(out, text.as_bytes()),
+    let ended = place(out, said);
+    tell(&ended, report)
+}
+
+/// Writes the answer to the start of the buffer, where it fits.
+fn place(out: &mut [u8], said: Result<Vec<u8>, Failure>) -> Ended
+    ensures { IsPlaced said out.old out.new result }
+{
+    match said {
+        Ok(bytes) => place_bytes(out, bytes.as_slice()),
         Err(failure) => Ended::Failed(failure),
     }
 }
@@ -117,6 +142,8 @@ fn status_at(ended: &Ended) -> u32
         Ended::Failed(Failure::NotUtf8(..)) => 3,
         Ended::Failed(Failure::NoType(_)) => 4,
         Ended::Failed(Failure::Refused(_)) => 5,
+        Ended::Failed(Failure::NoTape(_)) => 6,
+        Ended::Failed(Failure::Closed) => 7,
     }
 }
 
@@ -125,8 +152,8 @@ fn report_at(ended: &Ended) -> Report
     ensures { result ≡ report_of ended.now }
 {
     match ended {
-        Ended::Done(len) | Ended::TooSmall(len) => Report {
-            len: *len,
+        Ended::Done(length) | Ended::TooSmall(length) => Report {
+            length: *length,
             start: 0,
             end: 0,
             kind: 0,
@@ -140,7 +167,7 @@ fn report_failure(failure: &Failure) -> Report
     ensures { result ≡ report_of_failure failure.now }
 {
     match failure {
-        Failure::Memory => refusal_report(0, 0, 0),
+        Failure::Memory | Failure::Closed => refusal_report(0, 0, 0),
         Failure::NotUtf8(argument, at) => refusal_report(argument_number(*argument), *at, *at),
         Failure::NoType(error) => {
             let span = error.span();
@@ -150,6 +177,10 @@ fn report_failure(failure: &Failure) -> Report
             let span = error.span();
             refusal_report(kind_number(error.kind()), span.start, span.end)
         }
+        Failure::NoTape(error) => {
+            let at = error.place();
+            refusal_report(tape_kind_number(error.kind()), at, at)
+        }
     }
 }
 
@@ -158,7 +189,7 @@ fn refusal_report(kind: u32, start: usize, end: usize) -> Report
     ensures { result ≡ refusal_report kind start end }
 {
     Report {
-        len: 0,
+        length: 0,
         start,
         end,
         kind,

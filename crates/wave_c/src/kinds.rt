@@ -1,9 +1,10 @@
 // The numbers of kinds. None is ever given to another kind.
 ghost use Rattle.std.specs.Prelude.{◌≡◌};
-ghost use Rattle.wave_c.specs.Kinds.{argument_number, type_kind_number, kind_number};
+ghost use Rattle.wave_c.specs.Kinds.{argument_number, type_kind_number, kind_number, tape_kind_number};
 
 use crate::ended::Argument;
 use wave_lex::error::ParserErrorKind;
+use wave_tape::error::TapeErrorKind;
 use wave_type::error::TypeErrorKind;
 
 /// The number of an argument.
@@ -53,5 +54,23 @@ pub(crate) fn kind_number(kind: ParserErrorKind) -> u32
         ParserErrorKind::WasmValueError => 14,
         ParserErrorKind::NestingTooDeep => 15,
         ParserErrorKind::OutOfMemory => 16,
+    }
+}
+
+/// The number of a kind of refusals of tapes.
+pub(crate) fn tape_kind_number(kind: TapeErrorKind) -> u32
+    ensures { result ≡ tape_kind_number kind }
+{
+    match kind {
+        TapeErrorKind::Version => 201,
+        TapeErrorKind::End => 202,
+        TapeErrorKind::Trailing => 203,
+        TapeErrorKind::Byte => 204,
+        TapeErrorKind::Char => 205,
+        TapeErrorKind::Utf8 => 206,
+        TapeErrorKind::Name => 207,
+        TapeErrorKind::Unsupported => 208,
+        TapeErrorKind::Value => 209,
+        TapeErrorKind::OutOfMemory => 210,
     }
 }

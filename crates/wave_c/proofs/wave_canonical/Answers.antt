@@ -1,9 +1,27 @@
-use Rattle.wave_c.specs.Answers.{IsCanonicalOf}
-use Rattle.wave_c.specs.Failures.{FailsAtType, limit_of}
-use Rattle.wave_c.proofs.Told.{told}
+use Rattle.std.proofs.Common.{ℕ, List, refl, sym}
+use Rattle.wave_wasm.specs.Types.{TypeTree}
+use Rattle.wave_handle.specs.TypeHandle.{held_type}
+use Rattle.wave_c.specs.Answers.{IsHeldBy, SaysAt, FailsAt, IsCanonicalAt}
+use Rattle.wave_c.specs.Ends.{Tells}
+use Rattle.wave_c.specs.declared.ended.Failure.{Failure}
+use Rattle.wave_c.specs.declared.ended.Failure.TheVariants.{Closed}
+use Rattle.wave_c.specs.Failures.{limit_of, FailsAsHandle, IsRefusedAt, FailsToRead}
+use Rattle.wave_c.proofs.Told.{told_at, told_none}
 use Rattle.wave_c.proofs.wave_canonical.Goals as goal
+use Rattle.wave_c.proofs.wave_canonical.Goals.{in-Some, in-None}
 
-pub returns : goal.returns
-returns c =
-    told (IsCanonicalOf c.args.ty.now c.args.text.now (limit_of c.args.levels)) (FailsAtType c.args.ty.now c.args.text.now (limit_of c.args.levels)) c.args.out.now c.place-ended.new.out c.canonical-said.result c.place-ended.result c.tell.result c.tell.new.report
-    c.canonical-said.ensures.said c.canonical-said.ensures.failed c.place-ended.ensures c.tell.ensures.status c.tell.ensures.told
+pub returns-clause-told : goal.returns-clause-told
+returns-clause-told c =
+    let n = limit_of c.args.levels in
+    let held = held_type c.args.handle.now in
+    let Of = IsHeldBy held in
+    let None = FailsAsHandle held in
+    let Says : TypeTree → List ℕ → Type 0 = IsCanonicalAt n c.args.text.now in
+    let Fails : TypeTree → Failure → Type 0 = λ T. FailsToRead (IsRefusedAt n c.args.text.now T) c.args.text.now in
+    let old = c.args.out.now in
+    let new = c.answer.new.out in
+    let said = c.match-get.said in
+    elim c.match-get.branch as (λ _. Tells (SaysAt Of Says) (FailsAt Of None Fails) old new c.answer.result c.answer.new.report) [
+      | in-Some w ↦ told_at Of None Says Fails old new w.in-Some.ty.now (sym w.in-Some.ensures.value) said w.canonical-said.result w.said-is c.answer.result c.answer.new.report w.canonical-said.ensures.said w.canonical-said.ensures.failed c.answer.ensures
+      | in-None w ↦ told_none Of None Says Fails old new Closed (refl, sym w.in-None.ensures.value) said w.said-is c.answer.result c.answer.new.report c.answer.ensures
+    ]

@@ -1,0 +1,26 @@
+use Rattle.std.proofs.Common.{ℕ, List, refl, sym}
+use Rattle.wave_type.specs.FunctionType.{FunctionType}
+use Rattle.wave_handle.specs.FuncTypeHandle.{held_function_type}
+use Rattle.wave_c.specs.Answers.{IsHeldBy, SaysAt, FailsAt, IsCallTapeAt}
+use Rattle.wave_c.specs.Ends.{Tells}
+use Rattle.wave_c.specs.declared.ended.Failure.{Failure}
+use Rattle.wave_c.specs.declared.ended.Failure.TheVariants.{Closed}
+use Rattle.wave_c.specs.Failures.{FailsAsHandle, IsRefusedCall, FailsToRead}
+use Rattle.wave_c.proofs.Told.{told_at, told_none}
+use Rattle.wave_c.proofs.wave_call.Goals as goal
+use Rattle.wave_c.proofs.wave_call.Goals.{in-Some, in-None}
+
+pub returns-clause-told : goal.returns-clause-told
+returns-clause-told c =
+    let held = held_function_type c.args.handle.now in
+    let Of = IsHeldBy held in
+    let None = FailsAsHandle held in
+    let Says : FunctionType → List ℕ → Type 0 = IsCallTapeAt c.args.text.now in
+    let Fails : FunctionType → Failure → Type 0 = λ f. FailsToRead (IsRefusedCall c.args.text.now f) c.args.text.now in
+    let old = c.args.out.now in
+    let new = c.answer.new.out in
+    let said = c.match-get.said in
+    elim c.match-get.branch as (λ _. Tells (SaysAt Of Says) (FailsAt Of None Fails) old new c.answer.result c.answer.new.report) [
+      | in-Some w ↦ told_at Of None Says Fails old new w.in-Some.func.now (sym w.in-Some.ensures.value) said w.called-said.result w.said-is c.answer.result c.answer.new.report w.called-said.ensures.said w.called-said.ensures.failed c.answer.ensures
+      | in-None w ↦ told_none Of None Says Fails old new Closed (refl, sym w.in-None.ensures.value) said w.said-is c.answer.result c.answer.new.report c.answer.ensures
+    ]
