@@ -184,8 +184,9 @@ uint32_t wave_write(wave_type *handle, const uint8_t *tape, size_t tape_length, 
 
 /* What explains the refusal that wave_canonical and wave_read report of the same text and levels, in lines that end with a line
    feed, for people to read: the message; the place, as ` --> line 1, column 5`, and behind it the path within the value, as
-   `, at .servers[0]`, where it has one; the line with the place marked; and what was expected there. Where nothing is refused
-   the explanation is empty: WAVE_OK with the length 0.
+   `, at .servers[0]`, where it has one; the line with the place marked; and what was expected there. Lines are counted within
+   the text that is handed over. Where nothing is refused the explanation is empty: WAVE_OK with the length 0. What isn't UTF-8
+   has no explanation: tell report->start of it.
    Statuses: WAVE_OK, WAVE_TOO_SMALL, WAVE_NO_MEMORY, WAVE_NOT_UTF8, WAVE_CLOSED. */
 uint32_t wave_explain(wave_type *handle, const uint8_t *text, size_t text_length, uint32_t levels, uint8_t *out,
                       size_t out_length, wave_report *report);

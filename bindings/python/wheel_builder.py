@@ -4,6 +4,7 @@ import base64
 import hashlib
 import os
 import re
+import sys
 import sysconfig
 import zipfile
 
@@ -36,6 +37,8 @@ def build_wheel(wheel_directory, config_settings=None, metadata_directory=None):
     files = {f"wasm_wave/{name}": read(package, name) for name in sorted(os.listdir(package)) if name.endswith((".py", ".typed"))}
     folder = os.environ.get("WAVE_LIB_DIR")
     if folder:
+        if not os.path.isabs(folder) or not os.path.isfile(os.path.join(folder, LIBRARY)):
+            sys.exit(f"wasm-wave: WAVE_LIB_DIR={folder} is not the absolute path of a folder that has {LIBRARY}")
         files[f"wasm_wave/{LIBRARY}"] = read(folder, LIBRARY)
     tag = "py3-none-" + (re.sub(r"[-.]", "_", sysconfig.get_platform()) if folder else "any")
     version = re.search(rb'^__version__ = "(.*)"$', files["wasm_wave/__init__.py"], re.MULTILINE).group(1).decode()

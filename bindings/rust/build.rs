@@ -22,9 +22,8 @@ fn main() {
     println!("cargo:rerun-if-changed={}", archive.display());
     if !archive.is_file() {
         eprintln!("wave: there is no libwave.a for {target} in {}.", folder.display());
-        eprintln!(
-            "Build it with `bindings/build FOLDER` of the repository, and set WAVE_LIB_DIR=FOLDER."
-        );
+        eprintln!("Build it with `bindings/build FOLDER` of the repository, and set");
+        eprintln!("WAVE_LIB_DIR=FOLDER, which has to be an absolute path, as $PWD/lib.");
         exit(1);
     }
     println!("cargo:rustc-link-search=native={}", folder.display());

@@ -48,6 +48,7 @@ WRONG = [
     (SERVERS, {"servers": [ONE, {"host": "c"}]}, '.servers[1]: missing field "port"'),
     (SERVERS, {"servers": [{**ONE, "prt": 1}]}, '.servers[0]: unknown field "prt"; expected one of host, port'),
     (SERVERS, {"servers": [{**ONE, 7: 1}]}, ".servers[0]: unknown field of type int; expected one of host, port"),
+    ("record { a: u8 }", {"a": 1, "\ud800é": 1}, r'unknown field "\ud800é"; expected one of a'),
     (SERVERS, {"servers": {}}, ".servers: expected list<record { host: string, port: u16 }>, got dict"),
     (SERVERS, [], f"expected {SERVERS}, got list"),
     (f"tuple<{SERVERS}>", [], "expected 1 tuple elements, got 0"),
@@ -117,6 +118,8 @@ class Texts(unittest.TestCase):
             with self.subTest(spelled, text=text):
                 error = self.refused(wave.loads, spelled, text)
                 self.assertEqual((error.kind, text[error.start : error.end], error.path), (kind, marked, path))
+                self.assertNotRegex(error.message, r"\n|^$| at \d+\.\.\d+$")
+                self.assertTrue(error.explanation.encode().startswith(error.message.encode()))
 
     def test_types(self):
         for text, kind, marked in REFUSED_TYPES:
@@ -134,7 +137,7 @@ class Texts(unittest.TestCase):
     def test_messages(self):
         error = self.refused(wave.loads, "list<u8>", "[1, 300]")
         self.assertIsInstance(error, ValueError)
-        self.assertEqual(str(error), "invalid value at 4..7")
+        self.assertEqual((str(error), error.message), ("invalid value at 4..7", "invalid value"))
         explanation = """invalid value at 4..7
  --> line 1, column 5, at [1]
   | [1, 300]

@@ -83,6 +83,15 @@ class Finding(unittest.TestCase):
             with self.assertRaisesRegex(ImportError, "has no wave_untyped: it is another library"):
                 library.__wrapped__()
 
+    def test_no_library_to_install(self):
+        """The install tells in one line that there is no library, or that its folder is named by a relative path."""
+        code = "import wheel_builder; wheel_builder.build_wheel('/nowhere')"
+        for folder in ("/nowhere", "tests"):
+            with mock.patch.dict(os.environ, WAVE_LIB_DIR=folder):
+                said = subprocess.run([sys.executable, "-B", "-c", code], cwd=TOP, capture_output=True, text=True)
+            told = f"wasm-wave: WAVE_LIB_DIR={folder} is not the absolute path of a folder that has libwave.so.0\n"
+            self.assertEqual((said.returncode, said.stderr), (1, told))
+
     def test_version(self):
         self.assertRegex(wave.library_version(), r"^\d+\.\d+\.\d+$")
 

@@ -71,7 +71,8 @@ pub fn explain<T: WasmType>(ty: &T, text: &str) -> String {
     }
 }
 
-/// Explains so why the text is refused as a call at the function's type.
+/// Explains so why the text is refused as a call at the function's type, also where
+/// [`UntypedFuncCall::parse`](untyped::UntypedFuncCall::parse) refuses it.
 pub fn explain_call<F: WasmFunc>(func: &F, text: &str) -> String {
     let types: Vec<_> = func.params().collect();
     match untyped::spelled_func(types.iter(), func.param_names()) {

@@ -289,7 +289,10 @@ fn texts_of_types() {
         assert_eq!((error.kind(), error.span().start), (kind, span.start + 8), "{text}");
     }
     assert_eq!(ty(" list <\n// of numbers\n\tu8 , 2 , > // two").to_string(), "list<u8, 2>");
-    assert_eq!(ty("tuple<f32, list<f64>>"), Type::tuple([Type::F32, Type::list(Type::F64)]).unwrap());
+    assert_eq!(
+        ty("tuple<f32, list<f64>>"),
+        Type::tuple([Type::F32, Type::list(Type::F64)]).unwrap()
+    );
     let all =
         Type::record(types().into_iter().enumerate().map(|(place, ty)| (format!("f{place}"), ty)));
     let func =

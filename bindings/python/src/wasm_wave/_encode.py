@@ -69,8 +69,13 @@ def _wrong(node: Node, value: Any) -> WrongObject:
 def _unknown(what: str, name: Any, names: tuple[str, ...]) -> WrongObject:
     """The type has no such name; these it has."""
     known = ", ".join(names[:MOST_NAMES_SHOWN]) + (", …" if len(names) > MOST_NAMES_SHOWN else "")
-    shown = _shortened(json.dumps(name, ensure_ascii=False), MOST_SHOWN) if isinstance(name, str) else f"of type {_got(name)}"
+    shown = _shortened(_quoted(name), MOST_SHOWN) if isinstance(name, str) else f"of type {_got(name)}"
     return WrongObject(f"unknown {what} {shown}; expected one of {known}")
+
+
+def _quoted(name: str) -> str:
+    """The name between quotes, so that it can be printed, with escapes for surrogates too."""
+    return json.dumps(name, ensure_ascii=False).encode("utf-8", "backslashreplace").decode()
 
 
 def _key_step(node: Simple, key: Any) -> str:

@@ -1,6 +1,7 @@
 """What is raised of a text that is refused, and of an object that is none of a type's."""
 from __future__ import annotations
 
+import re
 from enum import Enum
 from typing import Any, Union
 
@@ -48,16 +49,19 @@ class WaveError(ValueError):
     """A text is refused.
 
     kind         why, a Kind
+    message      why, in words, as `invalid value`; `str` adds the place, in bytes of UTF-8
     start, end   where: places in the str, of characters
-    path         the part of the value that is wrong, as `.servers[1].port`; empty for the whole, and of an error of syntax
-    explanation  all of this as lines for people to read; the first of them is the message, tracebacks show them all from Python 3.11 on"""
+    path         the part of the value that is wrong, as `.servers[1].port`, of a call as `parameter size`; empty for the whole, of an
+                 error of syntax, and where parameters are too many or too few
+    explanation  all of this as lines for people to read, never empty; tracebacks show them all from Python 3.11 on"""
 
     _kinds: type[Union[Kind, TypeKind]] = Kind
 
     def __init__(self, kind: AnyKind, start: int, end: int, path: str, explanation: str) -> None:
-        message, _, place = explanation.partition("\n --> ")
-        super().__init__(message)
+        first, _, place = explanation.partition("\n --> ")
+        super().__init__(first)
         self.kind = kind
+        self.message = re.sub(r" at \d+\.\.\d+$", "", first)
         self.start = start
         self.end = end
         self.path = path
