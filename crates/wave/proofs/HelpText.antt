@@ -29,6 +29,6 @@ help_is = record {
   is_constant = refl;
   rest = drop 89 HELP.now;
   begins = refl;
-  has_forms = all_within HELP.now (λ part. part) forms (refl, (refl, (refl, (refl, (refl, (refl, (refl, (refl, (refl, tt)))))))));
+  has_forms = all_within HELP.now (λ part. part) forms (refl, (refl, (refl, (refl, (refl, (refl, (refl, (refl, (refl, (refl, tt))))))))));
   has_samples = all_within HELP.now sample_row samples (refl, (refl, (refl, (refl, (refl, (refl, (refl, tt)))))));
 }

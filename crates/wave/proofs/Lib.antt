@@ -8,7 +8,7 @@ pub mod TypedCalls
 pub mod Reported
 pub mod LineReading
 pub mod LinesAnswered
-pub mod AskedFor
+pub mod Options
 pub mod OneLine
 pub mod Misused
 pub mod Nearest

@@ -18,6 +18,7 @@ use Rattle.wave.specs.Answers.{words_of_fault}
 use Rattle.wave.specs.ByLines.{IsLineAnswer, AreAnswered, IsStatusOf, IsPlaceShown, IsLineFault, EndsAtFault, AnswersLines, AreRead, most_unanswered}
 use Rattle.wave.specs.Counts.{CountsOne}
 use Rattle.wave.specs.Lines.{line}
+use Rattle.wave.specs.Options.{unless_quiet}
 use Rattle.wave.specs.ReadFaults.{IsUnread}
 use Rattle.wave.specs.Written.{WritesWhole, WritesLess, Prints}
 use Rattle.wave.specs.Private.ByLines.{IsUnansweredLine, IsNoNextAnswer, ShowsLast, Releases}
@@ -132,16 +133,16 @@ module _ {W : Type 0} (contents : W → Option (List ℕ)) where
   less_more a b s t (one, prefix, rest, is, some, wrote) = (one, prefix, rest ++ t, ap (λ z. z ++ t) is ∙ append_assoc prefix rest t, longer rest t some, wrote)
 
   -- a fault was reported behind what was printed
-  ends_behind : (a b c : Output W) (fault : RunError) (number count : ℕ) (s t last : List ℕ) (ended : Ended) → WritesWhole contents a b s → number ≡ count → EndsAtFault contents b c fault number t last ended → EndsAtFault contents a c fault count (s ++ t) last ended
-  ends_behind a b c fault number count s t last ended whole same (three, inl (later, shown)) = (
+  ends_behind : (quiet : Bool) (a b c : Output W) (fault : RunError) (number count : ℕ) (s t last : List ℕ) (ended : Ended) → WritesWhole contents a b s → number ≡ count → EndsAtFault contents quiet b c fault number t last ended → EndsAtFault contents quiet a c fault count (s ++ t) last ended
+  ends_behind quiet a b c fault number count s t last ended whole same (three, inl (later, shown)) = (
     three,
     inl (
-      subst (WritesWhole contents a c) (sym (append_assoc s t (line (words_of_fault fault)))) (whole_whole a b c s (t ++ line (words_of_fault fault)) whole later),
+      subst (WritesWhole contents a c) (sym (append_assoc s t (unless_quiet quiet (line (words_of_fault fault))))) (whole_whole a b c s (t ++ unless_quiet quiet (line (words_of_fault fault))) whole later),
       subst (λ n. IsPlaceShown n fault last ended.shown) same shown,
     ),
   )
-  ends_behind a b c fault number count s t last ended whole same (three, inr (later, nothing)) =
-      (three, inr (subst (WritesLess contents a c) (sym (append_assoc s t (line (words_of_fault fault)))) (whole_less a b c s (t ++ line (words_of_fault fault)) whole later), nothing))
+  ends_behind quiet a b c fault number count s t last ended whole same (three, inr (later, nothing)) =
+      (three, inr (subst (WritesLess contents a c) (sym (append_assoc s t (unless_quiet quiet (line (words_of_fault fault))))) (whole_less a b c s (t ++ unless_quiet quiet (line (words_of_fault fault))) whole later), nothing))
 
   -- all that was held was written, and one text more, or a beginning of it
   none_held : (s prefix rest : List ℕ) → s ≡ prefix ++ rest → rest ≡ [] → s ≡ prefix
@@ -155,16 +156,16 @@ module _ {W : Type 0} (contents : W → Option (List ℕ)) where
   released_less a b c s t rest (prefix, is, wrote) none less = subst (λ z. WritesLess contents a c (z ++ t)) (sym (none_held s prefix rest is none)) (whole_less a b c prefix t wrote less)
 
   -- the answers that wait were not written whole, or a fault behind them was not reported whole, or it was
-  pub unwritten : (a b : Output W) (fault : RunError) (number : ℕ) (s : List ℕ) (ended : Ended) → WritesLess contents a b s → ended.status ≡ 3 → ended.shown ≡ Ok tt → EndsAtFault contents a b fault number s [] ended
-  unwritten a b fault number s ended less three quiet = (three, inr (less_more a b s (line (words_of_fault fault)) less, (refl, quiet)))
+  pub unwritten : (quiet : Bool) (a b : Output W) (fault : RunError) (number : ℕ) (s : List ℕ) (ended : Ended) → WritesLess contents a b s → ended.status ≡ 3 → ended.shown ≡ Ok tt → EndsAtFault contents quiet a b fault number s [] ended
+  unwritten quiet a b fault number s ended less three silent = (three, inr (less_more a b s (unless_quiet quiet (line (words_of_fault fault))) less, (refl, silent)))
 
-  pub unreported : (a b c : Output W) (fault : RunError) (number : ℕ) (s : List ℕ) (ended : Ended) → WritesWhole contents a b s → WritesLess contents b c (line (words_of_fault fault)) → ended.status ≡ 3 → ended.shown ≡ Ok tt
-      → EndsAtFault contents a c fault number s [] ended
-  unreported a b c fault number s ended whole less three quiet = (three, inr (whole_less a b c s (line (words_of_fault fault)) whole less, (refl, quiet)))
+  pub unreported : (quiet : Bool) (a b c : Output W) (fault : RunError) (number : ℕ) (s : List ℕ) (ended : Ended) → WritesWhole contents a b s → WritesLess contents b c (unless_quiet quiet (line (words_of_fault fault))) → ended.status ≡ 3 → ended.shown ≡ Ok tt
+      → EndsAtFault contents quiet a c fault number s [] ended
+  unreported quiet a b c fault number s ended whole less three silent = (three, inr (whole_less a b c s (unless_quiet quiet (line (words_of_fault fault))) whole less, (refl, silent)))
 
-  pub all_reported : (a b c : Output W) (fault : RunError) (number : ℕ) (s last : List ℕ) (ended : Ended) → WritesWhole contents a b s → WritesWhole contents b c (line (words_of_fault fault)) → ended.status ≡ 3 → IsPlaceShown number fault last ended.shown
-      → EndsAtFault contents a c fault number s last ended
-  all_reported a b c fault number s last ended whole later three is = (three, inl (whole_whole a b c s (line (words_of_fault fault)) whole later, is))
+  pub all_reported : (quiet : Bool) (a b c : Output W) (fault : RunError) (number : ℕ) (s last : List ℕ) (ended : Ended) → WritesWhole contents a b s → WritesWhole contents b c (unless_quiet quiet (line (words_of_fault fault))) → ended.status ≡ 3 → IsPlaceShown number fault last ended.shown
+      → EndsAtFault contents quiet a c fault number s last ended
+  all_reported quiet a b c fault number s last ended whole later three is = (three, inl (whole_whole a b c s (unless_quiet quiet (line (words_of_fault fault))) whole later, is))
 
   -- the explanations were written while all writes went well
   reported_more : (a b c : Output W) (s t : List ℕ) (was is : Bool) → MatchBool was (WritesWhole contents a b s) (WritesLess contents a b s)
@@ -271,10 +272,10 @@ module _ {R W E : Type 0} (remaining : R → Option (List ℕ)) (contents : W �
   }
 
   -- the input had ended before
-  pub had_ended : (request : Request) (first : Input R) (before after : Output W) (errors_before errors_after : Output E) (ended : Ended) → first.has_ended ≡ true
-      → (last : List ℕ) × EndsAtFault contents before after InputFailed 1 [] last ended × ShowsLast held errors_before errors_after true last
-      → AnswersLines contents held request (remaining first.reader) (remaining first.reader) first first before after errors_before errors_after ended
-  had_ended request first before after errors_before errors_after ended had (last, ends, shows) = record {
+  pub had_ended : (quiet : Bool) (request : Request) (first : Input R) (before after : Output W) (errors_before errors_after : Output E) (ended : Ended) → first.has_ended ≡ true
+      → (last : List ℕ) × EndsAtFault contents quiet before after InputFailed 1 [] last ended × ShowsLast held errors_before errors_after true last
+      → AnswersLines contents held quiet request (remaining first.reader) (remaining first.reader) first first before after errors_before errors_after ended
+  had_ended quiet request first before after errors_before errors_after ended had (last, ends, shows) = record {
     texts = [];
     rest = rest_of (remaining first.reader);
     said = [];
@@ -286,7 +287,7 @@ module _ {R W E : Type 0} (remaining : R → Option (List ℕ)) (contents : W �
     reported = shows;
   }
 
-  module _ (request : Request) (first now : Input R) (unread : Unread) (before after : Output W) (waiting : List ℕ) (errors_before errors_after : Output E) (number : ℕ) (is_refused is_shown : Bool)
+  module _ (quiet : Bool) (request : Request) (first now : Input R) (unread : Unread) (before after : Output W) (waiting : List ℕ) (errors_before errors_after : Output E) (number : ℕ) (is_refused is_shown : Bool)
       (g : AreAnsweredSoFar request first now unread before after waiting errors_before errors_after number is_refused is_shown) where
     -- a beginning of the answers that wait was written
     pub released : (later : Output W) (rest : List ℕ) → Releases contents after later waiting rest → AreAnsweredSoFar request first now unread before later rest errors_before errors_after number is_refused is_shown
@@ -310,8 +311,8 @@ module _ {R W E : Type 0} (remaining : R → Option (List ℕ)) (contents : W �
 
     -- they were not written whole
     pub cut_short : (new : Input R) (later : Output W) (ended : Ended) → WritesLess contents after later waiting → ended.status ≡ 3 → ended.shown ≡ Ok tt
-        → AnswersLines contents held request (remaining first.reader) (remaining new.reader) first new before later errors_before errors_after ended
-    cut_short new later ended wrote three quiet = record {
+        → AnswersLines contents held quiet request (remaining first.reader) (remaining new.reader) first new before later errors_before errors_after ended
+    cut_short new later ended wrote three silent = record {
       texts = g.texts;
       rest = rest_of (left remaining now unread);
       said = g.said;
@@ -319,15 +320,15 @@ module _ {R W E : Type 0} (remaining : R → Option (List ℕ)) (contents : W �
       last = [];
       are_lines = with_rest _ _ g.texts g.taken;
       answered = g.answered;
-      ends = inr (inr (three, subst (WritesLess contents before later) (sym g.said_is) (whole_less contents before after later g.written waiting g.printed wrote), (refl, quiet)));
+      ends = inr (inr (three, subst (WritesLess contents before later) (sym g.said_is) (whole_less contents before after later g.written waiting g.printed wrote), (refl, silent)));
       reported = reported_all held errors_before errors_after g.shown is_shown g.reported;
     }
 
     -- the input has no more lines
     pub all_answered : (new : Input R) (later : Output W) (printed : List ℕ) (status result : ℕ) (ended : Ended) → first.has_ended ≡ false → IsAtEnd (left remaining now unread) → new.has_ended ≡ true → new.failures ≡ now.failures → status ≡ from_bool is_refused
-        → printed ≡ waiting → Prints contents after later printed status result → ended.status ≡ result → ended.shown ≡ Ok tt → AnswersLines contents held request (remaining first.reader) (remaining new.reader) first new before later errors_before errors_after ended
-    all_answered new later printed status result ended goes_on end at_end fine is all (inr (three, wrote)) same quiet = cut_short new later ended (subst (WritesLess contents after later) all wrote) (same ∙ three) quiet
-    all_answered new later printed status result ended goes_on end at_end fine is all (inl (expected, wrote)) same quiet = record {
+        → printed ≡ waiting → Prints contents after later printed status result → ended.status ≡ result → ended.shown ≡ Ok tt → AnswersLines contents held quiet request (remaining first.reader) (remaining new.reader) first new before later errors_before errors_after ended
+    all_answered new later printed status result ended goes_on end at_end fine is all (inr (three, wrote)) same silent = cut_short new later ended (subst (WritesLess contents after later) all wrote) (same ∙ three) silent
+    all_answered new later printed status result ended goes_on end at_end fine is all (inl (expected, wrote)) same silent = record {
       texts = g.texts;
       rest = rest_of (left remaining now unread);
       said = g.said;
@@ -341,7 +342,7 @@ module _ {R W E : Type 0} (remaining : R → Option (List ℕ)) (contents : W �
             (goes_on, at_end, fine ∙ g.well),
             status_of g.shown is_refused ended.status g.refused (same ∙ (expected ∙ is)),
             subst (WritesWhole contents before later) (sym g.said_is) (whole_whole contents before after later g.written waiting g.printed (subst (WritesWhole contents after later) all wrote)),
-            (refl, quiet),
+            (refl, silent),
           );
       reported = reported_all held errors_before errors_after g.shown is_shown g.reported;
     }
@@ -349,8 +350,8 @@ module _ {R W E : Type 0} (remaining : R → Option (List ℕ)) (contents : W �
     module _ (new : Input R) (more : Unread) (later : Output W) (errors_then : Output E) (ended : Ended) where
       -- a fault is reported in place of the next line
       faulty : (fault : RunError) (last : List ℕ) (rest : List (List ℕ)) → IfSome (remaining first.reader) (λ bytes. lines bytes ≡ g.texts ++ rest) → IsLineFault rest first new fault
-          → LosesPart (left remaining now unread) (remaining new.reader) (most_unanswered fault) → EndsAtFault contents after later fault number waiting last ended → ShowsLast held errors_after errors_then is_shown last
-          → AnswersLines contents held request (remaining first.reader) (remaining new.reader) first new before later errors_before errors_then ended
+          → LosesPart (left remaining now unread) (remaining new.reader) (most_unanswered fault) → EndsAtFault contents quiet after later fault number waiting last ended → ShowsLast held errors_after errors_then is_shown last
+          → AnswersLines contents held quiet request (remaining first.reader) (remaining new.reader) first new before later errors_before errors_then ended
       faulty fault last rest are is loses ends shows = record {
         texts = g.texts;
         rest = rest;
@@ -360,15 +361,15 @@ module _ {R W E : Type 0} (remaining : R → Option (List ℕ)) (contents : W �
         are_lines = are;
         answered = g.answered;
         ends =
-            inr (inl (fault, is, are_read _ _ _ g.texts (most_unanswered fault) g.taken loses, subst (λ z. EndsAtFault contents before later fault (1 + length g.texts) z last ended) (sym g.said_is) (ends_behind contents before after later fault number (1 + length g.texts) g.written waiting last ended g.printed g.number_is ends)));
+            inr (inl (fault, is, are_read _ _ _ g.texts (most_unanswered fault) g.taken loses, subst (λ z. EndsAtFault contents quiet before later fault (1 + length g.texts) z last ended) (sym g.said_is) (ends_behind contents quiet before after later fault number (1 + length g.texts) g.written waiting last ended g.printed g.number_is ends)));
         reported = reported_last held errors_before errors_after errors_then g.shown last is_shown g.reported shows;
       }
 
       -- the next line is not answered
       pub cut_off : (fault : RunError) → IsNoNextAnswer (left remaining now unread) (left remaining new more) now new fault
           → LosesPart (left remaining now unread) (remaining new.reader) 65536 → (fault ≡ InputFailed → LosesPart (left remaining now unread) (remaining new.reader) 0)
-          → (last : List ℕ) × EndsAtFault contents after later fault number waiting last ended × ShowsLast held errors_after errors_then is_shown last
-          → AnswersLines contents held request (remaining first.reader) (remaining new.reader) first new before later errors_before errors_then ended
+          → (last : List ℕ) × EndsAtFault contents quiet after later fault number waiting last ended × ShowsLast held errors_after errors_then is_shown last
+          → AnswersLines contents held quiet request (remaining first.reader) (remaining new.reader) first new before later errors_before errors_then ended
       cut_off (NotUtf8 place) (bad, next, wrong, fine) loses none (last, ends, shows) =
           faulty (NotUtf8 place) last (bad ∷ rest_of (left remaining new more)) (with_bad _ _ _ g.texts bad g.taken next) (bad, rest_of (left remaining new more), refl, wrong, fine ∙ g.well) loses ends shows
       cut_off InputFailed cut loses none (last, ends, shows) =
@@ -417,8 +418,8 @@ module _ {R W E : Type 0} (remaining : R → Option (List ℕ)) (contents : W �
 
       -- its answer and those that wait were not written whole
       pub cut_behind : (later : Output W) (ended : Ended) → WritesLess contents after later (waiting ++ printed) → ended.status ≡ 3 → ended.shown ≡ Ok tt
-          → AnswersLines contents held request (remaining first.reader) (remaining new.reader) first new before later errors_before errors_then ended
-      cut_behind later ended wrote three quiet = record {
+          → AnswersLines contents held quiet request (remaining first.reader) (remaining new.reader) first new before later errors_before errors_then ended
+      cut_behind later ended wrote three silent = record {
         texts = g.texts ++ text ∷ [];
         rest = rest_of (left remaining new more);
         said = g.said ++ line answer;
@@ -426,6 +427,6 @@ module _ {R W E : Type 0} (remaining : R → Option (List ℕ)) (contents : W �
         last = [];
         are_lines = with_rest _ _ (g.texts ++ text ∷ []) (takes_more _ _ _ g.texts text g.taken next);
         answered = answered_then;
-        ends = inr (inr (three, subst (WritesLess contents before later) (sym (said_then)) (whole_less contents before after later g.written (waiting ++ printed) g.printed wrote), (refl, quiet)));
+        ends = inr (inr (three, subst (WritesLess contents before later) (sym (said_then)) (whole_less contents before after later g.written (waiting ++ printed) g.printed wrote), (refl, silent)));
         reported = reported_all held errors_before errors_then (g.shown ++ explained) shows reported_then;
       }

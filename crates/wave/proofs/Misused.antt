@@ -2,9 +2,8 @@
 use Rattle.std.proofs.Common.{ℕ, suc, zero, ◌≡◌, ◌≢◌, ◌≤◌, ◌<◌, ◌⊎◌, ◌∙◌, List, [], ◌∷◌, ◌++◌, String, Global, Result, Ok, Err, IfOk, Option, Some, None, MatchOption, string_bytes, map, get_or, length, refl, inl, inr, sym, ap, subst, arith, codes}
 use Rattle.wave_wasm.specs.Types.{TypeTree}
 use Rattle.wave.specs.declared.request.Request.TheVariants.{Value, Call, CallAt, Read}
-use Rattle.wave.specs.declared.request.Asked.TheVariants.{Whole, Lines}
 use Rattle.wave.specs.Lines.{line}
-use Rattle.wave.specs.Misuse.{IsCommand, IsQuoted, AskToRead, IsMisuse, AreBeforeLines, IsExplainedMisuse, IsTypeExplained, IsBadType, IsBadFunc}
+use Rattle.wave.specs.Misuse.{IsCommand, IsQuoted, AskToRead, IsMisuse, IsTypeExplained, IsBadType, IsBadFunc}
 use Rattle.wave_type.specs.FunctionSpelling.{IsFunctionOf, levels_of_function}
 use Rattle.wave_type.specs.FunctionType.{FunctionType}
 use Rattle.wave_type.specs.TypeErrors.{TypeRefusal, type_error_text}
@@ -12,7 +11,7 @@ use Rattle.wave_type.specs.TypeItems.{IsTypeFault}
 use Rattle.wave_type.specs.declared.error.TypeErrorKind.TheVariants as kind
 use Rattle.wave_type.specs.TypeSpelling.{IsTypeOf, IsNoType, levels_of}
 use Rattle.wave_place.specs.Places.{IsExplained}
-use Rattle.wave.specs.Requests.{IsLimitWord, AreUnknown}
+use Rattle.wave.specs.Requests.{IsLimitWord}
 use Rattle.wave.specs.Private.Requests.{MakeNone}
 use Rattle.wave.specs.Types.{text_of, NamesType, NamesFunction}
 
@@ -103,20 +102,6 @@ texts_first words rest first t word is same named = ap (λ z. z ∷ map string_b
 -- arguments that are these make no request either
 pub none_first : (words others : List (List ℕ)) → others ≡ words → MakeNone words → MakeNone others
 none_first words others is = subst MakeNone (sym is)
-
--- what is said where help is
-pub helped : {E : Type 0} (r : Result (String Global) E) (words prefix : List (List ℕ)) (why : List ℕ) → AreBeforeLines words prefix → IsMisuse prefix why
-    → IfOk r (λ whole. string_bytes whole ≡ why ++ line (codes "wave --help has the arguments")) → IfOk r (λ text. IsExplainedMisuse words (string_bytes text))
-helped (Err e) words prefix why of wrong is = tt
-helped (Ok whole) words prefix why of wrong is = (prefix, why, of, wrong, is)
-
--- arguments that ask for nothing make no request, nor do those before a last `--lines`
-pub none_whole : (words : List (List ℕ)) → AreUnknown words → MakeNone words
-none_whole words unknown request asked = unknown (Whole request) asked
-
-pub none_before : (words prefix : List (List ℕ)) → AreBeforeLines words prefix → AreUnknown words → MakeNone prefix
-none_before words prefix (inl is) unknown = λ request asked. unknown (Lines request) (prefix, is, asked)
-none_before words prefix (inr (is, other)) unknown = subst MakeNone is (none_whole words unknown)
 
 -- a type without a value
 pub valueless_said : {E : Type 0} (r : Result (String Global) E) (word text : List ℕ) (T : TypeTree) → text ≡ text_of word → IsTypeOf text T → levels_of T ≤ 100 → ((U : TypeTree) → NamesType word U → ⊥)

@@ -1,5 +1,5 @@
 -- What is answered where each line of the input is a text of its own.
-use Rattle.std.specs.Prelude.{ℕ, ◌≡◌, ◌≢◌, ◌≤◌, ◌+◌, ◌⊎◌, List, [], ◌∷◌, ◌++◌, length, None, Ok, IfSome, IsUtf8, MatchResult, codes}
+use Rattle.std.specs.Prelude.{ℕ, ◌≡◌, ◌≢◌, ◌≤◌, ◌+◌, ◌⊎◌, Bool, List, [], ◌∷◌, ◌++◌, length, None, Ok, IfSome, IsUtf8, MatchResult, codes}
 use Rattle.std.specs.Fmt.{decimal}
 use Rattle.std.specs.Io.KnownBytes.{Consumes}
 use Rattle.std.specs.Str.Lines.{lines}
@@ -10,7 +10,6 @@ use Rattle.wave_lex.specs.Errors.{Diagnostic}
 use Rattle.wave_grammar.specs.ParserPosition.{Place, TakesItem, TakesAny}
 use Rattle.wave_tree.specs.ParserState.{start_of}
 use Rattle.wave.specs.declared.request.Request.{Request}
-use Rattle.wave.specs.declared.request.Asked.TheVariants.{Lines}
 use Rattle.wave.specs.declared.input.Input.{Input}
 use Rattle.wave.specs.declared.input.RunError.{RunError}
 use Rattle.wave.specs.declared.input.RunError.TheVariants.{NotUtf8, InputFailed, OutOfMemory}
@@ -19,8 +18,9 @@ use Rattle.wave.specs.declared.program.Ended.{Ended}
 use Rattle.wave.specs.Answers.{Answers, IsRefused, IsTextUpTo, words_of_fault}
 use Rattle.wave.specs.Explained.{Explains, place_shown}
 use Rattle.wave.specs.Lines.{line, IsInOneLine}
+use Rattle.wave.specs.Options.{is_quiet, unless_quiet}
 use Rattle.wave.specs.ReadFaults.{IsReadToEnd, IsUnread}
-use Rattle.wave.specs.Requests.{AskFor}
+use Rattle.wave.specs.Requests.{AskByLines}
 use Rattle.wave.specs.Written.{WritesWhole, WritesLess}
 
 -- nothing stands in the text but whitespace and comments
@@ -94,27 +94,27 @@ module _ {R : Type 0} where
   IsLineFault rest old new OutOfMemory = new.failures ≡ old.failures
 
 module _ {W : Type 0} (contents : W → Option (List ℕ)) where
-  -- at status 3 the fault's words were printed behind these answers, and the place is shown of the line of this number; or a write failed,
+  -- at status 3 the fault's words were printed behind these answers, unless quiet, and the place is shown of the line of this number; or a write failed,
   -- and nothing is shown
-  abbrev pub EndsAtFault : Output W → Output W → RunError → ℕ → List ℕ → List ℕ → Ended → Type 0
-  EndsAtFault before after fault number said last ended =
+  abbrev pub EndsAtFault : Bool → Output W → Output W → RunError → ℕ → List ℕ → List ℕ → Ended → Type 0
+  EndsAtFault quiet before after fault number said last ended =
       (ended.status ≡ 3)
-      × (WritesWhole contents before after (said ++ line (words_of_fault fault)) × IsPlaceShown number fault last ended.shown
-      ⊎ WritesLess contents before after (said ++ line (words_of_fault fault)) × IsNothingShown last ended.shown)
+      × (WritesWhole contents before after (said ++ unless_quiet quiet (line (words_of_fault fault))) × IsPlaceShown number fault last ended.shown
+      ⊎ WritesLess contents before after (said ++ unless_quiet quiet (line (words_of_fault fault))) × IsNothingShown last ended.shown)
 
 module _ {R W E : Type 0} (contents : W → Option (List ℕ)) (held : E → Option (List ℕ)) where
   -- what was printed: the answers of all lines, and the status is theirs; or, behind those of these lines, the words of a fault that keeps
   -- the next from being answered; or a beginning of the answers, as a write failed
-  abbrev pub EndsBefore : List (List ℕ) → List (List ℕ) → Option (List ℕ) → Option (List ℕ) → Input R → Input R → Output W → Output W → List ℕ → List ℕ → List ℕ → Ended → Type 0
-  EndsBefore texts rest left now old new before after said shown last ended =
+  abbrev pub EndsBefore : Bool → List (List ℕ) → List (List ℕ) → Option (List ℕ) → Option (List ℕ) → Input R → Input R → Output W → Output W → List ℕ → List ℕ → List ℕ → Ended → Type 0
+  EndsBefore quiet texts rest left now old new before after said shown last ended =
       (rest ≡ []) × IsReadToEnd old new × IsStatusOf shown ended.status × WritesWhole contents before after said × IsNothingShown last ended.shown
       ⊎ ((fault : RunError) × IsLineFault rest old new fault × AreRead left now texts (most_unanswered fault)
-      × EndsAtFault contents before after fault (1 + length texts) said last ended)
+      × EndsAtFault contents quiet before after fault (1 + length texts) said last ended)
       ⊎ (ended.status ≡ 3) × WritesLess contents before after said × IsNothingShown last ended.shown
 
   -- the first lines of what the reader had left were answered, all unless a fault or a failed write ended it, and what explains refusals,
   -- and the fault, was written too, or a beginning of it where a write there failed; this is what the reader has left now
-  pub record AnswersLines (request : Request) (left now : Option (List ℕ)) (old new : Input R) (before after : Output W) (errors_before errors_after : Output E) (ended : Ended) : Type 0 where
+  pub record AnswersLines (quiet : Bool) (request : Request) (left now : Option (List ℕ)) (old new : Input R) (before after : Output W) (errors_before errors_after : Output E) (ended : Ended) : Type 0 where
     pub texts : List (List ℕ)
     pub rest : List (List ℕ)
     pub said : List ℕ
@@ -122,11 +122,11 @@ module _ {R W E : Type 0} (contents : W → Option (List ℕ)) (held : E → Opt
     pub last : List ℕ
     pub are_lines : IfSome left (λ bytes. lines bytes ≡ texts ++ rest)
     pub answered : AreAnswered request 1 texts said shown
-    pub ends : EndsBefore texts rest left now old new before after said shown last ended
+    pub ends : EndsBefore quiet texts rest left now old new before after said shown last ended
     pub reported : WritesWhole held errors_before errors_after (shown ++ last) ⊎ WritesLess held errors_before errors_after (shown ++ last)
 
   -- the arguments ask for a request on each line, which was answered so
   abbrev pub RunsByLines : List (List ℕ) → Option (List ℕ) → Option (List ℕ) → Input R → Input R → Output W → Output W → Output E → Output E → Ended → Type 0
   RunsByLines words left now old new before after errors_before errors_after ended =
-      (request : Request) × AskFor (Lines request) words
-      × AnswersLines request left now old new before after errors_before errors_after ended
+      (request : Request) × AskByLines request words
+      × AnswersLines (is_quiet words) request left now old new before after errors_before errors_after ended

@@ -1,5 +1,5 @@
 -- What is shown of a refusal, or of an input that is no text, to a person.
-use Rattle.std.specs.Prelude.{ℕ, List, ◌≡◌, ◌⊎◌, ◌++◌, Ok, MatchResult, codes}
+use Rattle.std.specs.Prelude.{ℕ, Bool, List, ◌≡◌, ◌⊎◌, ◌++◌, Ok, MatchResult, codes}
 use Rattle.std.specs.Fmt.{decimal}
 use Rattle.std.specs.declared.alloc.AllocError.{AllocError}
 use Rattle.std.specs.declared.option.Option.{Option}
@@ -14,7 +14,8 @@ use Rattle.wave.specs.declared.input.Input.{Input}
 use Rattle.wave.specs.declared.input.RunError.{RunError}
 use Rattle.wave.specs.declared.input.RunError.TheVariants.{NotUtf8, InputFailed, OutOfMemory}
 use Rattle.wave.specs.declared.output.Output.{Output}
-use Rattle.wave.specs.Requests.{AreWordsOf}
+use Rattle.wave.specs.Options.{is_quiet, unless_quiet}
+use Rattle.wave.specs.Requests.{AskFor}
 use Rattle.wave.specs.Answers.{IsRefused, IsInput, IsFaultOf, words_of_fault}
 use Rattle.wave.specs.Lines.{line}
 use Rattle.wave.specs.Written.{WritesWhole, WritesLess}
@@ -35,18 +36,18 @@ module _ {E : Type 0} (contents : E → Option (List ℕ)) where
       (λ _. (text : List ℕ) × Explains asked whole e text × (WritesWhole contents old new text ⊎ WritesLess contents old new text))
       (λ _. new ≡ old)
 
--- the request has no answer on the whole input, and the line that was written is the text of a refusal that says why, which is shown
-abbrev pub ShowsWhy : {W E : Type 0} → Request → Option (List ℕ) → (W → Option (List ℕ)) → Output W → Output W
+-- the request has no answer on the whole input, and the line that was written, unless quiet, is the text of a refusal that says why, which is shown
+abbrev pub ShowsWhy : {W E : Type 0} → Bool → Request → Option (List ℕ) → (W → Option (List ℕ)) → Output W → Output W
     → (E → Option (List ℕ)) → Output E → Output E → Result (Unit {0}) AllocError → Type 0
-ShowsWhy asked left contents before after held old new shown =
+ShowsWhy quiet asked left contents before after held old new shown =
     (whole : List ℕ) × (refusal : Diagnostic) × IsInput left whole × IsRefused asked whole refusal
-    × WritesWhole contents before after (line (error_text refusal)) × ShowsRefusal held asked old new whole refusal shown
+    × WritesWhole contents before after (unless_quiet quiet (line (error_text refusal))) × ShowsRefusal held asked old new whole refusal shown
 
--- so of a request that the arguments make
+-- so of a request that the arguments ask for
 abbrev pub IsShown : {W E : Type 0} → List (List ℕ) → Option (List ℕ) → (W → Option (List ℕ)) → Output W → Output W
     → (E → Option (List ℕ)) → Output E → Output E → Result (Unit {0}) AllocError → Type 0
 IsShown words left contents before after held old new shown =
-    (asked : Request) × AreWordsOf asked words × ShowsWhy asked left contents before after held old new shown
+    (asked : Request) × AskFor asked words × ShowsWhy (is_quiet words) asked left contents before after held old new shown
 
 -- ---- an input that is no text
 
@@ -64,10 +65,10 @@ module _ {E : Type 0} (contents : E → Option (List ℕ)) where
   ShowsPlace old new InputFailed shown = (new ≡ old) × (shown ≡ Ok tt)
   ShowsPlace old new OutOfMemory shown = (new ≡ old) × (shown ≡ Ok tt)
 
--- there is a fault, whose words are the line that was written, and the place is shown; or a write failed, and nothing is shown
-abbrev pub IsFailure : {R W E : Type 0} → Option (List ℕ) → Input R → Input R → (W → Option (List ℕ)) → Output W → Output W
+-- there is a fault, whose words are the line that was written, unless quiet, and the place is shown; or a write failed, and nothing is shown
+abbrev pub IsFailure : {R W E : Type 0} → Bool → Option (List ℕ) → Input R → Input R → (W → Option (List ℕ)) → Output W → Output W
     → (E → Option (List ℕ)) → Output E → Output E → Result (Unit {0}) AllocError → Type 0
-IsFailure left first last contents before after held old new shown =
+IsFailure quiet left first last contents before after held old new shown =
     ((fault : RunError) × IsFaultOf left first last fault
-    × WritesWhole contents before after (line (words_of_fault fault)) × ShowsPlace held old new fault shown)
+    × WritesWhole contents before after (unless_quiet quiet (line (words_of_fault fault))) × ShowsPlace held old new fault shown)
     ⊎ ((said : List ℕ) × WritesLess contents before after said × (new ≡ old) × (shown ≡ Ok tt))

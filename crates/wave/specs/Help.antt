@@ -26,11 +26,11 @@ AskForHelp words = (words ≡ codes "--help" ∷ []) ⊎ (words ≡ codes "help"
 abbrev pub AskForVersion : List (List ℕ) → Type 0
 AskForVersion words = (words ≡ codes "--version" ∷ []) ⊎ (words ≡ codes "version" ∷ []) ⊎ (words ≡ codes "-V" ∷ [])
 
--- what the help says of the commands, and of `--lines`
+-- what the help says of the commands, and of the options
 abbrev pub forms : List (List ℕ)
 forms =
     codes "\n  wave value [N] " ∷ codes "\n  wave call " ∷ codes "\n  wave call FUNC " ∷ codes "\n  wave read NAME [N] "
-    ∷ codes "\n  wave --help " ∷ codes "`wave help`" ∷ codes "`wave -h`" ∷ codes "\n  wave --version " ∷ codes "\n--lines "
+    ∷ codes "\n  wave --help " ∷ codes "`wave help`" ∷ codes "`wave -h`" ∷ codes "\n  wave --version " ∷ codes "\n--lines " ∷ codes "\n--quiet "
     ∷ []
 
 -- what it says of a sample: a line with its name and, from column 14 on, its type

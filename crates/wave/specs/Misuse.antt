@@ -122,19 +122,11 @@ IsMisuse words why =
     ⊎ HasNoLimit words why
     ⊎ ((word : List ℕ) × AskToRead words word × IsBadType word why)
     ⊎ ((word : List ℕ) × (words ≡ codes "call" ∷ word ∷ []) × IsBadFunc word why)
-    ⊎ ((word : List ℕ) × (words ≡ word ∷ []) × IsCommand word 1 × (why ≡ line (codes "--lines stands behind value, call or read")))
+    ⊎ ((word : List ℕ) × (words ≡ word ∷ []) × IsCommand word 1 × (why ≡ line (codes "--lines and --quiet stand behind value, call or read")))
 
--- these are the arguments before a last `--lines`, or all where the last is another
-abbrev pub AreBeforeLines : List (List ℕ) → List (List ℕ) → Type 0
-AreBeforeLines words prefix =
-    (words ≡ prefix ++ codes "--lines" ∷ [])
-    ⊎ (words ≡ prefix) × ((before : List (List ℕ)) → words ≡ before ++ codes "--lines" ∷ [] → ⊥)
-
--- what is said of arguments that ask for nothing, of those before a last `--lines`, and where help is
+-- what is said of arguments without options that make no request, and where help is
 abbrev pub IsExplainedMisuse : List (List ℕ) → List ℕ → Type 0
-IsExplainedMisuse words text =
-    (prefix : List (List ℕ)) × (why : List ℕ) × AreBeforeLines words prefix
-    × IsMisuse prefix why × (text ≡ why ++ line (codes "wave --help has the arguments"))
+IsExplainedMisuse words text = (why : List ℕ) × IsMisuse words why × (text ≡ why ++ line (codes "wave --help has the arguments"))
 
 module _ {E : Type 0} (contents : E → Option (List ℕ)) where
   -- it was written, or a beginning of it where a write failed; or out of memory was answered, and nothing was written

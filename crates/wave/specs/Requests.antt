@@ -1,11 +1,10 @@
 -- What the arguments after the program's name ask for.
-use Rattle.std.specs.Prelude.{ℕ, List, [], ◌∷◌, ◌++◌, ◌≡◌, ◌≢◌, ◌⊎◌, Some, codes}
+use Rattle.std.specs.Prelude.{ℕ, true, false, List, [], ◌∷◌, ◌++◌, ◌≡◌, ◌≢◌, ◌⊎◌, Some, codes}
 use Rattle.wave_grammar.specs.NumberText.{all_digits}
 use Rattle.wave_tree.specs.ParserState.{IsLimit}
 use Rattle.wave.specs.declared.request.Request.{Request}
 use Rattle.wave.specs.declared.request.Request.TheVariants.{Value, Call, CallAt, Read}
-use Rattle.wave.specs.declared.request.Asked.{Asked}
-use Rattle.wave.specs.declared.request.Asked.TheVariants.{Whole, Lines}
+use Rattle.wave.specs.Options.{is_by_lines, plain}
 use Rattle.wave.specs.Types.{NamesType, NamesFunction}
 
 -- the word has no leading zero
@@ -28,10 +27,13 @@ AreWordsOf Call words = words ≡ codes "call" ∷ []
 AreWordsOf (CallAt f) words = (word : List ℕ) × (words ≡ codes "call" ∷ word ∷ []) × NamesFunction word f
 AreWordsOf (Read T n) words = (word : List ℕ) × SayLimit words (codes "read" ∷ word ∷ []) n × NamesType word T
 
--- the arguments make the request that is asked for; to be answered on each line they do so before `--lines`
-abbrev pub AskFor : Asked → List (List ℕ) → Type 0
-AskFor (Whole request) words = AreWordsOf request words
-AskFor (Lines request) words = (prefix : List (List ℕ)) × (words ≡ prefix ++ codes "--lines" ∷ []) × AreWordsOf request prefix
+-- but for the options, the arguments make the request; of which the whole input is the text
+abbrev pub AskFor : Request → List (List ℕ) → Type 0
+AskFor request words = AreWordsOf request (plain words) × (is_by_lines words ≡ false)
+
+-- or each line of the input
+abbrev pub AskByLines : Request → List (List ℕ) → Type 0
+AskByLines request words = AreWordsOf request (plain words) × (is_by_lines words ≡ true)
 
 -- the arguments have a type, or the type of a function, by a name or its text
 abbrev pub HaveType : List (List ℕ) → Type 0
@@ -39,10 +41,10 @@ HaveType words =
     ((word : List ℕ) × (n : ℕ) × SayLimit words (codes "read" ∷ word ∷ []) n)
     ⊎ ((word : List ℕ) × (words ≡ codes "call" ∷ word ∷ []))
 
--- they have one, perhaps before `--lines`
+-- they have one, but for the options
 abbrev pub AskForType : List (List ℕ) → Type 0
-AskForType words = HaveType words ⊎ ((prefix : List (List ℕ)) × (words ≡ prefix ++ codes "--lines" ∷ []) × HaveType prefix)
+AskForType words = HaveType (plain words)
 
--- the arguments ask for nothing
+-- but for the options, the arguments make no request
 abbrev pub AreUnknown : List (List ℕ) → Type 0
-AreUnknown words = (asked : Asked) → AskFor asked words → ⊥
+AreUnknown words = (request : Request) → AreWordsOf request (plain words) → ⊥

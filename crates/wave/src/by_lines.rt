@@ -14,7 +14,7 @@ use crate::answer::{Unanswered, answer, explain_refusal};
 use crate::input::{Input, RunError};
 use crate::lines::Unread;
 use crate::output::Output;
-use crate::program::{Ended, fault_line, line_of, print, write_whole};
+use crate::program::{Ended, fault_line, line_of, print, unless_quiet, write_whole};
 use crate::request::Request;
 use std::alloc::{AllocError, Global};
 use std::io::{Read, Write};
@@ -34,24 +34,34 @@ struct LineAnswer {
 
 /// Answers the request on each line of the input: prints the answer and a line feed, or a line feed
 /// for a line that is blank or refused, and shows a refusal. Gives the status to end with: 1 where a
-/// line was refused, else 0; 3 behind a fault, which is said in place of the lines that are left, and
-/// where a write failed. Of a line that is no text it is shown where what is none begins, unless there is
-/// no memory for that. After a failed write to `errors` no more is written there. Answers are written before
-/// more of the input is read, and before a refusal of a line behind theirs is shown.
+/// line was refused, else 0; 3 behind a fault, which, unless quiet, is said in place of the lines that
+/// are left, and where a write failed. Of a line that is no text it is shown where what is none begins,
+/// unless there is no memory for that. After a failed write to `errors` no more is written there. Answers
+/// are written before more of the input is read, and before a refusal of a line behind theirs is shown.
 pub fn answer_lines<R: Read, W: Write, E: Write>(
     alloc: Global,
     request: &Request,
+    is_quiet: bool,
     input: &mut Input<R>,
     output: &mut Output<W>,
     errors: &mut Output<E>,
 ) -> Ended
     requires { IsFit request.now }
-    ensures answered { AnswersLines W.contents E.contents request.now
+    ensures answered { AnswersLines W.contents E.contents is_quiet request.now
         (R.remaining input.old.reader) (R.remaining input.new.reader) input.old input.new output.old output.new errors.old errors.new result }
     ensures counted { input.new.reads_left ≤ input.old.reads_left }
 {
     if input.has_ended() {
-        return fail_at(alloc, output, "", errors, RunError::InputFailed, 1, true);
+        return fail_at(
+            alloc,
+            output,
+            "",
+            errors,
+            RunError::InputFailed,
+            1,
+            true,
+            is_quiet,
+        );
     }
     let mut unread = Unread::new();
     let mut held = String::new(alloc);
@@ -65,7 +75,11 @@ pub fn answer_lines<R: Read, W: Write, E: Write>(
         let answer = match next_answer(alloc, request, number, input, &mut unread) {
             Ok(Some(answer)) => answer,
             Ok(None) => return Ended::at(print(output, &held, u8::from(is_refused))),
-            Err(fault) => return fail_at(alloc, output, &held, errors, fault, number, is_shown),
+            Err(fault) => {
+                return fail_at(
+                    alloc, output, &held, errors, fault, number, is_shown, is_quiet,
+                );
+            }
         };
         number += 1;
         let shown = answer.shown.as_str();
@@ -118,7 +132,7 @@ fn show<E: Write>(errors: &mut Output<E>, shown: &str, is_shown: bool) -> bool
     is_shown && write_whole(errors, shown.as_bytes())
 }
 
-/// Writes the answers that are held, says the fault in place of the line of this number and those after it,
+/// Writes the answers that are held, says the fault, unless quiet, in place of the line of this number and those after it,
 /// and shows where the line is no text, where that was printed.
 fn fail_at<W: Write, E: Write>(
     alloc: Global,
@@ -128,14 +142,15 @@ fn fail_at<W: Write, E: Write>(
     fault: RunError,
     number: u64,
     is_shown: bool,
+    is_quiet: bool,
 ) -> Ended
-    ensures { (last : List ℕ) × EndsAtFault W.contents output.old output.new fault number held.now last result
+    ensures { (last : List ℕ) × EndsAtFault W.contents is_quiet output.old output.new fault number held.now last result
         × ShowsLast E.contents errors.old errors.new is_shown last }
 {
     if !write_whole(output, held.as_bytes()) {
         return Ended::at(3);
     }
-    if !write_whole(output, fault_line(fault).as_bytes()) {
+    if !write_whole(output, unless_quiet(is_quiet, fault_line(fault)).as_bytes()) {
         return Ended::at(3);
     }
     let place = match fault {

@@ -8,12 +8,14 @@ const VERSION: &str =
 const HELP: &str =
     "wave reads a component value in its text form, WAVE, from standard input, and prints it.
 
-  wave value [N]       a value without a type, printed in one line
-  wave call            a call, as f(1, [2]), printed in one line
+  wave value [N]       a value without a type, printed with its flags sorted
+  wave call            a call, as f(1, [2]), printed with the flags in it sorted
   wave call FUNC       a call of a function of this type, printed with its canonical parameters
   wave read NAME [N]   a value at a type, printed as its canonical text
   wave --help          this text, as `wave help` and `wave -h` print it too
   wave --version       the version
+
+value and call without FUNC print one line, but for a multiline string, which keeps its lines.
 
 NAME is the text of a type, or the name of a sample:
   bytes      list<u8>
@@ -35,10 +37,11 @@ FUNC is the text of a function's type; it may have results, which are not used:
   func(a: T, b: option<U>)
 Options at its end may be left out of the call, and are printed as none.
 
---lines behind value, call or read: each line is a text, and printed as a line, which is empty for one
-that is blank or refused.
-
 N is the number of levels that the value may have, from 1 to 1000; it is 100 where there is none.
+
+Anywhere behind value, call or read, each once:
+--lines    each line is a text, and printed as a line, which is empty for one that is blank or refused
+--quiet    what is printed at status 1, 2 and 3, with --lines at 2 and 3, is left out of standard output
 
 status 0   the value is printed
 status 1   the text is refused: why is printed, and shown in its line on standard error

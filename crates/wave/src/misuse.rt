@@ -7,8 +7,7 @@ ghost use Rattle.wave_type.specs.TypeErrors.{type_error_text};
 ghost use Rattle.wave_type.specs.declared.error.TypeErrorKind.TheVariants as kind;
 ghost use Rattle.wave_place.specs.Places.{IsExplained};
 ghost use Rattle.wave.specs.Lines.{line};
-ghost use Rattle.wave.specs.Misuse.{edits, suggestions, IsNearest, IsHint, IsQuoted, IsBadType, IsBadFunc, IsMisuse, AreBeforeLines, IsExplainedMisuse};
-ghost use Rattle.wave.specs.Requests.{AreUnknown};
+ghost use Rattle.wave.specs.Misuse.{edits, suggestions, IsNearest, IsHint, IsQuoted, IsBadType, IsBadFunc, IsMisuse, IsExplainedMisuse};
 ghost use Rattle.wave.specs.Private.Requests.{IsNoRequestWord, MakeNone};
 ghost use Rattle.wave.specs.Types.{NamesType, NamesFunction};
 
@@ -25,30 +24,14 @@ const TOO_MANY: &str = "an argument too many: ";
 /// What is said behind an argument that is no limit.
 const NO_LIMIT: &str = " is no number of levels: N is a whole number from 1 to 1000";
 
-/// What is wrong with the arguments, which ask for nothing, and where help is.
+/// What is wrong with the arguments, which make no request and have no options, and where help is.
 pub fn explain_misuse(alloc: Global, words: &[String]) -> Result<String, AllocError>
-    requires { AreUnknown (map string_bytes words.now) }
+    requires { MakeNone (map string_bytes words.now) }
     ensures { IfOk result (λ text. IsExplainedMisuse (map string_bytes words.now) (string_bytes text)) }
 {
-    let mut why = misuse(alloc, before_lines(words))?;
+    let mut why = misuse(alloc, words)?;
     why.push_str("wave --help has the arguments\n")?;
     Ok(why)
-}
-
-/// The arguments before a last `--lines`, or all where the last is another.
-fn before_lines(words: &[String]) -> &[String]
-    ensures { AreBeforeLines (map string_bytes words.now) (map string_bytes result.now) }
-{
-    match words.split_last() {
-        Some((last, prefix)) => {
-            if last.as_str() == "--lines" {
-                prefix
-            } else {
-                words
-            }
-        }
-        None => words,
-    }
 }
 
 /// What is wrong with the arguments, which make no request.
@@ -117,7 +100,10 @@ fn other_misuse(alloc: Global, command: &str, rest: &[String]) -> Result<String,
 {
     match command {
         "help" | "--help" | "-h" | "version" | "--version" | "-V" => match rest {
-            [] => String::from_str(alloc, "--lines stands behind value, call or read\n"),
+            [] => String::from_str(
+                alloc,
+                "--lines and --quiet stand behind value, call or read\n",
+            ),
             [extra, ..] => quoting(alloc, TOO_MANY, extra.as_str(), ""),
         },
         _ => {

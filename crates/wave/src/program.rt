@@ -5,6 +5,7 @@ ghost use Rattle.wave_lex.specs.Errors.{error_text};
 ghost use Rattle.wave_lex.specs.declared.error.ParserErrorKind.TheVariants as kind;
 ghost use Rattle.wave.specs.ReadFaults.{IsReadToEnd};
 ghost use Rattle.wave.specs.Written.{WritesWhole, WritesLess, Prints};
+ghost use Rattle.wave.specs.Options.{is_quiet, plain, unless_quiet};
 ghost use Rattle.wave.specs.Requests.{AreUnknown};
 ghost use Rattle.wave.specs.Answers.{words_of_fault, usage};
 ghost use Rattle.wave.specs.Lines.{line};
@@ -12,7 +13,7 @@ ghost use Rattle.wave.specs.ByLines.{RunsByLines};
 ghost use Rattle.wave.specs.Explained.{IsShown, ShowsWhy, ShowsRefusal, IsFailure};
 ghost use Rattle.wave.specs.Private.Answers.{IsReadFault, IsOutcome, IsNoOutcome, ReportsRefusal, ShowsText, ShowsFault};
 ghost use Rattle.wave.specs.Misuse.{ShowsMisuse};
-ghost use Rattle.wave.specs.Private.Requests.{IsFit};
+ghost use Rattle.wave.specs.Private.Requests.{IsFit, MakeNone};
 ghost use Rattle.wave.specs.Statuses.{IsLineOfRun, IsLineOfRequest};
 
 use crate::answer::{Unanswered, answer, explain_refusal};
@@ -22,7 +23,7 @@ use crate::input::{Input, RunError};
 use crate::lines::CHUNK;
 use crate::misuse::explain_misuse;
 use crate::output::Output;
-use crate::request::{Asked, Request, asked_by};
+use crate::request::{Request, request_of, take_option};
 use std::alloc::{AllocError, Global};
 use std::io::{Read, Write};
 use wasm_wave::parser::{ParserError, ParserErrorKind};
@@ -61,10 +62,11 @@ impl Ended {
 /// there is no memory for that, which is answered; and so is what is wrong with the arguments where the
 /// usage was printed. A request on each line of the input is answered by
 /// a line for each: empty for one that is blank or refused, and a refused one is shown with its number;
-/// the status is 1 where any was, and 3 where a fault or a failed write ended it.
+/// the status is 1 where any was, and 3 where a fault or a failed write ended it. With `--quiet` the
+/// lines of refusals, of faults and of the usage are left out, as if they were printed.
 pub fn run<R: Read, W: Write, E: Write>(
     alloc: Global,
-    words: &[String],
+    words: Vec<String>,
     input: &mut Input<R>,
     output: &mut Output<W>,
     errors: &mut Output<E>,
@@ -72,59 +74,64 @@ pub fn run<R: Read, W: Write, E: Write>(
     // One line goes with the arguments, and a status with it; it was written, or a write failed. Or a request on each
     // line was answered.
     ensures printed { ((status : ℕ) × (said : List ℕ)
-        × IsLineOfRun (map string_bytes words.now) (R.remaining input.old.reader)
+        × IsLineOfRun (map string_bytes words.items) (R.remaining input.old.reader)
         input.old input.new status said
         × Prints W.contents output.old output.new said status result.status)
-        ⊎ RunsByLines W.contents E.contents (map string_bytes words.now)
+        ⊎ RunsByLines W.contents E.contents (map string_bytes words.items)
         (R.remaining input.old.reader) (R.remaining input.new.reader) input.old input.new output.old output.new errors.old errors.new result }
     // A refusal is shown where it was printed, or there was no memory for it.
-    ensures shown { result.status ≡ 1 → IsShown (map string_bytes words.now) (R.remaining input.old.reader)
+    ensures shown { result.status ≡ 1 → IsShown (map string_bytes words.items) (R.remaining input.old.reader)
         W.contents output.old output.new E.contents errors.old errors.new result.shown
-        ⊎ RunsByLines W.contents E.contents (map string_bytes words.now)
+        ⊎ RunsByLines W.contents E.contents (map string_bytes words.items)
         (R.remaining input.old.reader) (R.remaining input.new.reader) input.old input.new output.old output.new errors.old errors.new result }
     ensures quiet { result.status ≡ 0 → (errors.new ≡ errors.old) × (result.shown ≡ Ok tt)
-        ⊎ RunsByLines W.contents E.contents (map string_bytes words.now)
+        ⊎ RunsByLines W.contents E.contents (map string_bytes words.items)
         (R.remaining input.old.reader) (R.remaining input.new.reader) input.old input.new output.old output.new errors.old errors.new result }
     // At status 3 it is shown where an input is no text, where that was printed, or there was no memory for it.
-    ensures failed { result.status ≡ 3 → IsFailure (R.remaining input.old.reader) input.old input.new
+    ensures failed { result.status ≡ 3 → IsFailure (is_quiet (map string_bytes words.items)) (R.remaining input.old.reader) input.old input.new
         W.contents output.old output.new E.contents errors.old errors.new result.shown
-        ⊎ RunsByLines W.contents E.contents (map string_bytes words.now)
+        ⊎ RunsByLines W.contents E.contents (map string_bytes words.items)
         (R.remaining input.old.reader) (R.remaining input.new.reader) input.old input.new output.old output.new errors.old errors.new result }
     // Where the usage was printed, what is wrong with the arguments is said, or there was no memory for it.
     ensures misused { result.status ≡ 2 →
-        ShowsMisuse E.contents (map string_bytes words.now) errors.old errors.new result.shown }
+        ShowsMisuse E.contents (plain (map string_bytes words.items)) errors.old errors.new result.shown }
     // The arguments are tested before anything is read.
-    ensures tested_first { AreUnknown (map string_bytes words.now) → input.new ≡ input.old }
+    ensures tested_first { AreUnknown (map string_bytes words.items) → input.new ≡ input.old }
     ensures counted { input.new.reads_left ≤ input.old.reads_left }
 {
-    if let Some(notice) = notice_of(words) {
+    if let Some(notice) = notice_of(words.as_slice()) {
         return Ended::at(print(output, notice, 0));
     }
-    let asked = match asked_by(alloc, words) {
-        Ok(Some(asked)) => asked,
-        Ok(None) => return misused(alloc, words, output, errors),
-        Err(_) => return fail(alloc, output, errors, RunError::OutOfMemory),
+    let mut words = words;
+    let by_lines = take_option(&mut words, "--lines");
+    let is_quiet = take_option(&mut words, "--quiet");
+    let request = match request_of(alloc, words.as_slice()) {
+        Ok(Some(request)) => request,
+        Ok(None) => return misused(alloc, words.as_slice(), is_quiet, output, errors),
+        Err(_) => return fail(alloc, output, errors, RunError::OutOfMemory, is_quiet),
     };
-    match asked {
-        Asked::Whole(request) => answer_whole(alloc, &request, input, output, errors),
-        Asked::Lines(request) => answer_lines(alloc, &request, input, output, errors),
+    if by_lines {
+        answer_lines(alloc, &request, is_quiet, input, output, errors)
+    } else {
+        answer_whole(alloc, &request, is_quiet, input, output, errors)
     }
 }
 
-/// Prints the usage, and says to a person what is wrong with the arguments where that was printed.
+/// Prints the usage, unless quiet, and says to a person what is wrong with the arguments where that was printed.
 fn misused<W: Write, E: Write>(
     alloc: Global,
     words: &[String],
+    is_quiet: bool,
     output: &mut Output<W>,
     errors: &mut Output<E>,
 ) -> Ended
-    requires { AreUnknown (map string_bytes words.now) }
-    ensures reported { Prints W.contents output.old output.new usage 2 result.status }
+    requires { MakeNone (map string_bytes words.now) }
+    ensures reported { Prints W.contents output.old output.new (unless_quiet is_quiet usage) 2 result.status }
     ensures shown { result.status ≡ 2 →
         ShowsMisuse E.contents (map string_bytes words.now) errors.old errors.new result.shown }
     ensures quiet { result.status ≢ 2 → (errors.new ≡ errors.old) × (result.shown ≡ Ok tt) }
 {
-    let status = print(output, USAGE, 2);
+    let status = print(output, unless_quiet(is_quiet, USAGE), 2);
     if status != 2 {
         return Ended::at(status);
     }
@@ -132,6 +139,13 @@ fn misused<W: Write, E: Write>(
         status,
         shown: show(errors, explain_misuse(alloc, words)),
     }
+}
+
+/// The text, or nothing where that is not to be printed.
+pub fn unless_quiet(is_quiet: bool, text: &str) -> &str
+    ensures { result.now ≡ unless_quiet is_quiet text.now }
+{
+    if is_quiet { "" } else { text }
 }
 
 /// Writes the text for a person, or a beginning of it where a write fails; nothing where there was no
@@ -155,31 +169,40 @@ fn show<E: Write>(
 fn answer_whole<R: Read, W: Write, E: Write>(
     alloc: Global,
     request: &Request,
+    is_quiet: bool,
     input: &mut Input<R>,
     output: &mut Output<W>,
     errors: &mut Output<E>,
 ) -> Ended
     requires { IsFit request.now }
     ensures printed { (status : ℕ) × (said : List ℕ)
-        × IsLineOfRequest request.now (R.remaining input.old.reader) input.old input.new status said
+        × IsLineOfRequest is_quiet request.now (R.remaining input.old.reader) input.old input.new status said
         × Prints W.contents output.old output.new said status result.status }
-    ensures shown { result.status ≡ 1 → ShowsWhy request.now (R.remaining input.old.reader)
+    ensures shown { result.status ≡ 1 → ShowsWhy is_quiet request.now (R.remaining input.old.reader)
         W.contents output.old output.new E.contents errors.old errors.new result.shown }
     ensures quiet { result.status ≡ 0 → (errors.new ≡ errors.old) × (result.shown ≡ Ok tt) }
-    ensures failed { result.status ≡ 3 → IsFailure (R.remaining input.old.reader) input.old input.new
+    ensures failed { result.status ≡ 3 → IsFailure is_quiet (R.remaining input.old.reader) input.old input.new
         W.contents output.old output.new E.contents errors.old errors.new result.shown }
     ensures counted { input.new.reads_left ≤ input.old.reads_left }
 {
     match respond(alloc, request, input) {
         Ok(Outcome::Answered(line)) => Ended::at(print(output, line.as_str(), 0)),
         Ok(Outcome::Refused(refusal, text)) => {
-            refuse(alloc, output, errors, request, &refusal, text.as_str())
+            refuse(
+                alloc,
+                output,
+                errors,
+                request,
+                &refusal,
+                text.as_str(),
+                is_quiet,
+            )
         }
-        Err(fault) => fail(alloc, output, errors, fault),
+        Err(fault) => fail(alloc, output, errors, fault, is_quiet),
     }
 }
 
-/// Says why there is no answer, and shows it to a person where that was printed at status 1.
+/// Says why there is no answer, unless quiet, and shows it to a person where that was printed at status 1.
 fn refuse<W: Write, E: Write>(
     alloc: Global,
     output: &mut Output<W>,
@@ -187,16 +210,18 @@ fn refuse<W: Write, E: Write>(
     request: &Request,
     refusal: &ParserError,
     text: &str,
+    is_quiet: bool,
 ) -> Ended
-    ensures reported { ReportsRefusal W.contents output.old output.new refusal.now result.status }
+    ensures reported { ReportsRefusal W.contents is_quiet output.old output.new refusal.now result.status }
     ensures shown { result.status ≡ 1 →
         ShowsRefusal E.contents request.now errors.old errors.new text.now refusal.now result.shown }
     ensures quiet { result.status ≢ 1 → (errors.new ≡ errors.old) × (result.shown ≡ Ok tt) }
 {
     let Ok(line) = refusal_line(alloc, refusal) else {
-        return Ended::at(print(output, fault_line(RunError::OutOfMemory), 3));
+        let line = fault_line(RunError::OutOfMemory);
+        return Ended::at(print(output, unless_quiet(is_quiet, line), 3));
     };
-    let status = print(output, line.as_str(), 1);
+    let status = print(output, unless_quiet(is_quiet, line.as_str()), 1);
     if status != 1 {
         return Ended::at(status);
     }
@@ -217,18 +242,19 @@ fn refusal_line(alloc: Global, refusal: &ParserError) -> Result<String, AllocErr
     line_of(refusal.to_string(alloc)?)
 }
 
-/// Says why there is no answer and no refusal, and shows a person where an input is no text, where that
-/// was printed.
+/// Says why there is no answer and no refusal, unless quiet, and shows a person where an input is no
+/// text, where that was printed.
 fn fail<W: Write, E: Write>(
     alloc: Global,
     output: &mut Output<W>,
     errors: &mut Output<E>,
     fault: RunError,
+    is_quiet: bool,
 ) -> Ended
-    ensures reported { Prints W.contents output.old output.new (line (words_of_fault fault)) 3 result.status }
-    ensures shown { ShowsFault W.contents output.old output.new E.contents errors.old errors.new fault result.shown }
+    ensures reported { Prints W.contents output.old output.new (unless_quiet is_quiet (line (words_of_fault fault))) 3 result.status }
+    ensures shown { ShowsFault is_quiet W.contents output.old output.new E.contents errors.old errors.new fault result.shown }
 {
-    if !write_whole(output, fault_line(fault).as_bytes()) {
+    if !write_whole(output, unless_quiet(is_quiet, fault_line(fault)).as_bytes()) {
         return Ended::at(3);
     }
     match fault {

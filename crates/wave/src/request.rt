@@ -1,7 +1,8 @@
 // What the arguments after the program's name ask for.
-ghost use Rattle.std.specs.Prelude.{ℕ, [], ◌∷◌, IfOk, IfErr, MatchOption, map, string_bytes};
-ghost use Rattle.wave.specs.Requests.{IsLimitWord, AreWordsOf, HaveType, AskFor, AskForType, AreUnknown};
-ghost use Rattle.wave.specs.Private.Requests.{MakeNone, AskByLines, AskNoneByLines};
+ghost use Rattle.std.specs.Prelude.{ℕ, [], ◌∷◌, ◌≡◌, IfOk, IfErr, MatchOption, map, string_bytes};
+ghost use Rattle.wave.specs.Options.{is_given, without};
+ghost use Rattle.wave.specs.Requests.{IsLimitWord, AreWordsOf, HaveType};
+ghost use Rattle.wave.specs.Private.Requests.{MakeNone};
 
 use crate::types::{function_at, type_at};
 use std::alloc::{AllocError, Global};
@@ -21,15 +22,6 @@ pub enum Request {
     CallAt(FuncType),
     /// A text is read at the type, within this many levels, and the canonical text of its value printed.
     Read(Type, u32),
-}
-
-/// What the arguments ask for.
-#[derive(Debug, Drop)]
-pub enum Asked {
-    /// The request, of which the whole input is the text.
-    Whole(Request),
-    /// The request, for which each line of the input is a text.
-    Lines(Request),
 }
 
 /// The limit that the word writes: a decimal number from 1 to `MAX_LEVELS` without a leading zero.
@@ -110,8 +102,25 @@ fn three_words(
     }
 }
 
-/// The request that the arguments make. The only error is out of memory, for the type that they name.
-fn request_of(alloc: Global, words: &[String]) -> Result<Option<Request>, AllocError>
+/// Takes the option out of the arguments where it stands behind the first, once. Whether it stood there.
+pub fn take_option(words: &mut Vec<String>, option: &str) -> bool
+    ensures given { result ≡ is_given option.now (map string_bytes words.old.items) }
+    ensures left { map string_bytes words.new.items ≡ without option.now (map string_bytes words.old.items) }
+{
+    let mut place = 1;
+    while place < words.len() {
+        if words[place].as_str() == option {
+            drop(words.remove(place));
+            return true;
+        }
+        place += 1;
+    }
+    false
+}
+
+/// The request that the arguments make, which have no options. The only error is out of memory, for the
+/// type that they name.
+pub fn request_of(alloc: Global, words: &[String]) -> Result<Option<Request>, AllocError>
     ensures built { IfOk result (λ found. MatchOption found
         (MakeNone (map string_bytes words.now))
         (λ request. AreWordsOf request (map string_bytes words.now))) }
@@ -124,38 +133,5 @@ fn request_of(alloc: Global, words: &[String]) -> Result<Option<Request>, AllocE
             three_words(alloc, first.as_str(), second.as_str(), third.as_str())
         }
         _ => Ok(None),
-    }
-}
-
-/// The request of each line that the arguments make, before a last `--lines`. The only error is out of
-/// memory, for the type that they name.
-fn lines_request(alloc: Global, words: &[String]) -> Result<Option<Request>, AllocError>
-    ensures built { IfOk result (λ found. MatchOption found
-        (AskNoneByLines (map string_bytes words.now))
-        (λ request. AskByLines request (map string_bytes words.now))) }
-    ensures memory { IfErr result (λ e. AskForType (map string_bytes words.now)) }
-{
-    let Some((last, prefix)) = words.split_last() else {
-        return Ok(None);
-    };
-    if last.as_str() != "--lines" {
-        return Ok(None);
-    }
-    request_of(alloc, prefix)
-}
-
-/// What the arguments ask for. The only error is out of memory, for the type that they name.
-pub fn asked_by(alloc: Global, words: &[String]) -> Result<Option<Asked>, AllocError>
-    ensures built { IfOk result (λ found. MatchOption found
-        (AreUnknown (map string_bytes words.now))
-        (λ asked. AskFor asked (map string_bytes words.now))) }
-    ensures memory { IfErr result (λ e. AskForType (map string_bytes words.now)) }
-{
-    if let Some(request) = lines_request(alloc, words)? {
-        return Ok(Some(Asked::Lines(request)));
-    }
-    match request_of(alloc, words)? {
-        Some(request) => Ok(Some(Asked::Whole(request))),
-        None => Ok(None),
     }
 }

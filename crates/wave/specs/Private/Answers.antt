@@ -1,5 +1,5 @@
 -- What the parts of the program answer to each other.
-use Rattle.std.specs.Prelude.{ℕ, List, String, ◌≡◌, ◌≢◌, ◌⊎◌, false, Ok, Err, string_bytes}
+use Rattle.std.specs.Prelude.{ℕ, Bool, List, String, ◌≡◌, ◌≢◌, ◌⊎◌, false, Ok, Err, string_bytes}
 use Rattle.std.specs.declared.alloc.AllocError.{AllocError}
 use Rattle.std.specs.declared.alloc.Global.{Global}
 use Rattle.std.specs.declared.result.Result.{Result}
@@ -17,6 +17,7 @@ use Rattle.wave.specs.declared.program.Outcome.{Outcome}
 use Rattle.wave.specs.declared.program.Outcome.TheVariants.{Answered, Refused}
 use Rattle.wave.specs.Answers.{Answers, IsRefused, IsInput, IsNoText, words_of_fault}
 use Rattle.wave.specs.Lines.{line}
+use Rattle.wave.specs.Options.{unless_quiet}
 use Rattle.wave.specs.ReadFaults.{IsReadToEnd, IsUnread}
 use Rattle.wave.specs.Statuses.{IsAnswer}
 use Rattle.wave.specs.Written.{Prints, WritesWhole, WritesLess}
@@ -55,11 +56,11 @@ module _ {R : Type 0} where
   IsReadFault old new OutOfMemory = (new.failures ≡ old.failures) × (new.has_ended ≡ false)
 
 module _ {W : Type 0} (contents : W → Option (List ℕ)) where
-  -- the refusal's text was printed at status 1, which isn't out of memory; or out of memory at status 3
-  abbrev pub ReportsRefusal : Output W → Output W → Diagnostic → ℕ → Type 0
-  ReportsRefusal old new e result =
-      (e.kind ≢ kind.OutOfMemory) × Prints contents old new (line (error_text e)) 1 result
-      ⊎ Prints contents old new (line (words_of_fault OutOfMemory)) 3 result
+  -- the refusal's text was printed at status 1, which isn't out of memory; or out of memory at status 3; unless quiet
+  abbrev pub ReportsRefusal : Bool → Output W → Output W → Diagnostic → ℕ → Type 0
+  ReportsRefusal quiet old new e result =
+      (e.kind ≢ kind.OutOfMemory) × Prints contents old new (unless_quiet quiet (line (error_text e))) 1 result
+      ⊎ Prints contents old new (unless_quiet quiet (line (words_of_fault OutOfMemory))) 3 result
 
 module _ {E : Type 0} (contents : E → Option (List ℕ)) where
   -- the text was written, or a beginning of it where a write failed; or there was no memory for it, which is answered, and nothing was written
@@ -67,9 +68,9 @@ module _ {E : Type 0} (contents : E → Option (List ℕ)) where
   ShowsText old new (Ok text) shown = (WritesWhole contents old new (string_bytes text) ⊎ WritesLess contents old new (string_bytes text)) × (shown ≡ Ok tt)
   ShowsText old new (Err error) shown = (new ≡ old) × (shown ≡ Err error)
 
--- the fault's words are the line that was written, and the place is shown; or a write failed, and nothing is shown
-abbrev pub ShowsFault : {W E : Type 0} → (W → Option (List ℕ)) → Output W → Output W → (E → Option (List ℕ)) → Output E → Output E
+-- the fault's words are the line that was written, unless quiet, and the place is shown; or a write failed, and nothing is shown
+abbrev pub ShowsFault : {W E : Type 0} → Bool → (W → Option (List ℕ)) → Output W → Output W → (E → Option (List ℕ)) → Output E → Output E
     → RunError → Result (Unit {0}) AllocError → Type 0
-ShowsFault contents before after held old new fault shown =
-    WritesWhole contents before after (line (words_of_fault fault)) × ShowsPlace held old new fault shown
-    ⊎ WritesLess contents before after (line (words_of_fault fault)) × (new ≡ old) × (shown ≡ Ok tt)
+ShowsFault quiet contents before after held old new fault shown =
+    WritesWhole contents before after (unless_quiet quiet (line (words_of_fault fault))) × ShowsPlace held old new fault shown
+    ⊎ WritesLess contents before after (unless_quiet quiet (line (words_of_fault fault))) × (new ≡ old) × (shown ≡ Ok tt)

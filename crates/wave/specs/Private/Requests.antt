@@ -6,8 +6,7 @@ use Rattle.wave_type.specs.FunctionType.{types_of}
 use Rattle.wave_tree.specs.ParserState.{IsLimit}
 use Rattle.wave.specs.declared.request.Request.{Request}
 use Rattle.wave.specs.declared.request.Request.TheVariants.{Value, Call, CallAt, Read}
-use Rattle.wave.specs.declared.request.Asked.TheVariants.{Lines}
-use Rattle.wave.specs.Requests.{AreWordsOf, AskFor}
+use Rattle.wave.specs.Requests.{AreWordsOf}
 
 -- the limit of the request is one that a parser may be handed, and no name stands twice in its type, or in those of its parameters
 abbrev pub IsFit : Request → Type 0
@@ -16,16 +15,9 @@ IsFit Call = Unit {0}
 IsFit (CallAt f) = AllOf HasDistinctNames (types_of f.params)
 IsFit (Read T n) = IsLimit n × HasDistinctNames T
 
--- the arguments make no request of the whole input
+-- the arguments, without options, make no request
 abbrev pub MakeNone : List (List ℕ) → Type 0
 MakeNone words = (request : Request) → AreWordsOf request words → ⊥
-
--- the arguments make the request before a last `--lines`, to be answered on each line; or none
-abbrev pub AskByLines : Request → List (List ℕ) → Type 0
-AskByLines request words = AskFor (Lines request) words
-
-abbrev pub AskNoneByLines : List (List ℕ) → Type 0
-AskNoneByLines words = (request : Request) → AskByLines request words → ⊥
 
 -- the word begins no request
 abbrev pub IsNoRequestWord : List ℕ → Type 0
