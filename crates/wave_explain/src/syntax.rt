@@ -12,7 +12,7 @@ use wave_hints::hints::{ESCAPES, kind_hint};
 use wave_hints::rows::{line, token_hint};
 use wave_hints::word::word_hint;
 use wave_lex::error::{ParserError, ParserErrorKind};
-use wave_lex::lex::{FuncNameLexer, Span};
+use wave_lex::lex::{FuncNameLexer, Lexer, Span, Token};
 use wave_place::explain::is_invisible;
 use wave_place::place::place_of;
 use wave_tree::parser::MAX_LEVELS;
@@ -116,10 +116,12 @@ fn syntax_hint(
     source: &str,
     reading: Reading,
 ) -> Result<String, AllocError> {
-    let hint = match reading {
-        Reading::Call => call_hint(error, source),
-        Reading::Value => "",
-    };
+    let (_, rest) = source.split_at(source.floor_char_boundary(error.span().start));
+    let begins_token = matches!(Lexer::new(rest).next(), Some(Ok(_)));
+    if error.kind() == ParserErrorKind::TrailingCharacters && !begins_token {
+        return invalid_token(alloc, source, &error.span());
+    }
+    let hint = whole_hint(error, source, reading);
     if !hint.is_empty() {
         return line(alloc, hint, None);
     }
@@ -130,23 +132,116 @@ fn syntax_hint(
         ParserErrorKind::EmptyTuple | ParserErrorKind::DuplicateFlag => {
             line(alloc, kind_hint(error.kind()), None)
         }
+        ParserErrorKind::UnexpectedToken | ParserErrorKind::TrailingCharacters => {
+            let hint = beside_word(alloc, source, &error.span())?;
+            if !hint.is_empty() {
+                return Ok(hint);
+            }
+            let hint = misplaced_hint(alloc, source, error.span().start, reading)?;
+            line(alloc, hint, None)
+        }
         _ => beside_word(alloc, source, &error.span()),
     }
 }
 
-// ---- calls
+// ---- the whole text
 
-/// What helps with a text that is no call by its beginning, or that goes on behind one.
-fn call_hint(error: &ParserError, source: &str) -> &'static str {
+/// What helps with a text that is no call by its beginning, or that goes on behind what it is read as.
+fn whole_hint(error: &ParserError, source: &str, reading: Reading) -> &'static str {
     let names_function = matches!(FuncNameLexer::new(source).next(), Some(Ok(_)));
     let place = place_of(source, error.span().start);
     let begins_line = place.line > 1 && place.prefix.trim().is_empty();
-    match error.kind() {
-        ParserErrorKind::UnexpectedEnd | ParserErrorKind::InvalidToken if !names_function => {
-            "a call begins with the function's name"
+    match (error.kind(), reading) {
+        (ParserErrorKind::UnexpectedEnd | ParserErrorKind::InvalidToken, Reading::Call)
+            if !names_function => { "a call begins with the function's name" }
+        (ParserErrorKind::TrailingCharacters, _) if place.rest.starts_with(CLOSING) => {
+            "no bracket is open that this one closes"
         }
-        ParserErrorKind::TrailingCharacters if begins_line => "a text has only one call",
+        (ParserErrorKind::TrailingCharacters, _) if place.rest.starts_with(',') => {
+            "all brackets are closed before this comma: is there one too many?"
+        }
+        (ParserErrorKind::TrailingCharacters, Reading::Call) if begins_line => {
+            "a text has only one call"
+        }
+        (ParserErrorKind::TrailingCharacters, Reading::Value) if begins_line => {
+            "a text has only one value"
+        }
         _ => "",
+    }
+}
+
+/// The closing brackets.
+const CLOSING: &[char] = &['}', ']', ')'];
+
+// ---- misplaced tokens
+
+/// What helps with a token that is none of those that may stand there.
+fn misplaced_hint(
+    alloc: Global,
+    source: &str,
+    at: usize,
+    reading: Reading,
+) -> Result<&'static str, AllocError> {
+    let (before, after) = source.split_at(source.floor_char_boundary(at));
+    let hint = quote_hint(before, after);
+    if !hint.is_empty() {
+        return Ok(hint);
+    }
+    let Some(expected) = expected_in(alloc, source, at, reading)? else {
+        return Ok("");
+    };
+    let bracket = match expected.open_brackets.last() {
+        Some(span) => source.get(span.start..span.end).unwrap_or(""),
+        None => return Ok(""),
+    };
+    let is_argument = matches!(reading, Reading::Call) && expected.open_brackets.len() == 1;
+    let place = place_of(source, at);
+    Ok(match (bracket, after.chars().next()) {
+        ("(", Some(':')) if is_argument =>
+            "arguments have no names: write their values alone, in order",
+        ("(", Some(':')) => "a record is written in braces: {name: value}",
+        ("[", Some(':')) => "a map is written in braces: {key: value}",
+        ("(", Some(',')) if !before.trim_end().ends_with(BEFORE_VALUE) => {
+            "a payload is one value; several are written as a tuple: name((a, b))"
+        }
+        (_, Some('{' | '[')) if ends_with_word(before) => {
+            "a payload is written in parentheses: name(..)"
+        }
+        (_, Some(':' | ',' | '}' | ']' | ')')) => "",
+        _ if expected.contains(Token::Comma) && place.prefix.trim().is_empty() => {
+            "a comma is missing before this line"
+        }
+        _ => "",
+    })
+}
+
+/// Behind which of these a value is expected.
+const BEFORE_VALUE: &[char] = &['(', ','];
+
+/// What helps where a quote and a word, or two quotes, stand side by side, and with an address.
+fn quote_hint(before: &str, after: &str) -> &'static str {
+    if after.starts_with("://") {
+        return "a string is written in double quotes";
+    }
+    let begins_string = after.starts_with('"');
+    if begins_string && ends_with_word(before) {
+        return "a string is in double quotes as a whole: no word stands right before it";
+    }
+    let begins_word = match after.chars().next() {
+        Some(scalar) => scalar.is_ascii_alphanumeric(),
+        None => false,
+    };
+    if before.ends_with('"') && (begins_string || begins_word) {
+        return "a double quote within a string is written \\\"";
+    }
+    ""
+}
+
+/// Whether a letter or a digit ends the text.
+fn ends_with_word(text: &str) -> bool {
+    match text.chars().next_back() {
+        Some(scalar) => scalar.is_ascii_alphanumeric(),
+        None => false,
     }
 }
 
@@ -176,8 +271,11 @@ fn invalid_token(alloc: Global, source: &str, span: &Span) -> Result<String, All
     if let Some(mark) = unknown_escape(source, at) {
         return escape_hint(alloc, source, mark);
     }
-    let after = source.split_at(at).1;
-    let hint = token_hint(alloc, after)?;
+    let (before, after) = source.split_at(at);
+    let mut hint = line(alloc, quote_hint(before, after), None)?;
+    if hint.is_empty() {
+        hint = token_hint(alloc, after)?;
+    }
     if !hint.is_empty() {
         return Ok(hint);
     }
@@ -200,9 +298,21 @@ fn escape_hint(alloc: Global, source: &str, mark: Span) -> Result<String, AllocE
             None,
         );
     }
+    let digits = behind.get(0..4).unwrap_or("");
+    if name == "\\u" && is_scalar(digits) {
+        return line(alloc, "unknown escape \\u@: write \\u{@}", Some(digits));
+    }
     let mut lines = line(alloc, "unknown escape @", Some(name))?;
     lines.push_str(line(alloc, ESCAPES, None)?.as_str())?;
     Ok(lines)
+}
+
+/// Whether these hexadecimal digits are the number of a character.
+fn is_scalar(digits: &str) -> bool {
+    match u32::from_str_radix(digits, 16) {
+        Ok(number) => char::from_u32(number).is_some() && !digits.starts_with('+'),
+        Err(_) => false,
+    }
 }
 
 // ---- words

@@ -2,6 +2,7 @@
 ghost use Rattle.std.specs.Prelude.{◌≤◌};
 
 use std::alloc::{AllocError, Global};
+use wave_lex::lex::{Lexer, Token};
 use wave_node::ast::{Node, NodeType};
 use wave_place::path::push_first;
 use wave_place::place::scalars;
@@ -17,6 +18,8 @@ pub(crate) enum AuthorWords {
     All,
     /// What is within brackets or quotes.
     Inside,
+    /// A label within quotes.
+    Label,
     /// The names within brackets.
     Names,
     /// A name without its `%`.
@@ -33,6 +36,8 @@ pub(crate) enum AuthorWords {
     BeforePoint,
     /// A number without its underscores.
     BesideUnderscores,
+    /// A number in groups of three digits, without the blanks between them.
+    BesideBlanks,
     /// A number without the zeros before it.
     BehindZeros,
     /// A number, of which this is the hexadecimal, the octal or the binary form.
@@ -53,6 +58,14 @@ pub(crate) fn words_of<'a>(
         AuthorWords::Nothing => None,
         AuthorWords::All => Some(text),
         AuthorWords::Inside => Some(inside(text)),
+        AuthorWords::Label => {
+            let label = inside(text);
+            if is_token(label, Token::LabelOrKeyword) {
+                Some(label)
+            } else {
+                None
+            }
+        }
         AuthorWords::Names => match node {
             Some(node) if are_names(node) => Some(inside(text)),
             _ => Some("name, name"),
@@ -70,7 +83,8 @@ pub(crate) fn words_of<'a>(
         },
         AuthorWords::Number => whole_number(inside(text)),
         AuthorWords::BeforePoint => before_point(text),
-        AuthorWords::BesideUnderscores => return beside_underscores(alloc, text),
+        AuthorWords::BesideUnderscores => return beside(alloc, text, '_'),
+        AuthorWords::BesideBlanks => return beside(alloc, text, ' '),
         AuthorWords::BehindZeros => match text.trim_start_matches('0') {
             "" => Some("0"),
             digits => Some(digits),
@@ -146,6 +160,15 @@ pub(crate) fn is_number(text: &str) -> bool {
     !text.is_empty() && text.trim_start_matches(DECIMALS).is_empty()
 }
 
+/// Whether the text is one token of the class.
+pub(crate) fn is_token(text: &str, class: Token) -> bool {
+    let mut lexer = Lexer::new(text);
+    match lexer.next() {
+        Some(Ok(token)) => token == class && lexer.slice().len() == text.len(),
+        _ => false,
+    }
+}
+
 /// The text, where it is a whole number as it is to be written.
 fn whole_number(text: &str) -> Option<&str> {
     let digits = text.strip_prefix('-').unwrap_or(text);
@@ -166,10 +189,14 @@ fn before_point(text: &str) -> Option<&str> {
     }
 }
 
-/// The number without its underscores, where it is a whole number then.
-fn beside_underscores(alloc: Global, word: &str) -> Result<Option<String>, AllocError> {
+/// The number without its underscores or blanks, where it is a whole number then; blanks part groups of three
+/// digits.
+fn beside(alloc: Global, word: &str, between: char) -> Result<Option<String>, AllocError> {
     let mut number = String::new(alloc);
-    for part in word.split('_') {
+    for part in word.split(between) {
+        if between == ' ' && !number.is_empty() && part.len() != 3 {
+            return Ok(None);
+        }
         number.push_str(part)?;
     }
     match whole_number(number.as_str()) {

@@ -1,13 +1,14 @@
 //! How a fault of a value at its type may be mended.
 use crate::author::{inside, without_percent, word_before};
 use crate::names::{missing_line, push_names, push_quoted};
-use crate::rows::{FORMS, NUMBERS, PAYLOADS, line, row_hint};
+use crate::rows::{FORMS, LISTS, NUMBERS, PAYLOADS, SIGNED, UNSIGNED, line, row_hint};
 use crate::word::word_hint;
 use std::alloc::{AllocError, Global};
 use wave_lex::error::{ParserError, ParserErrorKind};
 use wave_lex::lex::{Lexer, Span, Token};
 use wave_node::ast::{Node, NodeType};
-use wave_place::path::{type_of_case, type_of_field};
+use wave_place::path::{type_alone, type_of_case, type_of_field};
+use wave_place::place::place_of;
 use wave_wasm::keyword::Keyword;
 use wave_wasm::wasm::{WasmType, WasmTypeKind, WasmValueError};
 
@@ -36,6 +37,13 @@ pub fn hints_of<T: WasmType>(
             | (None, ParserErrorKind::InvalidValue, WasmTypeKind::Record) => {
                 return unknown_name(alloc, error, source, node, ty);
             }
+            (Some(WasmValueError::MissingField(name)), _, _) => {
+                let unknown = unknown_name(alloc, error, source, node, ty)?;
+                if unknown.mark.is_some() {
+                    return Ok(unknown);
+                }
+                lines = missing_hint(alloc, name.as_str(), source, node.span().end, ty)?;
+            }
             (Some(cause), _, _) => {
                 lines = cause_hint(alloc, cause, text_at(source, &node.span()), ty)?;
             }
@@ -49,6 +57,10 @@ pub fn hints_of<T: WasmType>(
 pub const ESCAPES: &str =
     "the escapes are \\', \\\", \\\\, \\t, \\n, \\r and \\u{..} with the hexadecimal number of a character";
 
+/// How a multiline string is written.
+const MULTILINE: &str =
+    "each line, an empty one too, begins with the spaces that stand before the closing \"\"\"; tabs are no spaces";
+
 /// What helps against a refusal of this kind, whatever is refused.
 pub fn kind_hint(kind: ParserErrorKind) -> &'static str {
     match kind {
@@ -56,6 +68,7 @@ pub fn kind_hint(kind: ParserErrorKind) -> &'static str {
         ParserErrorKind::DuplicateFlag => "a flag may be given only once",
         ParserErrorKind::DuplicateField => "a field may be given only once",
         ParserErrorKind::InvalidEscape => ESCAPES,
+        ParserErrorKind::InvalidMultilineString => MULTILINE,
         _ => "",
     }
 }
@@ -156,9 +169,47 @@ fn hint_at<T: WasmType>(
             let key = text_at(source, &error.span());
             row_hint(alloc, FORMS, key, Some(node), expected, None)
         }
-        (ParserErrorKind::InvalidType, _, _) => form_hint(alloc, text, node, ty),
+        (ParserErrorKind::InvalidType, _, _) => form_hint(alloc, source, node, ty),
         (kind, _, _) => line(alloc, kind_hint(kind), None),
     }
+}
+
+/// What helps where the record that ends at the place lacks a field.
+fn missing_hint<T: WasmType>(
+    alloc: Global,
+    name: &str,
+    source: &str,
+    end: usize,
+    ty: &T,
+) -> Result<String, AllocError> {
+    let Some(field_type) = type_of_field(alloc, ty, name)? else {
+        return Ok(String::new(alloc));
+    };
+    let mut what = String::new(alloc);
+    push_quoted(&mut what, "the field ", name)?;
+    let mut lines = missing_line(alloc, what.as_str(), field_type)?;
+    if closes_more(source) {
+        let place = place_of(source, end.saturating_sub(1));
+        let place = format!(in alloc; "{}, column {}", place.line, place.column)?;
+        let hint = "there are more } than {: this record ends at line @";
+        lines.push_str(line(alloc, hint, Some(place.as_str()))?.as_str())?;
+    }
+    Ok(lines)
+}
+
+/// Whether more braces are closed than opened.
+fn closes_more(source: &str) -> bool {
+    let mut opened = 0_usize;
+    let mut closed = 0_usize;
+    let mut lexer = Lexer::new(source);
+    while let Some(item) = lexer.next() {
+        match item {
+            Ok(Token::BraceOpen) => opened = opened.saturating_add(1),
+            Ok(Token::BraceClose) => closed = closed.saturating_add(1),
+            _ => {}
+        }
+    }
+    closed > opened
 }
 
 /// What helps where the value of this text could not be made.
@@ -169,14 +220,6 @@ fn cause_hint<T: WasmType>(
     ty: &T,
 ) -> Result<String, AllocError> {
     match cause {
-        WasmValueError::MissingField(name) => {
-            let Some(field_type) = type_of_field(alloc, ty, name.as_str())? else {
-                return Ok(String::new(alloc));
-            };
-            let mut what = String::new(alloc);
-            push_quoted(&mut what, "the field ", name.as_str())?;
-            missing_line(alloc, what.as_str(), field_type)
-        }
         WasmValueError::MissingPayload(name) => {
             let payload = match ty.result_types() {
                 Some((ok, err)) => if name.as_str() == "ok" { ok } else { err },
@@ -205,13 +248,14 @@ fn cause_hint<T: WasmType>(
 /// What helps where a value of another form is expected.
 fn form_hint<T: WasmType>(
     alloc: Global,
-    text: &str,
+    source: &str,
     node: &Node,
     ty: &T,
 ) -> Result<String, AllocError> {
     if let Some((ok, err)) = ty.result_types() {
-        return line(alloc, result_hint(ok.is_some(), err.is_some()), Some(text));
+        return result_hint(alloc, source, node, ok, err);
     }
+    let text = text_at(source, &node.span());
     let case = match case_in(alloc, text, ty)? {
         Some(word) if Keyword::decode(word).is_some() => {
             if text.starts_with(word) {
@@ -226,14 +270,44 @@ fn form_hint<T: WasmType>(
     row_hint(alloc, FORMS, text, Some(node), expected, case)
 }
 
-/// How a result is written that has these payloads.
-fn result_hint(ok: bool, err: bool) -> &'static str {
-    match (ok, err) {
-        (true, true) => "a result is written ok(@) or err(@)",
-        (true, false) => "a result is written ok(@) or err",
-        (false, true) => "a result is written ok or err(@)",
-        (false, false) => "a result is written ok or err",
-    }
+/// How a result is written that has these payloads: with the author's value, that in `some` where it is such,
+/// as each payload that may be of its form.
+fn result_hint<T: WasmType>(
+    alloc: Global,
+    source: &str,
+    node: &Node,
+    ok: Option<&T>,
+    err: Option<&T>,
+) -> Result<String, AllocError> {
+    let value = match node.as_option() {
+        Ok(Some(value)) => value,
+        _ => node,
+    };
+    let mut hint = String::from_str(alloc, "a result is written ok")?;
+    hint.push_str(payload_form(value.ty(), ok))?;
+    hint.push_str(" or err")?;
+    hint.push_str(payload_form(value.ty(), err))?;
+    line(alloc, hint.as_str(), Some(text_at(source, &value.span())))
+}
+
+/// How a payload of the type is written, with `@` for a value of this form where it may be one.
+fn payload_form<T: WasmType>(form: NodeType, payload: Option<&T>) -> &'static str {
+    let Some(ty) = payload else {
+        return "";
+    };
+    let kind = type_alone(ty).unwrap_or(ty).kind();
+    let may_be = match form {
+        NodeType::Number => UNSIGNED.contains(&kind) || SIGNED.contains(&kind),
+        NodeType::String | NodeType::MultilineString => kind == WasmTypeKind::String,
+        NodeType::Char => kind == WasmTypeKind::Char,
+        NodeType::BoolTrue | NodeType::BoolFalse => kind == WasmTypeKind::Bool,
+        NodeType::List => LISTS.contains(&kind),
+        NodeType::Tuple => kind == WasmTypeKind::Tuple,
+        NodeType::TupleSet => kind == WasmTypeKind::Record || kind == WasmTypeKind::Map,
+        NodeType::Flags => kind == WasmTypeKind::Flags,
+        _ => false,
+    };
+    if may_be { "(@)" } else { "(..)" }
 }
 
 /// The name of a case of the type that stands in quotes, before a payload or alone.

@@ -67,8 +67,8 @@ pub(crate) fn missing_line<T: WasmType>(
     Ok(line)
 }
 
-/// The first of those names that the fewest edits lead to, at most two, and fewer than the name has
-/// bytes.
+/// The first of those names that differs only in capitals; else the first of those that the fewest edits lead
+/// to, at most two, and fewer than the name has bytes.
 fn nearest<'a>(
     alloc: Global,
     name: &str,
@@ -77,6 +77,9 @@ fn nearest<'a>(
     let mut best = None;
     let mut most = MOST_EDITS.min(name.len().saturating_sub(1));
     for other in names {
+        if name.eq_ignore_ascii_case(*other) {
+            return Ok(Some(*other));
+        }
         if name.len().abs_diff(other.len()) <= MOST_EDITS {
             let edits = levenshtein(alloc, name, other)?;
             if 0 < edits && edits <= most {

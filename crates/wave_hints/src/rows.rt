@@ -1,9 +1,10 @@
 //! Hints as rows: what is met, where which types are expected, which of the author's words are shown, and
 //! what is said.
-use crate::author::{AuthorWords, is_number, push_author_words, words_of};
+use crate::author::{AuthorWords, DECIMALS, is_number, is_token, push_author_words, words_of};
 use AuthorWords::*;
 use Met::*;
 use std::alloc::{AllocError, Global};
+use wave_lex::lex::Token;
 use wave_node::ast::{Node, NodeType as Form};
 use wave_wasm::wasm::WasmTypeKind as Kind;
 
@@ -23,6 +24,10 @@ pub(crate) enum Met {
     Part(&'static [char]),
     /// Digits with a zero before them.
     LeadingZero,
+    /// Digits with a name behind them, as that of a unit.
+    Unit,
+    /// What is no number.
+    NoNumber,
 }
 
 /// A hint: what is met; the kinds of types that are expected there, or none for any; which of the author's
@@ -51,6 +56,14 @@ impl Row {
             First(scalars) => text.starts_with(*scalars),
             Part(scalars) => text.contains(*scalars),
             LeadingZero => text.len() > 1 && text.starts_with('0') && is_number(text),
+            Unit => {
+                let unit = text.trim_start_matches(DECIMALS);
+                let has_digits = unit.len() < text.len();
+                has_digits
+                    && is_token(unit, Token::LabelOrKeyword)
+                    && !is_token(text, Token::Number)
+            }
+            NoNumber => !is_token(text, Token::Number),
         };
         let is_expected = match expected {
             Some(kind) => self.1.contains(&kind),
@@ -129,13 +142,13 @@ const STRINGS: &[Form] = &[Form::String, Form::MultilineString];
 
 const CASES: &[Kind] = &[Kind::Variant, Kind::Enum];
 
-const LISTS: &[Kind] = &[Kind::List, Kind::FixedLengthList];
+pub(crate) const LISTS: &[Kind] = &[Kind::List, Kind::FixedLengthList];
 
 const BRACES: &[Kind] = &[Kind::Record, Kind::Map, Kind::Flags];
 
-const UNSIGNED: &[Kind] = &[Kind::U8, Kind::U16, Kind::U32, Kind::U64];
+pub(crate) const UNSIGNED: &[Kind] = &[Kind::U8, Kind::U16, Kind::U32, Kind::U64];
 
-const SIGNED: &[Kind] = &[Kind::S8, Kind::S16, Kind::S32, Kind::S64];
+pub(crate) const SIGNED: &[Kind] = &[Kind::S8, Kind::S16, Kind::S32, Kind::S64];
 
 /// Values of one word, which may stand in quotes.
 const WORDS: &[Form] = &[
@@ -156,23 +169,26 @@ const SWITCHES: &[&str] = &[
 
 // ---- hints
 
-const NO_NULL: &str = "there is no null: an option without a value is written none";
+const NO_NULL: &str = "there is no null; where an option is expected, write none";
 
 /// Where a value of another form is expected.
 pub(crate) const FORMS: &[Row] = rows! {
     Value(STRINGS), CASES, Case, "a case is written without quotes: @";
     Value(&[Form::VariantWithPayload]), CASES, Case, "a case of an enum has no payload: @";
+    Value(&[Form::TupleSet]), &[Kind::Variant], Nothing, "a payload is written in parentheses behind its case: name(..)";
     Any, CASES, Nothing, "";
     Value(&[Form::EmptySet]), &[Kind::Record], Nothing, "an empty record is written {:}";
     Value(&[Form::Flags]), &[Kind::Record], Nothing, "each field has a value: {name: value}";
     Value(STRINGS), &[Kind::Record], Nothing, "";
-    Start("\""), &[Kind::Record], Inside, "the name of a field is written without quotes: @";
+    Start("\""), &[Kind::Record], Label, "the name of a field is written without quotes: @";
     Any, &[Kind::Record], Nothing, "";
     Text(&["{:}"]), &[Kind::Flags], Nothing, "empty flags are written {}";
     Value(&[Form::TupleSet]), &[Kind::Flags], Nothing, "flags are names, without values: {name, name}";
     Value(&[Form::List]), &[Kind::Flags], Names, "flags are written in braces: {@}";
+    Value(&[Form::Label]), &[Kind::Flags], All, "flags are written in braces: {@}";
     Any, &[Kind::Flags], Nothing, "";
     Text(NULLS), &[], Nothing, NO_NULL;
+    Start("error("), &[], Nothing, "the error of a result is written err(..)";
     Text(SWITCHES), &[Kind::Bool], Nothing, "a bool is written true or false";
     Value(STRINGS), &[Kind::Bool], Bool, "a bool is written without quotes: @";
     Value(STRINGS), SIGNED, Number, "a number is written without quotes: @";
@@ -212,7 +228,10 @@ pub(crate) const DIGITS: &[Row] = rows! {
     Start("0o"), &[], Octal, "numbers are written in decimal, not in octal: @";
     Start("0O"), &[], Octal, "numbers are written in decimal, not in octal: @";
     Part(&['_']), &[], BesideUnderscores, "a number has no underscores: @";
+    Part(&[' ']), &[], BesideBlanks, "a number has no spaces in it: @";
     LeadingZero, &[], BehindZeros, "a number has no leading zero: @";
+    Unit, &[], All, "a number has no unit; a string is written in double quotes: \"@\"";
+    NoNumber, &[], All, "a string is written in double quotes: \"@\"";
 };
 
 /// Words that are meant for keywords.
@@ -232,10 +251,16 @@ const TOKENS: &[Row] = rows! {
     Start("\""), &[], Nothing, "the string isn't closed on its line; a string of several lines is written in \"\"\"";
     Start("'"), &[], Nothing, "a char is one character in single quotes; a string is written in double quotes";
     First(&['‘', '’', '“', '”', '„', '«', '»', '`']), &[], Nothing, "write straight quotes: \"text\", 'c'";
-    Start("+"), &[], Nothing, "a number has no plus sign";
+    Start("+"), &[], Nothing, "a number has no plus sign, and sums are not worked out";
     Start("="), &[], Nothing, "a colon stands between a name and its value: {name: value}";
-    Start(";"), &[], Nothing, "values are separated by commas";
+    Start(";"), &[], Nothing, "values are separated by commas, and a comment begins with //";
     Start("#"), &[], Nothing, "a comment begins with //";
+    Start("--"), &[], Nothing, "a comment begins with //";
+    Start("/*"), &[], Nothing, "a comment begins with // and ends with its line";
+    Start("/"), &[], Nothing, "a string is written in double quotes, and a comment begins with //";
+    Start("|"), &[], Nothing, "flags are written in braces, with commas between them: {name, name}";
+    Start("%"), &[], Nothing, "a number has no percent sign; % stands only right before a name";
+    Start("."), &[], Nothing, "a number has a digit before its point; a string is written in double quotes";
     Start("\u{feff}"), &[], Nothing, "this is a byte order mark, U+FEFF, which can't be seen";
     Start("\u{200b}"), &[], Nothing, "this is a zero-width space, U+200B, which can't be seen";
     Start("\u{200c}"), &[], Nothing, "this is a zero-width non-joiner, U+200C, which can't be seen";

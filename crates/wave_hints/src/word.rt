@@ -2,19 +2,26 @@
 ghost use Rattle.std.specs.Prelude.{ℕ, ◌≡◌, ◌≤◌, ◌<◌, ◌-◌, length, IfSome, IsTrue, ◌↔◌, slice_index};
 ghost use Rattle.wave_hints.specs.WordMarks.{IsOfWord, IsWordMark, IsName};
 
-use crate::author::DECIMALS;
+use crate::author::{DECIMALS, is_number};
 use crate::rows::{DIGITS, KEYWORDS, line, row_for, row_hint};
 use std::alloc::{AllocError, Global};
 use wave_lex::lex::Span;
 
 /// What helps with the word that holds the span; no line where the word isn't wrong.
 pub fn word_hint(alloc: Global, source: &str, span: &Span) -> Result<String, AllocError> {
-    let word = match wrong_word(source, span) {
-        Some(place) => source.get(place.start..place.end).unwrap_or(""),
-        None => return Ok(String::new(alloc)),
+    let Some(place) = wrong_word(source, span) else {
+        return Ok(String::new(alloc));
     };
+    let word = source.get(place.start..place.end).unwrap_or("");
     if word.starts_with(DECIMALS) {
-        return row_hint(alloc, DIGITS, word, None, None, None);
+        return row_hint(
+            alloc,
+            DIGITS,
+            text_around(source, place.start),
+            None,
+            None,
+            None,
+        );
     }
     let hint = row_hint(alloc, KEYWORDS, word, None, None, None)?;
     let name = kebab(alloc, word)?;
@@ -25,8 +32,50 @@ pub fn word_hint(alloc: Global, source: &str, span: &Span) -> Result<String, All
     Ok(hint)
 }
 
-/// The whole word that holds the span, where that is wrong: a number that is written otherwise, or a
-/// name or a keyword with an underscore or with letters of both cases.
+/// Before which of these an unquoted text ends.
+const ENDS: &[char] = &[
+    ' ', '\t', '\r', '\n', ',', ')', ']', '}', '(', '[', '{', '"', '\'',
+];
+
+/// Behind which of these an unquoted text begins.
+const BEGINNINGS: &[char] = &[
+    ' ', '\t', '\r', '\n', ',', ')', ']', '}', '(', '[', '{', '"', '\'', ':',
+];
+
+/// The digits of a number and the blanks between groups of them.
+const GROUPS: &[char] = &['0', '1', '2', '3', '4', '5', '6', '7', '8', '9', ' '];
+
+/// What the word at the place, which begins with a digit, is of: a number in groups of three digits, or a text
+/// without quotes.
+fn text_around(source: &str, at: usize) -> &str {
+    let before = source.get(0..at).unwrap_or("");
+    let after = source.get(at..source.len()).unwrap_or("");
+    let head = after.split_once(ENDS).unwrap_or((after, "")).0;
+    let number = before.trim_end_matches(' ');
+    if number.len() < before.len()
+        && number.ends_with(DECIMALS)
+        && head.len() == 3
+        && is_number(head)
+    {
+        let start = number
+            .trim_end_matches(DECIMALS)
+            .trim_end_matches('-')
+            .len();
+        let end = source
+            .len()
+            .saturating_sub(after.trim_start_matches(GROUPS).len());
+        return source.get(start..end).unwrap_or("").trim_end_matches(' ');
+    }
+    let start = match before.rsplit_once(BEGINNINGS) {
+        Some((_, tail)) => before.len().saturating_sub(tail.len()),
+        None => 0,
+    };
+    let end = at.saturating_add(head.trim_end_matches(':').len());
+    source.get(start..end).unwrap_or("")
+}
+
+/// The whole word that holds the span, where that is wrong: a number that is written otherwise, with a unit or
+/// as part of a text, or a name or a keyword with an underscore or with letters of both cases.
 pub fn wrong_word(source: &str, span: &Span) -> Option<Span>
     ensures { IfSome result (IsWordMark source.now span.now) }
 {
