@@ -1,2 +1,3 @@
+mod FieldByName
 pub mod MainTheorem
 pub mod OneExplanation

@@ -1,1 +1,2 @@
+pub mod FieldByName
 pub mod MainTheorem

@@ -7,7 +7,7 @@ mod point;
 use point::Point;
 use std::alloc::Global;
 use std::{env, fs};
-use wasm_wave::explain::explain;
+use wasm_wave::explain::explain_value;
 use wasm_wave::value::{IntoValue, Type, Value};
 use wasm_wave::writer::WriterError;
 use wasm_wave::{from_str, to_string};
@@ -16,7 +16,7 @@ use wasm_wave::{from_str, to_string};
 fn answer(alloc: Global, ty: &Type, text: &str) -> Result<String, WriterError> {
     let value = match from_str::<Value>(alloc, ty, text) {
         Ok(value) => value,
-        Err(error) => return Ok(explain(alloc, &error, text)?),
+        Err(error) => return Ok(explain_value(alloc, &error, text, ty)?),
     };
     let Some(point) = Point::from_value(alloc, &value)? else {
         return Ok(String::from_str(alloc, "no point\n")?);
