@@ -4,6 +4,7 @@
 pub mod call;
 mod escape;
 mod expected;
+mod indent;
 mod open;
 mod syntax;
 pub mod value;

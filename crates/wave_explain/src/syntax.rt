@@ -6,6 +6,7 @@ ghost use Rattle.wave_explain.specs.Private.Readings.{MayStandAs, TellsAs};
 
 use crate::escape::unknown_escape;
 use crate::expected::push_line;
+use crate::indent::misindented;
 use std::alloc::{AllocError, Global};
 use wave_expected::expected::{Expected, expected_at, expected_in_call_at};
 use wave_hints::hints::{ESCAPES, kind_hint};
@@ -123,7 +124,12 @@ fn syntax_hint(
     }
     let hint = whole_hint(error, source, reading);
     if !hint.is_empty() {
-        return line(alloc, hint, None);
+        let mut lines = line(alloc, hint, None)?;
+        if rest.starts_with(BEHIND_WHOLE) {
+            let why = misindented(alloc, source)?;
+            lines.push_str(line(alloc, why.as_str(), None)?.as_str())?;
+        }
+        return Ok(lines);
     }
     match error.kind() {
         ParserErrorKind::UnexpectedEnd => unclosed(alloc, source, reading),
@@ -172,6 +178,9 @@ fn whole_hint(error: &ParserError, source: &str, reading: Reading) -> &'static s
 
 /// The closing brackets.
 const CLOSING: &[char] = &['}', ']', ')'];
+
+/// What stands behind a whole value where a bracket before it is one too many.
+const BEHIND_WHOLE: &[char] = &['}', ']', ')', ','];
 
 // ---- misplaced tokens
 
@@ -257,8 +266,10 @@ fn unclosed(alloc: Global, source: &str, reading: Reading) -> Result<String, All
     };
     let bracket = source.get(span.start..span.end).unwrap_or("");
     let place = place_of(source, span.start);
+    let why = misindented(alloc, source)?;
+    let before_why = if why.is_empty() { "" } else { ": " };
     format!(in alloc;
-        "  = the {bracket} at line {}, column {} is not closed\n",
+        "  = the {bracket} at line {}, column {} is not closed{before_why}{why}\n",
         place.line, place.column
     )
 }
