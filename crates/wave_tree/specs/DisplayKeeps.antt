@@ -1,5 +1,5 @@
 -- What is kept where untyped values and calls are displayed.
-use Rattle.std.specs.Prelude.{ℕ, ◌≡◌, ◌↔◌, List}
+use Rattle.std.specs.Prelude.{ℕ, ◌≡◌, ◌↔◌, List, Some}
 use Rattle.wave_wasm.specs.Types.{TypeTree}
 use Rattle.wave_wasm.specs.Values.{Value}
 use Rattle.wave_grammar.specs.Tree.{display}
@@ -9,6 +9,7 @@ use Rattle.wave_grammar.specs.SpannedTree.{SpannedTree, slice, tree_of}
 use Rattle.wave_grammar.specs.NodeTree.{NodeTree, place_of}
 use Rattle.wave_grammar.specs.Nodes.{IsNodeOf}
 use Rattle.wave_grammar.specs.DisplayLaws.{ShowsAgain, ShowsCallAgain, MeanTheSame}
+use Rattle.wave_tree.specs.NodeDisplay.{display_at}
 use Rattle.wave_tree.specs.UntypedCall.{Called, IsCalledOf}
 
 -- the text is the display of the node's tree, spells a tree of as many levels and of the same display, and means what the node's slice means
@@ -24,3 +25,7 @@ IsCallKeptByDisplay u text =
     → (text ≡ display_call (slice u.source u.name) c.params)
     × ((again : ShowsCallAgain (slice u.source u.name) c.params)
     × ((Ts : List TypeTree) (vs : List Value) → Params Ts c.call.tokens vs ↔ Params Ts again.call.tokens vs))
+
+-- the display of the parameters of a call of any levels is kept, as that of their tuple
+abbrev pub AreParamsKeptByDisplay : Called → Type 0
+AreParamsKeptByDisplay u = (n : NodeTree) → u.params ≡ Some n → IsKeptByDisplay u.source n (display_at u.source n)

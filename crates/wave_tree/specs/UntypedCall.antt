@@ -1,5 +1,5 @@
 -- What untyped calls are in a contract, and what reading one from a text answers.
-use Rattle.std.specs.Prelude.{ℕ, ◌+◌, ◌≡◌, ◌≢◌, ◌⊎◌, ◌++◌, List, [], ◌∷◌, Option, Some, None, codes}
+use Rattle.std.specs.Prelude.{ℕ, ◌+◌, ◌≡◌, ◌≢◌, ◌⊎◌, ◌++◌, List, [], ◌∷◌, Option, Some, None, take, drop, codes}
 use Rattle.wave_wasm.specs.Types.{TypeTree}
 use Rattle.wave_wasm.specs.Values.{Value}
 use Rattle.std.specs.declared.ops.Range.{Range}
@@ -9,9 +9,9 @@ use Rattle.wave_lex.specs.LongestMatch.{IsPrefixOf}
 use Rattle.wave_lex.specs.Tokens.{any}
 use Rattle.wave_lex.specs.FunctionName.{IsName, NoName}
 use Rattle.wave_lex.specs.Tokenization.{span}
-use Rattle.wave_grammar.specs.Token.{Token}
+use Rattle.wave_grammar.specs.Token.{Token, TokenizesTo}
 use Rattle.wave_grammar.specs.Tree.{MaybeTree, no_tree, a_tree, Takes}
-use Rattle.wave_grammar.specs.Calls.{IsCall}
+use Rattle.wave_grammar.specs.Calls.{SpellsParams, IsCall}
 use Rattle.wave_grammar.specs.ParserPosition as place
 use Rattle.wave_grammar.specs.ParserPosition.{Place, TakesTokens}
 use Rattle.wave_grammar.specs.PrefixAutomaton.{value, first_item, tuple}
@@ -64,7 +64,25 @@ pub record IsCalledOf (s : List ℕ) (u : Called) : Type 0 where
   pub name : u.name ≡ span 0 call.bytes
   pub stands : ParamsStand s call.bytes u.params
 
--- the parser took a `(` and a `)`; or the tokens of a tuple that the node means, each of its items within n levels
+-- the text is a name, whitespace, the parameters, each within n levels, and whitespace; within 100 it is a call as of IsCall
+pub record IsCallWithin (n : ℕ) (s name : List ℕ) (params : MaybeTree) : Type 0 where
+  pub bytes : ℕ
+  pub tokens : List Token
+  pub named : IsName s bytes
+  pub is : name ≡ take bytes s
+  pub cut : TokenizesTo (drop bytes s) tokens
+  pub spelled : SpellsParams n tokens params
+
+-- the call keeps the text, which is a call within n levels, as IsCalledOf says of 100
+pub record IsCalledWithin (n : ℕ) (s : List ℕ) (u : Called) : Type 0 where
+  pub source : u.source ≡ s
+  pub params : MaybeTree
+  pub means : MeansParams s u.params params
+  pub call : IsCallWithin n s (slice s u.name) params
+  pub name : u.name ≡ span 0 call.bytes
+  pub stands : ParamsStand s call.bytes u.params
+
+-- the parser took the tokens of a tuple that the node means, each of its items within n levels
 pub record IsTupleTaken (n : ℕ) (old new : Place) (parsed : NodeTree) : Type 0 where
   pub read : LeadsBehindValue (n + 1) value [] old new []
   pub ty : type_of parsed ≡ kind.Tuple
@@ -75,15 +93,16 @@ pub record IsTupleTaken (n : ℕ) (old new : Place) (parsed : NodeTree) : Type 0
   pub takes : Takes (n + 1) tokens (tree_of placed) []
   pub stands : StandsBetween old new placed
 
-abbrev pub AreParamsTaken : Place → Place → Option NodeTree → Type 0
-AreParamsTaken old new None = (m : Place) × TakesClass ParenOpen old m × TakesClass ParenClose m new
-AreParamsTaken old new (Some n) = IsTupleTaken 100 old new n
+-- the parser took the parameters, each within n levels
+abbrev pub AreParamsTaken : ℕ → Place → Place → Option NodeTree → Type 0
+AreParamsTaken n old new None = (m : Place) × TakesClass ParenOpen old m × TakesClass ParenClose m new
+AreParamsTaken n old new (Some parsed) = IsTupleTaken n old new parsed
 
--- no `(` stands there; or what is after it is no `)`, and is refused where items of a tuple are expected, each within 100 levels
-abbrev pub RefusesTuple : Diagnostic → Place → Place → Type 0
-RefusesTuple e old new =
+-- no `(` stands there; or what is after it is no `)`, and is refused where items of a tuple are expected, each within n levels
+abbrev pub RefusesTuple : ℕ → Diagnostic → Place → Place → Type 0
+RefusesTuple n e old new =
     Fails (λ c. c ≡ ParenOpen) e old new
-    ⊎ ((m : Place) × TakesClass ParenOpen old m × ((q : Place) → TakesClass ParenClose m q → ⊥) × IsSyntaxError e 101 first_item (tuple ∷ []) m new)
+    ⊎ ((m : Place) × TakesClass ParenOpen old m × ((q : Place) → TakesClass ParenClose m q → ⊥) × IsSyntaxError e (n + 1) first_item (tuple ∷ []) m new)
 
 -- the text is empty, or begins with no function name
 abbrev pub NameFault : List ℕ → Diagnostic → Type 0
@@ -91,16 +110,28 @@ NameFault s e =
     (s ≡ []) × Says e UnexpectedEnd (span 0 0) None
     ⊎ ((k : ℕ) × NoName s × IsPrefixOf any s k × Says e InvalidToken (span 0 k) None)
 
--- what is wrong with the text: it begins with no name; or no parameters follow the name; or something follows them
-abbrev pub CallFault : List ℕ → Diagnostic → Type 0
-CallFault s e =
+-- what is wrong with the text: it begins with no name; or no parameters, each within n levels, follow the name; or something follows them
+abbrev pub CallFaultWithin : ℕ → List ℕ → Diagnostic → Type 0
+CallFaultWithin n s e =
     NameFault s e
-    ⊎ ((k : ℕ) × (p : Place) × IsName s k × RefusesTuple e (behind_name s k) p)
-    ⊎ ((k : ℕ) × (p : Place) × (params : Option NodeTree) × IsName s k × AreParamsTaken (behind_name s k) p params × IsTrailing e p)
+    ⊎ ((k : ℕ) × (p : Place) × IsName s k × RefusesTuple n e (behind_name s k) p)
+    ⊎ ((k : ℕ) × (p : Place) × (params : Option NodeTree) × IsName s k × AreParamsTaken n (behind_name s k) p params × IsTrailing e p)
 
--- the text is no call
+-- so within 100 levels
+abbrev pub CallFault : List ℕ → Diagnostic → Type 0
+CallFault s e = CallFaultWithin 100 s e
+
+-- the text is no call within n levels
+abbrev pub IsNoCallWithin : ℕ → List ℕ → Type 0
+IsNoCallWithin n s = (name : List ℕ) (params : MaybeTree) → IsCallWithin n s name params → ⊥
+
+-- the text is no call, so none within 100 levels
 abbrev pub IsNoCall : List ℕ → Type 0
 IsNoCall s = (name : List ℕ) (params : MaybeTree) → IsCall s name params → ⊥
+
+-- out of memory; or a fault of the text, which is no call within n levels
+abbrev pub RefusesCallWithin : ℕ → List ℕ → Diagnostic → Type 0
+RefusesCallWithin n s e = (e.kind ≢ OutOfMemory) → CallFaultWithin n s e × IsNoCallWithin n s
 
 -- out of memory; or a fault of the text, which is no call
 abbrev pub RefusesCall : List ℕ → Diagnostic → Type 0

@@ -22,7 +22,6 @@ ghost use Rattle.wave_lex.specs.Errors.{LiesInText};
 ghost use Rattle.wave_tree.specs.ParserLaws.{LiesInSource};
 
 use crate::nodes::NodeBuilder;
-use crate::parser::DEFAULT_LEVELS;
 use std::alloc::Global;
 use std::marker::Model;
 use wave_grammar::builder::Builder;
@@ -567,11 +566,15 @@ impl<'source> Tokens<'source> {
         }
     }
 
-    /// Reads the parameters of a call, each of at most 100 levels: None for `()`, else the node of a
+    /// Reads the parameters of a call, each of at most as many levels: None for `()`, else the node of a
     /// tuple. Out of memory is refused where the call began.
-    pub(crate) fn parse_params(&mut self, alloc: Global) -> Result<Option<Node>, ParserError>
-        ensures taken { IfOk result (AreParamsTaken self.old.place self.new.place) }
-        ensures refused { IfErr result (λ e. e.kind ≢ kind.OutOfMemory → RefusesTuple e self.old.place self.new.place) }
+    pub(crate) fn parse_params(
+        &mut self,
+        alloc: Global,
+        levels: u32,
+    ) -> Result<Option<Node>, ParserError>
+        ensures taken { IfOk result (AreParamsTaken levels self.old.place self.new.place) }
+        ensures refused { IfErr result (λ e. e.kind ≢ kind.OutOfMemory → RefusesTuple levels e self.old.place self.new.place) }
         ensures memory { IfErr result (λ e. StaysWithout e self.old.place self.new.place) }
         ensures within { IfErr result (λ e. LiesInText self.old.place.lexer.source e.span) }
     {
@@ -585,7 +588,7 @@ impl<'source> Tokens<'source> {
                 Err(error) => Err(error.into_error()),
             };
         }
-        match self.parse_items(alloc, NodeBuilder, DEFAULT_LEVELS, Token::ParenClose) {
+        match self.parse_items(alloc, NodeBuilder, levels, Token::ParenClose) {
             Ok(tuple) => Ok(Some(tuple)),
             Err(error) => Err(self.refuse(error.into_error(), start)),
         }

@@ -1,5 +1,5 @@
 -- The spans of refusals lie in the text.
-use Rattle.std.proofs.Common.{ℕ, ◌≡◌, ◌≢◌, Option, inl, inr, ◌≤◌, List, [], ◌∷◌, length, drop, length-drop, Some, None, Ok, Err, sym, ap, ◌∙◌, subst, arith}
+use Rattle.std.proofs.Common.{ℕ, ◌≡◌, ◌≢◌, Option, inl, inr, ◌≤◌, ◌+◌, List, [], ◌∷◌, length, drop, length-drop, Some, None, Ok, Err, sym, ap, ◌∙◌, subst, arith}
 use Rattle.std.specs.declared.ops.Range.{Range}
 use Rattle.wave_lex.specs.declared.error.ParserErrorKind.{ParserErrorKind}
 use Rattle.wave_lex.specs.declared.error.ParserErrorKind.TheVariants as kind
@@ -102,19 +102,19 @@ back_same R e x old new (same, stays) there = subst (λ (z : Diagnostic). R z ne
 -- ---- calls
 
 -- a refusal of parameters lies in the source
-pub tuple_lies : (e : Diagnostic) (p q : Place) → RefusesTuple e p q → LiesInSource p.lexer → LiesInText p.lexer.source e.span
-tuple_lies e p q (inl f) i = fails_lie (λ c. c ≡ ParenOpen) e p q f i
-tuple_lies e p q (inr (m, opens, none, refused)) i =
+pub tuple_lies : (n : ℕ) (e : Diagnostic) (p q : Place) → RefusesTuple n e p q → LiesInSource p.lexer → LiesInText p.lexer.source e.span
+tuple_lies n e p q (inl f) i = fails_lie (λ c. c ≡ ParenOpen) e p q f i
+tuple_lies n e p q (inr (m, opens, none, refused)) i =
     let b = next_inside p.lexer m.lexer (Some (Ok ParenOpen)) opens.0 i in
-    subst (λ (s : List ℕ). LiesInText s e.span) b.source (refused_lies e 101 first_item (tuple ∷ []) m q refused b.inside)
+    subst (λ (s : List ℕ). LiesInText s e.span) b.source (refused_lies e (n + 1) first_item (tuple ∷ []) m q refused b.inside)
 
 -- where parameters were taken the lexer stands in the source
-pub params_inside : (p q : Place) (o : Option NodeTree) → AreParamsTaken p q o → LiesInSource p.lexer → LiesInSource q.lexer × (q.lexer.source ≡ p.lexer.source)
-params_inside p q None (m, opens, closes) i =
+pub params_inside : (n : ℕ) (p q : Place) (o : Option NodeTree) → AreParamsTaken n p q o → LiesInSource p.lexer → LiesInSource q.lexer × (q.lexer.source ≡ p.lexer.source)
+params_inside n p q None (m, opens, closes) i =
     let a = next_inside p.lexer m.lexer (Some (Ok ParenOpen)) opens.0 i in
     let b = next_inside m.lexer q.lexer (Some (Ok ParenClose)) closes.0 a.inside in
     (b.inside, b.source ∙ a.source)
-params_inside p q (Some n) h i = tokens_inside p q h.tokens h.taken i
+params_inside n p q (Some parsed) h i = tokens_inside p q h.tokens h.taken i
 
 -- after a function name the lexer stands in the text
 pub name_inside : (s : List ℕ) (k : ℕ) → IsName s k → LiesInSource (behind_name s k).lexer
@@ -126,9 +126,9 @@ name_lies s e (inl (none, says)) = subst (LiesInText s) (sym says.stands) (omega
 name_lies s e (inr (k, none, prefix, says)) = subst (LiesInText s) (sym says.stands) (omega arith, prefix.fits)
 
 -- what follows the parameters lies in the text
-pub behind_params_lies : (s : List ℕ) (k : ℕ) (q : Place) (o : Option NodeTree) (e : Diagnostic) → IsName s k → AreParamsTaken (behind_name s k) q o → IsTrailing e q → LiesInText s e.span
-behind_params_lies s k q o e named taken trails =
-    let there = params_inside (behind_name s k) q o taken (name_inside s k named) in
+pub behind_params_lies : (n : ℕ) (s : List ℕ) (k : ℕ) (q : Place) (o : Option NodeTree) (e : Diagnostic) → IsName s k → AreParamsTaken n (behind_name s k) q o → IsTrailing e q → LiesInText s e.span
+behind_params_lies n s k q o e named taken trails =
+    let there = params_inside n (behind_name s k) q o taken (name_inside s k named) in
     subst (λ (z : List ℕ). LiesInText z e.span) there.1 (refusals_lie e q there.0 (inr trails))
 
 -- ---- lexers

@@ -6,11 +6,12 @@ ghost use Rattle.wave_grammar.specs.ErrorSpans.{HasParamsKind, IsCausedInParams}
 ghost use Rattle.wave_lex.specs.declared.error.ParserErrorKind.TheVariants.{OutOfMemory, WasmValueError};
 ghost use Rattle.wave_lex.specs.Errors.{LiesInText};
 ghost use Rattle.wave_lex.specs.FunctionName.{IsName};
-ghost use Rattle.wave_tree.specs.UntypedCall.{IsParamsOf, IsCalledOf, NameFault, RefusesCall, MemoryAtName, GivesParamsAt, RefusesParamsAt, call_display};
+ghost use Rattle.wave_tree.specs.UntypedCall.{IsParamsOf, IsCalledOf, IsCalledWithin, NameFault, RefusesCall, RefusesCallWithin, MemoryAtName, GivesParamsAt, RefusesParamsAt, call_display};
 ghost use Rattle.wave_tree.specs.Private.UntypedCall.{CallStandsIn, params_place};
-ghost use Rattle.wave_tree.specs.DisplayKeeps.{IsCallKeptByDisplay};
+ghost use Rattle.wave_tree.specs.DisplayKeeps.{IsCallKeptByDisplay, AreParamsKeptByDisplay};
+ghost use Rattle.wave_tree.specs.ParserState.{IsLimit};
 
-use crate::parser::{ParserError, ParserErrorKind};
+use crate::parser::{DEFAULT_LEVELS, ParserError, ParserErrorKind};
 use crate::tokens::Tokens;
 use crate::untyped::display::write_node;
 use std::alloc::Global;
@@ -36,12 +37,7 @@ pub fn parse_raw_func_call<'source>(
     ensures memory { IfErr result (MemoryAtName source.now) }
     ensures within { IfErr result (λ e. LiesInText source.now e.span) }
 {
-    let names = name_at(source)?;
-    let name = names.span();
-    let mut tokens = Tokens::from_lexer(names.into_lexer());
-    let params = tokens.parse_params(alloc)?;
-    tokens.finish()?;
-    Ok(UntypedFuncCall::new(source, name, params))
+    UntypedFuncCall::parse_within(alloc, source, DEFAULT_LEVELS)
 }
 
 /// The lexer after the function name at the start of the text.
@@ -104,6 +100,27 @@ impl<'source> UntypedFuncCall<'source> {
         ensures within { IfErr result (λ e. LiesInText source.now e.span) }
     {
         parse_raw_func_call(alloc, source)
+    }
+
+    /// As `parse`, but each parameter may have as many levels as handed in, from 1 to `MAX_LEVELS`, as a
+    /// value that is read by a `Parser` with this limit. The parentheses of the call are no level.
+    pub fn parse_within(
+        alloc: Global,
+        source: &'source str,
+        levels: u32,
+    ) -> Result<UntypedFuncCall<'source>, ParserError>
+        requires { IsLimit levels }
+        ensures value { IfOk result (IsCalledWithin levels source.now) }
+        ensures refused { IfErr result (RefusesCallWithin levels source.now) }
+        ensures memory { IfErr result (MemoryAtName source.now) }
+        ensures within { IfErr result (λ e. LiesInText source.now e.span) }
+    {
+        let names = name_at(source)?;
+        let name = names.span();
+        let mut tokens = Tokens::from_lexer(names.into_lexer());
+        let params = tokens.parse_params(alloc, levels)?;
+        tokens.finish()?;
+        Ok(UntypedFuncCall::new(source, name, params))
     }
 
     /// The same call with a copy of its source, where that is borrowed. Where there is no memory
@@ -243,6 +260,7 @@ impl fmt::Display for UntypedFuncCall<'_> {
     fn fmt<W: fmt::Write>(&self, f: &mut fmt::Formatter<W>) -> fmt::Result
         ensures writes { DisplaysOnOk W.write_str_gives f.old result (Some (call_display self.now)) f.new }
         ensures kept { IsCallKeptByDisplay self.now (call_display self.now) }
+        ensures params { AreParamsKeptByDisplay self.now }
     {
         let source = self.source.as_str();
         f.write_str(&source[self.name.start..self.name.end])?;
