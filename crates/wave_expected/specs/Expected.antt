@@ -101,9 +101,14 @@ pub record AreInOrder (classes : List lex.Token) : Type 0 where
 abbrev pub IsExpected : List ℕ → ℕ → ℕ → Expected → Type 0
 IsExpected source at n e = IsExpectedFrom (start_of source).lexer at (MayFollow n) (AreAValue n) e
 
--- a function name begins the source and ends at or before the place, and this is what may stand there, as the tokens after the name begin parameters
+-- a function name begins the source and ends at or before the place, and this is what may stand there, as the tokens after the name begin
+-- parameters, each within n levels
+abbrev pub IsExpectedInCallWithin : ℕ → List ℕ → ℕ → Expected → Type 0
+IsExpectedInCallWithin n source at e = (k : ℕ) × IsName source k × (k ≤ at) × IsExpectedFrom (behind_name source k).lexer at (MayFollowInCall n) (AreParams n) e
+
+-- so within 100 levels
 abbrev pub IsExpectedInCall : List ℕ → ℕ → Expected → Type 0
-IsExpectedInCall source at e = (k : ℕ) × IsName source k × (k ≤ at) × IsExpectedFrom (behind_name source k).lexer at (MayFollowInCall 100) (AreParams 100) e
+IsExpectedInCall source at e = IsExpectedInCallWithin 100 source at e
 
 -- no function name begins the source and ends at or before the place
 abbrev pub IsWithoutName : List ℕ → ℕ → Type 0

@@ -4,7 +4,7 @@ ghost use Rattle.wave_lex.specs.Tokenization.{Lexed, NextIs};
 ghost use Rattle.wave_expected.specs.Expected.{IsExpected, IsExpectedFrom, MayFollow, AreAValue, AreInOrder, open_after};
 
 use crate::expected::automaton::Automaton;
-pub use crate::expected::call::expected_in_call_at;
+pub use crate::expected::call::{expected_in_call_at, expected_in_call_within};
 use std::alloc::{AllocError, Global};
 use wave_lex::lex::{Lexer, Span, Token};
 

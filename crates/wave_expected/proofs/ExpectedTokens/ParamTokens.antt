@@ -1,5 +1,5 @@
 -- The tokens of parameters, by those of a tuple one level deeper.
-use Rattle.std.proofs.Common.{ℕ, suc, ◌≡◌, ◌≢◌, ◌<◌, ◌≤◌, inl, inr, List, [], ◌∷◌, ◌++◌, length, Option, Some, Result, Ok, Bool, true, false, refl, sym, ap, subst, ◌∙◌, arith}
+use Rattle.std.proofs.Common.{ℕ, suc, ◌≡◌, ◌≢◌, ◌<◌, ◌≤◌, ◌+◌, inl, inr, List, [], ◌∷◌, ◌++◌, length, Option, Some, Result, Ok, Bool, true, false, refl, sym, ap, subst, ◌∙◌, arith}
 use Rattle.std.specs.Prelude.{◌⊎◌, ◌↔◌, codes, map, slice_range, Contains, IsTrue}
 use Rattle.std.specs.declared.ops.Range.{Range}
 use Rattle.std.proofs.lemmas.List.Elements.{Contains-append_left, Contains-push, Contains-push_cases}
@@ -145,16 +145,19 @@ ends_in_call n source ((ParenOpen, at) ∷ (k, there) ∷ ps) b h = ends_more n 
 ends_in_call n source ((k, at) ∷ ps) b h = ((λ yes. let w : false ≡ true = yes in cc), (λ params. let is = first_is_open n k (slice_range source at.start at.end) (map (token_at source) ps) params in cc))
 
 -- what may stand in a call, by what may stand in a tuple
-pub in_call : (first : Lexed) (at : ℕ) (f : CallPrefix) (old new : Expected) → ((tokens : List Placed) → StandBefore first at tokens → f ≡ prefix_of (classes_of tokens)) → IsExpectedFrom first at (MayFollow 101) (AreAValue 101) old →
-    new.classes.items ≡ classes_in_call f old.classes.items → new.may_end ≡ end_in_call f old.may_end → new.open_brackets.items ≡ old.open_brackets.items → IsExpectedFrom first at (MayFollowInCall 100) (AreParams 100) new
-in_call first at f old new prefix h classes ends brackets =
+pub in_call : (n : ℕ) (first : Lexed) (at : ℕ) (f : CallPrefix) (old new : Expected) → ((tokens : List Placed) → StandBefore first at tokens → f ≡ prefix_of (classes_of tokens)) → IsExpectedFrom first at (MayFollow (n + 1)) (AreAValue (n + 1)) old →
+    new.classes.items ≡ classes_in_call f old.classes.items → new.may_end ≡ end_in_call f old.may_end → new.open_brackets.items ≡ old.open_brackets.items → IsExpectedFrom first at (MayFollowInCall n) (AreParams n) new
+in_call n first at f old new prefix h classes ends brackets =
     let begin = prefix h.before h.stand in
     let tokens = map (token_at first.source) h.before in
+    let more : n + 1 ≡ suc n = omega arith in
+    let follows = subst (λ m. (c : lex.Token) → Contains old.classes.items c ↔ MayFollow m tokens c) more h.classes in
+    let whole = subst (λ m. IsTrue old.may_end ↔ AreAValue m tokens) more h.end in
     record {
       before = h.before;
       stand = h.stand;
-      classes = λ c. subst (λ z. Contains z c ↔ MayFollowInCall 100 tokens c) (sym (classes ∙ ap (λ z. classes_in_call z old.classes.items) begin)) (follows_in_call 100 first.source h.before old.classes.items h.classes c);
-      end = subst (λ z. IsTrue z ↔ AreParams 100 tokens) (sym (ends ∙ ap (λ z. end_in_call z old.may_end) begin)) (ends_in_call 100 first.source h.before old.may_end h.end);
+      classes = λ c. subst (λ z. Contains z c ↔ MayFollowInCall n tokens c) (sym (classes ∙ ap (λ z. classes_in_call z old.classes.items) begin)) (follows_in_call n first.source h.before old.classes.items follows c);
+      end = subst (λ z. IsTrue z ↔ AreParams n tokens) (sym (ends ∙ ap (λ z. end_in_call z old.may_end) begin)) (ends_in_call n first.source h.before old.may_end whole);
       open_there = brackets ∙ h.open_there;
     }
 

@@ -1,7 +1,8 @@
 //! What may stand at a place of a call.
 ghost use Rattle.std.specs.Prelude.{◌≡◌, List, IfOk, MatchOption};
 ghost use Rattle.wave_lex.specs.Tokenization.{Lexed};
-ghost use Rattle.wave_expected.specs.Expected.{Placed, StandBefore, IsExpectedInCall, IsWithoutName};
+ghost use Rattle.wave_expected.specs.Expected.{Placed, StandBefore, IsExpectedInCall, IsExpectedInCallWithin, IsWithoutName};
+ghost use Rattle.wave_tree.specs.ParserState.{IsLimit};
 ghost use Rattle.wave_expected.specs.Private.CallPrefixes.{classes_of, prefix_of, classes_in_call, end_in_call};
 
 use crate::expected::{Expected, expected_from, next_before};
@@ -90,6 +91,20 @@ pub fn expected_in_call_at(
 ) -> Result<Option<Expected>, AllocError>
     ensures { IfOk result (λ found. MatchOption found (IsWithoutName source.now at) (IsExpectedInCall source.now at)) }
 {
+    expected_in_call_within(alloc, source, at, DEFAULT_LEVELS)
+}
+
+/// As `expected_in_call_at`, where a call is read as by `UntypedFuncCall::parse_within`: its values have at
+/// most `levels` levels.
+pub fn expected_in_call_within(
+    alloc: Global,
+    source: &str,
+    at: usize,
+    levels: u32,
+) -> Result<Option<Expected>, AllocError>
+    requires { IsLimit levels }
+    ensures { IfOk result (λ found. MatchOption found (IsWithoutName source.now at) (IsExpectedInCallWithin levels source.now at)) }
+{
     let Ok(names) = name_at(source) else {
         return Ok(None);
     };
@@ -97,6 +112,6 @@ pub fn expected_in_call_at(
         return Ok(None);
     }
     let first = names.into_lexer();
-    let tuple = expected_from(alloc, &first, at, DEFAULT_LEVELS + 1)?;
+    let tuple = expected_from(alloc, &first, at, levels + 1)?;
     Ok(Some(in_call(prefix_of(&first, at), tuple)?))
 }
