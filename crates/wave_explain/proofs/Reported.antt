@@ -12,7 +12,7 @@ use Rattle.wave_lex.specs.Errors.{Diagnostic}
 use Rattle.wave_lex.specs.declared.error.ParserErrorKind.{ParserErrorKind}
 use Rattle.wave_grammar.specs.NodeTree.{NodeTree}
 use Rattle.wave_grammar.specs.ErrorSpans.{LiesInNode}
-use Rattle.wave_tree.specs.UntypedCall.{Called, IsCalledOf, IsNoCall}
+use Rattle.wave_tree.specs.UntypedCall.{Called, IsCalledWithin, IsNoCallWithin}
 use Rattle.wave_explain.specs.EscapeMarks.{IsSyntaxMark}
 use Rattle.wave_explain.specs.ValueExplained.{is_of_type, ReportsPart, IsPartMark, IsUnexpected, BeginWith}
 use Rattle.wave_explain.specs.CallExplained.{name_or_number, Gives, ReportsParameter, HasNoParameter, ReportsExpectedInCall}
@@ -39,12 +39,12 @@ added (Ok u) old prefix part name mid new first same all = all ∙ (ap (λ x. x 
 added (Err e) old prefix part name mid new first same all = tt
 
 -- no parameter is reported where the kind tells no fault of type, or the source is no call
-pub no_parameter : (k : ParserErrorKind) (source : List ℕ) (types : List TypeTree) (span : Range ℕ) → (is_of_type k ≡ false) ⊎ IsNoCall source → HasNoParameter k source types span
+pub no_parameter : (k : ParserErrorKind) (source : List ℕ) (types : List TypeTree) (span : Range ℕ) → (is_of_type k ≡ false) ⊎ IsNoCallWithin 1000 source → HasNoParameter k source types span
 no_parameter k source types span (inl kind) = inl kind
 no_parameter k source types span (inr call) = inr (inl call)
 
 -- nor where none of the values that are given to the first so many parameters, which are those with a type, holds the span
-pub none_reported : (k j : ParserErrorKind) (source : List ℕ) (types : List TypeTree) (span place : Range ℕ) (call : Called) (count : ℕ) → j ≡ k → place ≡ span → IsCalledOf source call → count ≡ length types
+pub none_reported : (k j : ParserErrorKind) (source : List ℕ) (types : List TypeTree) (span place : Range ℕ) (call : Called) (count : ℕ) → j ≡ k → place ≡ span → IsCalledWithin 1000 source call → count ≡ length types
     → (is_of_type j ≡ false) ⊎ ((i : ℕ) (n : NodeTree) → Gives call i n → i < count → LiesInNode n place → ⊥) → HasNoParameter k source types span
 none_reported k j source types span place call count same_kind same_place is all none =
     subst (λ x. HasNoParameter x source types span) same_kind (subst (λ x. HasNoParameter j source types x) same_place (unreported none))

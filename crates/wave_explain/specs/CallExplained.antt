@@ -9,8 +9,8 @@ use Rattle.wave_lex.specs.declared.error.ParserErrorKind.{ParserErrorKind}
 use Rattle.wave_grammar.specs.NodeTree.{NodeTree, children_of}
 use Rattle.wave_grammar.specs.ErrorSpans.{LiesInNode}
 use Rattle.wave_expected.specs.declared.expected.Expected.{Expected}
-use Rattle.wave_expected.specs.Expected.{IsExpectedInCall, IsWithoutName}
-use Rattle.wave_tree.specs.UntypedCall.{Called, IsCalledOf, IsNoCall}
+use Rattle.wave_expected.specs.Expected.{IsExpectedInCallWithin, IsWithoutName}
+use Rattle.wave_tree.specs.UntypedCall.{Called, IsCalledWithin, IsNoCallWithin}
 use Rattle.wave_explain.specs.EscapeMarks.{IsSyntaxMark}
 use Rattle.wave_explain.specs.ValueExplained.{is_of_type, ReportsPart, IsPartMark, IsBlock, IsUnexpected, expectation, BeginWith, IsSyntaxExplained}
 
@@ -27,11 +27,11 @@ name_or_number None i = decimal (i + 1)
 abbrev pub parameter_text : List (List ℕ) → ℕ → List ℕ
 parameter_text names i = codes "parameter " ++ name_or_number (slice_get names i) i
 
--- the path names the parameter that has a type and whose value holds the span, and leads from its value to the deepest part that holds
--- the span; the first line says which type is expected there
+-- the source is a call within 1000 levels; the path names the parameter that has a type and whose value holds the span, and leads from its
+-- value to the deepest part that holds the span; the first line says which type is expected there
 pub record ReportsParameter (source : List ℕ) (f : Func) (span : Range ℕ) (path lines : List ℕ) : Type 0 where
   pub call : Called
-  pub is_call : IsCalledOf source call
+  pub is_call : IsCalledWithin 1000 source call
   pub index : ℕ
   pub value : NodeTree
   pub expected : TypeTree
@@ -47,15 +47,15 @@ abbrev pub NoValueHolds : Called → List TypeTree → Range ℕ → Type 0
 NoValueHolds call types span =
     (i : ℕ) (n : NodeTree) (T : TypeTree) → Gives call i n → slice_get types i ≡ Some T → LiesInNode n span → ⊥
 
--- no parameter is reported: the kind is no fault of type, the source is no call, or no parameter's value holds the span
+-- no parameter is reported: the kind is no fault of type, the source is no call within 1000 levels, or no parameter's value holds the span
 abbrev pub HasNoParameter : ParserErrorKind → List ℕ → List TypeTree → Range ℕ → Type 0
 HasNoParameter k source types span =
-    (is_of_type k ≡ false) ⊎ IsNoCall source ⊎ ((call : Called) × IsCalledOf source call × NoValueHolds call types span)
+    (is_of_type k ≡ false) ⊎ IsNoCallWithin 1000 source ⊎ ((call : Called) × IsCalledWithin 1000 source call × NoValueHolds call types span)
 
--- what is said of what may stand at this place behind the name of a call; nothing where it has none
+-- what is said of what may stand at this place behind the name of a call within 1000 levels; nothing where it has none
 abbrev pub ReportsExpectedInCall : List ℕ → ℕ → List ℕ → Type 0
 ReportsExpectedInCall source at said =
-    IsWithoutName source at × (said ≡ []) ⊎ ((x : Expected) × IsExpectedInCall source at x × (said ≡ expectation x.classes.items x.may_end))
+    IsWithoutName source at × (said ≡ []) ⊎ ((x : Expected) × IsExpectedInCallWithin 1000 source at x × (said ≡ expectation x.classes.items x.may_end))
 
 -- the text explains the refusal of the source, which is read as a call without types
 abbrev pub IsUntypedCallExplained : List ℕ → Diagnostic → List ℕ → Type 0

@@ -7,7 +7,7 @@ ghost use Rattle.wave_lex.specs.Errors.{error_text};
 ghost use Rattle.wave_grammar.specs.NodeTree.{NodeTree};
 ghost use Rattle.wave_grammar.specs.ErrorSpans.{LiesInNode};
 ghost use Rattle.wave_grammar.specs.TypedReading.{IsValueOf};
-ghost use Rattle.wave_tree.specs.UntypedCall.{IsCalledOf, IsNoCall};
+ghost use Rattle.wave_tree.specs.UntypedCall.{IsCalledWithin, IsNoCallWithin};
 ghost use Rattle.wave_explain.specs.EscapeMarks.{IsSyntaxMark};
 ghost use Rattle.wave_explain.specs.ValueExplained.{is_of_type, IsPartMark, IsUnexpected, BeginWith};
 ghost use Rattle.wave_explain.specs.CallExplained.{Gives, parameter_text, ReportsParameter, HasNoParameter, ReportsExpectedInCall, IsCallExplained, IsUntypedCallExplained};
@@ -22,10 +22,11 @@ use wave_lex::error::{ParserError, ParserErrorKind};
 use wave_lex::lex::Span;
 use wave_node::ast::Node;
 use wave_place::path::item_at;
+use wave_tree::parser::MAX_LEVELS;
 use wave_tree::untyped::UntypedFuncCall;
 use wave_wasm::wasm::WasmFunc;
 
-/// The refusal of a whole text as a call of the function, by `UntypedFuncCall::parse` or by
+/// The refusal of a whole text as a call of the function, by `UntypedFuncCall::parse` or `parse_within`, or by
 /// `to_wasm_params`: what `explain` shows, and beside it the path to the part of a parameter that is
 /// wrong, the type that is expected there, and hints how to mend it, on at most three lines that begin with
 /// `=`:
@@ -44,7 +45,7 @@ use wave_wasm::wasm::WasmFunc;
 /// refusal of syntax is explained as by `explain_untyped_call`, with a line for the path and the type where
 /// it is within the value of a parameter.
 ///
-/// The text is read anew, without types, for the explanation. The error, the text and the function need
+/// The text is read anew, without types, for the explanation, within `MAX_LEVELS`. The error, the text and the function need
 /// not belong together: an explanation is always made, and the only error is out of memory.
 pub fn explain_call<F: WasmFunc>(
     alloc: Global,
@@ -60,7 +61,7 @@ pub fn explain_call<F: WasmFunc>(
     }
 }
 
-/// The refusal of a text that is read as a call without types, as by `UntypedFuncCall::parse`: what
+/// The refusal of a text that is read as a call without types, by `UntypedFuncCall::parse` or `parse_within`: what
 /// `explain` shows, and beside it what might have stood there and hints how to mend it, on at most three
 /// lines that begin with `=`:
 ///
@@ -91,7 +92,7 @@ fn explain_params<F: WasmFunc>(
     call: &UntypedFuncCall<'_>,
     func: &F,
 ) -> Result<String, AllocError>
-    requires call { IsCalledOf source.now call.now }
+    requires call { IsCalledWithin 1000 source.now call.now }
     requires kind { IsUnexpected error.now.kind → ⊥ }
     ensures { IfOk result (λ text. IsCallExplained source.now (F.func func.now) error.now (string_bytes text)) }
 {
@@ -116,7 +117,7 @@ fn explain_call_alone<F: WasmFunc>(
     source: &str,
     func: &F,
 ) -> Result<String, AllocError>
-    requires { (is_of_type error.now.kind ≡ false) ⊎ IsNoCall source.now }
+    requires { (is_of_type error.now.kind ≡ false) ⊎ IsNoCallWithin 1000 source.now }
     ensures { IfOk result (λ text. IsCallExplained source.now (F.func func.now) error.now (string_bytes text)) }
 {
     let at = part_mark(source, error.span(), None).start;
@@ -130,14 +131,14 @@ fn called(
     kind: ParserErrorKind,
     source: &str,
 ) -> Result<Option<UntypedFuncCall<'_>>, AllocError>
-    ensures call { IfOk result (λ r. IfSome r (IsCalledOf source.now)) }
+    ensures call { IfOk result (λ r. IfSome r (IsCalledWithin 1000 source.now)) }
     ensures kind { IfOk result (λ r. IfSome r (λ _. IsUnexpected kind → ⊥)) }
-    ensures none { IfOk result (λ r. IfNone r ((is_of_type kind ≡ false) ⊎ IsNoCall source.now)) }
+    ensures none { IfOk result (λ r. IfNone r ((is_of_type kind ≡ false) ⊎ IsNoCallWithin 1000 source.now)) }
 {
     if !is_of_params(kind) {
         return Ok(None);
     }
-    match UntypedFuncCall::parse(alloc, source) {
+    match UntypedFuncCall::parse_within(alloc, source, MAX_LEVELS) {
         Ok(call) => Ok(Some(call)),
         Err(error) => match error.kind() {
             ParserErrorKind::OutOfMemory => Err(AllocError),
@@ -167,7 +168,7 @@ fn report_params<F: WasmFunc>(
 ) -> Result<Span, AllocError>
     requires path { string_bytes path.old ≡ [] }
     requires lines { string_bytes lines.old ≡ [] }
-    requires call { IsCalledOf source.now call.now }
+    requires call { IsCalledWithin 1000 source.now call.now }
     requires kind { IsUnexpected error.now.kind → ⊥ }
     ensures { IfOk result (λ mark. (is_of_type error.now.kind ≡ true) × ReportsParameter source.now (F.func func.now) error.now.span (string_bytes path.new) (string_bytes lines.new) × IsPartMark source.now error.now.span mark
         ⊎ (string_bytes path.new ≡ []) × HasNoParameter error.now.kind source.now (F.func func.now).params error.now.span × IsSyntaxMark source.now error.now mark

@@ -1,7 +1,7 @@
 //! The part that is open at a place of a text, also of one that can't be read.
 use crate::call::push_parameter;
 use std::alloc::{AllocError, Global};
-use wave_expected::expected::{expected_at, expected_in_call_at};
+use wave_expected::expected::{expected_at, expected_in_call_within};
 use wave_lex::error::ParserErrorKind;
 use wave_lex::lex::{Lexer, Span, Token};
 use wave_place::path::{
@@ -44,7 +44,7 @@ pub(crate) fn open_line_in_call<F: WasmFunc>(
     if !is_reported(kind) {
         return Ok(path);
     }
-    let Some(expected) = expected_in_call_at(alloc, source, at)? else {
+    let Some(expected) = expected_in_call_within(alloc, source, at, MAX_LEVELS)? else {
         return Ok(path);
     };
     let Some((first, inner)) = expected.open_brackets.as_slice().split_first() else {

@@ -8,7 +8,7 @@ use crate::escape::unknown_escape;
 use crate::expected::push_line;
 use crate::indent::misindented;
 use std::alloc::{AllocError, Global};
-use wave_expected::expected::{Expected, expected_at, expected_in_call_at};
+use wave_expected::expected::{Expected, expected_at, expected_in_call_within};
 use wave_hints::hints::{ESCAPES, kind_hint};
 use wave_hints::rows::{line, token_hint};
 use wave_hints::word::word_hint;
@@ -106,7 +106,7 @@ fn expected_in(
 {
     match reading {
         Reading::Value => Ok(Some(expected_at(alloc, source, at, MAX_LEVELS)?)),
-        Reading::Call => expected_in_call_at(alloc, source, at),
+        Reading::Call => expected_in_call_within(alloc, source, at, MAX_LEVELS),
     }
 }
 

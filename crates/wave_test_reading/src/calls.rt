@@ -2,7 +2,7 @@
 use crate::cuts::is_reported_at_each_cut;
 use crate::reading::value_at;
 use std::alloc::Global;
-use wasm_wave::parser::{ParserError, parse_raw_func_call};
+use wasm_wave::parser::{MAX_LEVELS, ParserError, parse_raw_func_call};
 use wasm_wave::untyped::{UntypedFuncCall, UntypedValue};
 use wasm_wave::value::{FuncType, Type, Value};
 use wasm_wave::wasm::{DisplayFuncArgs, DisplayFuncResults, WasmFunc, WasmValue};
@@ -15,7 +15,9 @@ pub fn call(rt: HostRuntime, name: &str, words: &[String]) -> Result<(), Stopped
     match name {
         "UntypedValue::parse" => shown(rt, UntypedValue::parse(alloc, text)),
         "parse_raw_func_call" => shown(rt, parse_raw_func_call(alloc, text)),
-        "UntypedFuncCall::parse" => shown(rt, UntypedFuncCall::parse(alloc, text)),
+        "UntypedFuncCall::parse" | "UntypedFuncCall::parse_within" => {
+            shown(rt, called(alloc, words))
+        }
         "untyped text" | "call's text" if !is_reported_at_each_cut(alloc, &Type::U8, text) => {
             Err(Stopped::NoCall)
         }
@@ -33,6 +35,16 @@ pub fn call(rt: HostRuntime, name: &str, words: &[String]) -> Result<(), Stopped
         }
         "DisplayFuncResults" => results(rt, words),
         _ => wave_test_values::call(rt, name, words),
+    }
+}
+
+/// The call that the first word is, within as many levels as the second says, if there is one.
+pub fn called(alloc: Global, words: &[String]) -> Result<UntypedFuncCall<'_>, ParserError> {
+    match word(words, 1).parse::<u32>() {
+        Ok(levels) if 1 <= levels && levels <= MAX_LEVELS => {
+            UntypedFuncCall::parse_within(alloc, word(words, 0), levels)
+        }
+        _ => UntypedFuncCall::parse(alloc, word(words, 0)),
     }
 }
 
@@ -72,7 +84,7 @@ fn owned_call(rt: HostRuntime, text: &str) -> Result<(), Stopped> {
 }
 
 /// The parameters of the call at those of the function, by what any function and any value promise.
-pub fn params_of<V: WasmValue, F: WasmFunc<Type = V::Type>>(
+fn params_of<V: WasmValue, F: WasmFunc<Type = V::Type>>(
     alloc: Global,
     func: &F,
     text: &str,

@@ -1,10 +1,10 @@
 //! What may stand at a place of a text, and refusals, as a person is shown them: with and without their type, at
 //! places of one's own, and at a function whose parameters have no names.
-use crate::calls::params_of;
-use wasm_wave::expected::{Expected, expected_at, expected_in_call_at};
+use crate::calls::called;
+use wasm_wave::expected::{Expected, expected_at, expected_in_call_at, expected_in_call_within};
 use wasm_wave::explain::{explain, explain_at, explain_call, explain_value};
 use wasm_wave::from_str;
-use wasm_wave::parser::{ParserError, ParserErrorKind};
+use wasm_wave::parser::{MAX_LEVELS, ParserError, ParserErrorKind};
 use wasm_wave::value::Value;
 use wave_test_values::answer::{Stopped, word};
 use wave_test_values::functions::{Unnamed, without_names};
@@ -27,19 +27,30 @@ fn shown(rt: HostRuntime, expected: Expected) -> Result<(), Stopped> {
     Ok(())
 }
 
-/// Prints what may stand in a value: the words are the text, how many bytes of it stand before the place, and the
-/// levels; or in a call, without levels, or `no name` where none ends by the place.
+/// Prints so what may stand in a call, or `no name`.
+fn shown_in_call(rt: HostRuntime, found: Option<Expected>) -> Result<(), Stopped> {
+    match found {
+        Some(expected) => shown(rt, expected),
+        None => Ok(print!(rt; "no name")?),
+    }
+}
+
+/// Prints what may stand in a value or a call: the words are the text, how many bytes of it stand before the place,
+/// and the levels, but of `expected_in_call_at`.
 pub fn may_stand(rt: HostRuntime, name: &str, words: &[String]) -> Result<(), Stopped> {
     let (text, at) = (word(words, 0), number(words, 1)?);
-    if name == "expected_in_call_at" {
-        return match expected_in_call_at(rt.alloc(), text, at)? {
-            Some(expected) => shown(rt, expected),
-            None => Ok(print!(rt; "no name")?),
-        };
-    }
     match word(words, 2).parse::<u32>() {
-        Ok(levels) => shown(rt, expected_at(rt.alloc(), text, at, levels)?),
-        Err(_) => Err(Stopped::NoCall),
+        _ if name == "expected_in_call_at" => {
+            shown_in_call(rt, expected_in_call_at(rt.alloc(), text, at)?)
+        }
+        Ok(levels) if name == "expected_at" => {
+            shown(rt, expected_at(rt.alloc(), text, at, levels)?)
+        }
+        Ok(levels) if 1 <= levels && levels <= MAX_LEVELS => shown_in_call(
+            rt,
+            expected_in_call_within(rt.alloc(), text, at, levels)?,
+        ),
+        _ => Err(Stopped::NoCall),
     }
 }
 
@@ -64,16 +75,23 @@ pub fn block(rt: HostRuntime, name: &str, words: &[String]) -> Result<(), Stoppe
             print!(rt; "{}", explain_at(rt.alloc(), "no", start..end, text)?)?;
             Ok(())
         }
-        "explain_call" => of_call(rt, text),
+        "explain_call" => of_call(rt, words),
         _ => of_value(rt, name, words),
     }
 }
 
-/// Prints what is shown of the refusal of the call at a function of a byte and a string that have no names.
-fn of_call(rt: HostRuntime, text: &str) -> Result<(), Stopped> {
+/// Prints what is shown of the refusal of the call, which is read as by `called`, at a function of a byte and a string
+/// that have no names.
+fn of_call(rt: HostRuntime, words: &[String]) -> Result<(), Stopped> {
     let func = without_names(rt.alloc(), "func(a: u8, b: string)")?;
-    let error = refusal(params_of::<Value, Unnamed>(rt.alloc(), &func, text))?;
-    print!(rt; "{}", explain_call(rt.alloc(), &error, text, &func)?)?;
+    let error = match called(rt.alloc(), words) {
+        Ok(call) => refusal(call.to_func_params::<Value, Unnamed>(rt.alloc(), &func))?,
+        Err(error) => refusal::<Value>(Err(error))?,
+    };
+    print!(rt;
+        "{}",
+        explain_call(rt.alloc(), &error, word(words, 0), &func)?
+    )?;
     Ok(())
 }
 

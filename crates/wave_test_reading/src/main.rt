@@ -81,7 +81,9 @@ fn call(rt: HostRuntime, name: &str, words: &[String]) -> Result<(), Stopped> {
         "as_str" | "as_record" | "accessor" | "iter_str" | "lengths" => {
             nodes::on_untyped(rt, name, word(words, 0))
         }
-        "expected_at" | "expected_in_call_at" => explained::may_stand(rt, name, words),
+        "expected_at" | "expected_in_call_at" | "expected_in_call_within" => {
+            explained::may_stand(rt, name, words)
+        }
         "explain" | "explain_value" | "explain_at" | "explain_call" => {
             explained::block(rt, name, words)
         }
