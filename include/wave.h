@@ -234,14 +234,14 @@ uint32_t wave_func_text(wave_func *handle, uint8_t *out, size_t out_length, wave
 uint32_t wave_func_tape(wave_func *handle, uint8_t *out, size_t out_length, wave_report *report);
 
 /* The tape of the call that the text means, as `f(1, "two")`: the name, and the values of the parameters, `none` for each option
-   that is left out at the end. A value has at most 100 levels.
+   that is left out at the end. The limit of levels is that of each value; the parentheses of the call are no level.
    Statuses: as wave_canonical. */
-uint32_t wave_call(wave_func *handle, const uint8_t *text, size_t text_length, uint8_t *out, size_t out_length,
-                   wave_report *report);
+uint32_t wave_call(wave_func *handle, const uint8_t *text, size_t text_length, uint32_t levels, uint8_t *out,
+                   size_t out_length, wave_report *report);
 
-/* As wave_explain, of the refusal that wave_call reports.
+/* As wave_explain, of the refusal that wave_call reports of the same text and levels.
    Statuses: as wave_explain. */
-uint32_t wave_call_explain(wave_func *handle, const uint8_t *text, size_t text_length, uint8_t *out,
+uint32_t wave_call_explain(wave_func *handle, const uint8_t *text, size_t text_length, uint32_t levels, uint8_t *out,
                            size_t out_length, wave_report *report);
 
 /* As wave_explain, of the refusal that wave_func_open reports of the same text and levels; empty where nothing is refused.

@@ -141,8 +141,8 @@ static wave_func funcs[SLOTS];
     CALL(func_open, (FIRST, LEVELS, FUNC, &it->report)) \
     CALL(func_text, (FUNC, OUT))                        \
     CALL(func_tape, (FUNC, OUT))                        \
-    CALL(call, (FUNC, SECOND, OUT))                     \
-    CALL(call_explain, (FUNC, SECOND, OUT))             \
+    CALL(call, (FUNC, SECOND, LEVELS, OUT))             \
+    CALL(call_explain, (FUNC, SECOND, LEVELS, OUT))     \
     CALL(func_explain_at, (FIRST, LEVELS, OUT))
 
 static uint32_t status_of(struct task *it) {

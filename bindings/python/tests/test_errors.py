@@ -158,9 +158,15 @@ class Texts(unittest.TestCase):
         self.assertEqual(wave.untyped(deep, levels=1000), deep)
         for levels in ({}, {"levels": 999}):
             self.assertIs(self.refused(wave.untyped, deep, **levels).kind, Kind.NESTING_TOO_DEEP)
+        func = "func(a: list<u8>)"
+        self.assertEqual(wave.loads_call(func, "f([1])", levels=2), ("f", [[1]]))
+        error = self.refused(wave.loads_call, func, "f([1])", levels=1)
+        self.assertEqual((error.kind, error.start, error.end), (Kind.NESTING_TOO_DEEP, 2, 3))
+        self.assertIs(self.refused(wave.loads_call, func, f"f({deep})", levels=1000).kind, Kind.INVALID_TYPE)
         for levels in (0, -1, 1001, 2.0, None):
-            with self.assertRaises(ValueError):
-                wave.loads("u8", "1", levels=levels)
+            for call, spelled in ((wave.loads, "u8"), (wave.loads_call, "func()")):
+                with self.assertRaises(ValueError):
+                    call(spelled, "1", levels=levels)
 
     def test_stack(self):
         """A thread of 1 MB serves 100 levels, one of 4 MB 1000."""
@@ -172,6 +178,7 @@ class Texts(unittest.TestCase):
                 told.append(wave.dumps(ty, wave.loads(ty, within)))
                 told.append(wave.untyped(deep, levels=levels))
                 told.append(self.refused(wave.loads, ty, deep, levels=levels).kind)
+                told.append(self.refused(wave.loads_call, f"func(a: {ty})", f"f({deep})", levels=levels).kind)
 
             before = threading.stack_size(megabytes << 20)
             try:
@@ -180,7 +187,7 @@ class Texts(unittest.TestCase):
                 thread.join()
             finally:
                 threading.stack_size(before)
-            self.assertEqual(told, [within, deep, Kind.INVALID_TYPE])
+            self.assertEqual(told, [within, deep, Kind.INVALID_TYPE, Kind.INVALID_TYPE])
 
 
 class Objects(unittest.TestCase):

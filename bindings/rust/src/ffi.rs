@@ -123,6 +123,7 @@ extern "C" {
         handle: *mut Raw,
         text: *const u8,
         text_length: usize,
+        levels: u32,
         out: *mut u8,
         out_length: usize,
         report: *mut Report,
@@ -131,6 +132,7 @@ extern "C" {
         handle: *mut Raw,
         text: *const u8,
         text_length: usize,
+        levels: u32,
         out: *mut u8,
         out_length: usize,
         report: *mut Report,
@@ -188,7 +190,7 @@ pub(crate) trait Kind: Sized {
 /// A type.
 pub(crate) struct OfType;
 
-/// A function's type: the texts are calls, whose values have at most 100 levels.
+/// A function's type: the texts are calls.
 pub(crate) struct OfFunc;
 
 impl Kind for OfType {
@@ -212,12 +214,12 @@ impl Kind for OfFunc {
     const TAPE: TapeCall = wave_func_tape;
 
     #[inline]
-    fn read(handle: &mut Handle<Self>, text: &str, _: u32, out: &mut [u8]) -> Ended {
-        handle.with_bytes(wave_call, text.as_bytes(), out)
+    fn read(handle: &mut Handle<Self>, text: &str, levels: u32, out: &mut [u8]) -> Ended {
+        handle.with_text(wave_call, text, levels, out)
     }
 
-    fn explain(handle: &mut Handle<Self>, text: &str, _: u32, out: &mut [u8]) -> Ended {
-        handle.with_bytes(wave_call_explain, text.as_bytes(), out)
+    fn explain(handle: &mut Handle<Self>, text: &str, levels: u32, out: &mut [u8]) -> Ended {
+        handle.with_text(wave_call_explain, text, levels, out)
     }
 }
 

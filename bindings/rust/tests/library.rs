@@ -171,6 +171,9 @@ fn levels() {
     assert_eq!(Parser::new("").with_limit(0).limit(), 1);
     assert_eq!(Parser::new("").with_limit(u32::MAX).limit(), 1000);
     assert!(UntypedValue::parse(&text(101)).is_err());
+    assert!(UntypedFuncCall::parse(&format!("f({})", text(100))).is_ok());
+    let error = UntypedFuncCall::parse(&format!("f({})", text(101))).unwrap_err();
+    assert_eq!((error.kind(), error.span()), (ParserErrorKind::NestingTooDeep, 101..102));
     assert!(Parser::new(&text(1000)).with_limit(1000).parse_raw_value().is_ok());
 }
 

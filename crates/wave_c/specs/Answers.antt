@@ -17,7 +17,7 @@ use Rattle.wave_grammar.specs.Denotes.{Means, SpellsText}
 use Rattle.wave_grammar.specs.SpannedTree.{slice}
 use Rattle.wave_grammar.specs.Tree.{Tree, display}
 use Rattle.wave_tree.specs.FromStr.{IsRead}
-use Rattle.wave_tree.specs.UntypedCall.{Called, IsCalledOf, GivesParamsAt}
+use Rattle.wave_tree.specs.UntypedCall.{Called, IsCalledWithin, GivesParamsAt}
 use Rattle.wave_tape.specs.Tape.{tape, call_tape}
 use Rattle.wave_tape.specs.TypeTape.{type_tape, func_tape}
 use Rattle.wave_place.specs.Places.{IsExplained}
@@ -108,23 +108,23 @@ FailsToExplainBy ty s f = FailsToExplainType ty f ⊎ FailsToExplain s f
 
 -- ---- calls of a function
 
--- the text is this call, which gives the function's parameters these values
-abbrev pub IsCalledAt : List ℕ → FunctionType → Called → List TypedValue → Type 0
-IsCalledAt s f call vs = IsCalledOf s call × GivesParamsAt (λ (v : TypedValue). v.tree) (λ v T. IsAt T v) (types_of f.params) s call.params vs
+-- the text is this call within n levels, which gives the function's parameters these values
+abbrev pub IsCalledAt : ℕ → List ℕ → FunctionType → Called → List TypedValue → Type 0
+IsCalledAt n s f call vs = IsCalledWithin n s call × GivesParamsAt (λ (v : TypedValue). v.tree) (λ v T. IsAt T v) (types_of f.params) s call.params vs
 
 -- the text is the call of the name, with these values
-abbrev pub IsCallOf : List ℕ → FunctionType → List ℕ → List TypedValue → Type 0
-IsCallOf s f name vs = (call : Called) × IsCalledAt s f call vs × (name ≡ slice s call.name)
+abbrev pub IsCallOf : ℕ → List ℕ → FunctionType → List ℕ → List TypedValue → Type 0
+IsCallOf n s f name vs = (call : Called) × IsCalledAt n s f call vs × (name ≡ slice s call.name)
 
 -- the tape of the call that the text is
-abbrev pub IsCallTapeAt : List ℕ → FunctionType → List ℕ → Type 0
-IsCallTapeAt s f bytes = (name : List ℕ) × (vs : List TypedValue) × IsCallOf s f name vs × (bytes ≡ call_tape name (map (λ (v : TypedValue). v.tree) vs))
+abbrev pub IsCallTapeAt : ℕ → List ℕ → FunctionType → List ℕ → Type 0
+IsCallTapeAt n s f bytes = (name : List ℕ) × (vs : List TypedValue) × IsCallOf n s f name vs × (bytes ≡ call_tape name (map (λ (v : TypedValue). v.tree) vs))
 
 -- what explains the refusal of the call; nothing where it is one
-abbrev pub IsCallExplanationAt : List ℕ → FunctionType → List ℕ → Type 0
-IsCallExplanationAt s f bytes =
-    ((e : Diagnostic) × IsRefusedCall s f e × IsCallExplained s (func_of f) e bytes)
-    ⊎ ((name : List ℕ) × (vs : List TypedValue) × IsCallOf s f name vs × (bytes ≡ []))
+abbrev pub IsCallExplanationAt : ℕ → List ℕ → FunctionType → List ℕ → Type 0
+IsCallExplanationAt n s f bytes =
+    ((e : Diagnostic) × IsRefusedCall n s f e × IsCallExplained s (func_of f) e bytes)
+    ⊎ ((name : List ℕ) × (vs : List TypedValue) × IsCallOf n s f name vs × (bytes ≡ []))
 
 -- ---- without a type
 

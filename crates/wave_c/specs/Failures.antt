@@ -13,7 +13,7 @@ use Rattle.wave_type.specs.declared.error.TypeErrorKind.TheVariants as type_kind
 use Rattle.wave_value.specs.FullTypes.{IsFull}
 use Rattle.wave_tree.specs.FromStr.{RefusesText}
 use Rattle.wave_tree.specs.Untyped.{RefusesTree}
-use Rattle.wave_tree.specs.UntypedCall.{Called, IsCalledOf, RefusesCall, RefusesParamsAt}
+use Rattle.wave_tree.specs.UntypedCall.{Called, IsCalledWithin, RefusesCallWithin, RefusesParamsAt}
 use Rattle.wave_tape.specs.Errors.{Refusal}
 use Rattle.wave_tape.specs.Decoding.{IsFirstFault}
 use Rattle.wave_tape.specs.Names.{HasTextNames}
@@ -62,13 +62,13 @@ pub record IsRefusedUntyped (n : ℕ) (s : List ℕ) (e : Diagnostic) : Type 0 w
   pub refused : RefusesTree n s e
   pub within : LiesInText s e.span
 
--- the text is no call, or not one of the function: so the refusal
-abbrev pub RefusesCallAt : FunctionType → List ℕ → Diagnostic → Type 0
-RefusesCallAt f s e = RefusesCall s e ⊎ ((call : Called) × IsCalledOf s call × RefusesParamsAt IsFull (types_of f.params) s call.name call.params e)
+-- the text is no call within n levels, or not one of the function: so the refusal
+abbrev pub RefusesCallAt : ℕ → FunctionType → List ℕ → Diagnostic → Type 0
+RefusesCallAt n f s e = RefusesCallWithin n s e ⊎ ((call : Called) × IsCalledWithin n s call × RefusesParamsAt IsFull (types_of f.params) s call.name call.params e)
 
 -- ... which isn't out of memory
-abbrev pub IsRefusedCall : List ℕ → FunctionType → Diagnostic → Type 0
-IsRefusedCall s f e = (e.kind ≢ kind.OutOfMemory) × RefusesCallAt f s e
+abbrev pub IsRefusedCall : ℕ → List ℕ → FunctionType → Diagnostic → Type 0
+IsRefusedCall n s f e = (e.kind ≢ kind.OutOfMemory) × RefusesCallAt n f s e
 
 -- the bytes are the tape of no value of the type: their first fault, in kind and place
 abbrev pub IsFaultyTape : List ℕ → TypeTree → Refusal → Type 0

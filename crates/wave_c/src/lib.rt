@@ -405,14 +405,16 @@ pub extern "C" fn wave_call(
     alloc: Global,
     handle: &mut FuncTypeHandle,
     text: &[u8],
+    levels: u32,
     out: &mut [u8],
     report: &mut Report,
 ) -> u32
-    ensures told { Tells (SaysAt (IsHeldBy (held_function_type handle.old)) (IsCallTapeAt text.now)) (FailsAt (IsHeldBy (held_function_type handle.old)) (FailsAsHandle (held_function_type handle.old)) (λ f. FailsToRead (IsRefusedCall text.now f) text.now)) out.old out.new result report.new }
+    ensures told { let n = limit_of levels in
+        Tells (SaysAt (IsHeldBy (held_function_type handle.old)) (IsCallTapeAt n text.now)) (FailsAt (IsHeldBy (held_function_type handle.old)) (FailsAsHandle (held_function_type handle.old)) (λ f. FailsToRead (IsRefusedCall n text.now f) text.now)) out.old out.new result report.new }
     ensures kept { held_function_type handle.new ≡ held_function_type handle.old }
 {
     let said = match handle.get() {
-        Some(func) => called(alloc, func, text),
+        Some(func) => called(alloc, func, text, levels),
         None => Err(Failure::Closed),
     };
     answer(out, said, report)
@@ -424,14 +426,16 @@ pub extern "C" fn wave_call_explain(
     alloc: Global,
     handle: &mut FuncTypeHandle,
     text: &[u8],
+    levels: u32,
     out: &mut [u8],
     report: &mut Report,
 ) -> u32
-    ensures told { Tells (SaysAt (IsHeldBy (held_function_type handle.old)) (IsCallExplanationAt text.now)) (FailsAt (IsHeldBy (held_function_type handle.old)) (FailsAsHandle (held_function_type handle.old)) (λ f. FailsToExplain text.now)) out.old out.new result report.new }
+    ensures told { let n = limit_of levels in
+        Tells (SaysAt (IsHeldBy (held_function_type handle.old)) (IsCallExplanationAt n text.now)) (FailsAt (IsHeldBy (held_function_type handle.old)) (FailsAsHandle (held_function_type handle.old)) (λ f. FailsToExplain text.now)) out.old out.new result report.new }
     ensures kept { held_function_type handle.new ≡ held_function_type handle.old }
 {
     let said = match handle.get() {
-        Some(func) => call_explained(alloc, func, text),
+        Some(func) => call_explained(alloc, func, text, levels),
         None => Err(Failure::Closed),
     };
     answer(out, said, report)

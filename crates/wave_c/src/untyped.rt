@@ -5,7 +5,7 @@ ghost use Rattle.wave_lex.specs.Errors.{LiesInText};
 ghost use Rattle.wave_c.specs.Answers.{IsDisplayOf, IsUntypedExplanationOf, IsCallTapeAt, IsCallExplanationAt, IsCalledAt};
 ghost use Rattle.wave_c.specs.Failures.{limit_of, IsRefusedUntyped, IsRefusedCall, RefusesCallAt, FailsToRead, FailsToExplain};
 
-use crate::answer::{parser_at, refusal_of, text_of};
+use crate::answer::{limit_of, parser_at, refusal_of, text_of};
 use crate::ended::{Argument, Failure};
 use std::alloc::Global;
 use wave_explain::call::explain_call;
@@ -56,12 +56,17 @@ fn read_untyped(alloc: Global, text: &str, levels: u32) -> Result<UntypedValue<'
 // ---- calls of a function
 
 /// The tape of the call that the text is.
-pub(crate) fn called(alloc: Global, func: &FuncType, text: &[u8]) -> Result<Vec<u8>, Failure>
-    ensures said { IfOk result (λ said. IsCallTapeAt text.now func.now said.items) }
-    ensures failed { IfErr result (FailsToRead (IsRefusedCall text.now func.now) text.now) }
+pub(crate) fn called(
+    alloc: Global,
+    func: &FuncType,
+    text: &[u8],
+    levels: u32,
+) -> Result<Vec<u8>, Failure>
+    ensures said { IfOk result (λ said. IsCallTapeAt (limit_of levels) text.now func.now said.items) }
+    ensures failed { IfErr result (FailsToRead (IsRefusedCall (limit_of levels) text.now func.now) text.now) }
 {
     let text = text_of(text, Argument::ValueText)?;
-    let (call, values) = read_call(alloc, func, text)?;
+    let (call, values) = read_call(alloc, func, text, levels)?;
     let mut tape = Vec::new(alloc);
     match encode_call(alloc, call.name(), values.as_slice(), &mut tape) {
         Ok(()) => Ok(tape),
@@ -74,12 +79,13 @@ pub(crate) fn call_explained(
     alloc: Global,
     func: &FuncType,
     text: &[u8],
+    levels: u32,
 ) -> Result<Vec<u8>, Failure>
-    ensures said { IfOk result (λ said. IsCallExplanationAt text.now func.now said.items) }
+    ensures said { IfOk result (λ said. IsCallExplanationAt (limit_of levels) text.now func.now said.items) }
     ensures failed { IfErr result (FailsToExplain text.now) }
 {
     let text = text_of(text, Argument::ValueText)?;
-    match read_call(alloc, func, text) {
+    match read_call(alloc, func, text, levels) {
         Ok(_) => Ok(Vec::new(alloc)),
         Err(error) => {
             let refusal = refusal_of(error)?;
@@ -93,11 +99,12 @@ fn read_call<'text>(
     alloc: Global,
     func: &FuncType,
     text: &'text str,
+    levels: u32,
 ) -> Result<(UntypedFuncCall<'text>, Vec<Value>), ParserError>
-    ensures called { IfOk result (λ r. IsCalledAt text.now func.now r.0 r.1.items) }
-    ensures refused { IfErr result (RefusesCallAt func.now text.now) }
+    ensures called { IfOk result (λ r. IsCalledAt (limit_of levels) text.now func.now r.0 r.1.items) }
+    ensures refused { IfErr result (RefusesCallAt (limit_of levels) func.now text.now) }
 {
-    let call = UntypedFuncCall::parse(alloc, text)?;
+    let call = UntypedFuncCall::parse_within(alloc, text, limit_of(levels))?;
     let values = call.to_func_params::<Value, FuncType>(alloc, func)?;
     Ok((call, values))
 }

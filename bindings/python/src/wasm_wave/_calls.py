@@ -27,9 +27,10 @@ def dumps(type: Union[Type, str], value: Any) -> str:
     return ty._told("wave_write", tape, len(tape), length=len(tape)).decode()
 
 
-def loads_call(func: Union[Func, str], text: str, *, bytes_for_u8: bool = False) -> tuple[str, list[Any]]:
-    """The name of a call, and its parameters at the function's type, with None for each option that is left out."""
-    name, parameters = func_of(func)._loads(text, bytes_for_u8)
+def loads_call(func: Union[Func, str], text: str, *, bytes_for_u8: bool = False, levels: int = LEVELS) -> tuple[str, list[Any]]:
+    """The name of a call, and its parameters at the function's type, with None for each option that is left out. The limit of levels
+    is that of each parameter."""
+    name, parameters = func_of(func)._loads(text, bytes_for_u8, _limit(levels))
     return name, parameters
 
 

@@ -47,12 +47,12 @@ class _Spelled:
         handle = handle_of(self._calls, self._spelling)
         return told(name, handle.reference, *arguments, length=length)
 
-    def _loads(self, text: str, bytes_for_u8: bool, *limit: int) -> Any:
-        """The object that the text means, within a limit of levels where the library takes one."""
+    def _loads(self, text: str, bytes_for_u8: bool, limit: int) -> Any:
+        """The object that the text means, within a limit of levels."""
         given = encoded(WaveError, text)
-        tape = self._ask(self._calls.read, given, len(given), *limit, length=len(given))
+        tape = self._ask(self._calls.read, given, len(given), limit, length=len(given))
         if isinstance(tape, Refusal):
-            raise refusal(WaveError, text, tape, self._told(self._calls.explain, given, len(given), *limit, length=len(given)))
+            raise refusal(WaveError, text, tape, self._told(self._calls.explain, given, len(given), limit, length=len(given)))
         return read_tape(self._decoders[bool(bytes_for_u8)], tape)
 
     def __str__(self) -> str:

@@ -5,18 +5,19 @@ use Rattle.wave_c.specs.Answers.{IsHeldBy, SaysAt, FailsAt, IsCallTapeAt}
 use Rattle.wave_c.specs.Ends.{Tells}
 use Rattle.wave_c.specs.declared.ended.Failure.{Failure}
 use Rattle.wave_c.specs.declared.ended.Failure.TheVariants.{Closed}
-use Rattle.wave_c.specs.Failures.{FailsAsHandle, IsRefusedCall, FailsToRead}
+use Rattle.wave_c.specs.Failures.{limit_of, FailsAsHandle, IsRefusedCall, FailsToRead}
 use Rattle.wave_c.proofs.Told.{told_at, told_none}
 use Rattle.wave_c.proofs.wave_call.Goals as goal
 use Rattle.wave_c.proofs.wave_call.Goals.{in-Some, in-None}
 
 pub returns-clause-told : goal.returns-clause-told
 returns-clause-told c =
+    let n = limit_of c.args.levels in
     let held = held_function_type c.args.handle.now in
     let Of = IsHeldBy held in
     let None = FailsAsHandle held in
-    let Says : FunctionType → List ℕ → Type 0 = IsCallTapeAt c.args.text.now in
-    let Fails : FunctionType → Failure → Type 0 = λ f. FailsToRead (IsRefusedCall c.args.text.now f) c.args.text.now in
+    let Says : FunctionType → List ℕ → Type 0 = IsCallTapeAt n c.args.text.now in
+    let Fails : FunctionType → Failure → Type 0 = λ f. FailsToRead (IsRefusedCall n c.args.text.now f) c.args.text.now in
     let old = c.args.out.now in
     let new = c.answer.new.out in
     let said = c.match-get.said in

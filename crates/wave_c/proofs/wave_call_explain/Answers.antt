@@ -5,17 +5,18 @@ use Rattle.wave_c.specs.Answers.{IsHeldBy, SaysAt, FailsAt, IsCallExplanationAt}
 use Rattle.wave_c.specs.Ends.{Tells}
 use Rattle.wave_c.specs.declared.ended.Failure.{Failure}
 use Rattle.wave_c.specs.declared.ended.Failure.TheVariants.{Closed}
-use Rattle.wave_c.specs.Failures.{FailsAsHandle, FailsToExplain}
+use Rattle.wave_c.specs.Failures.{limit_of, FailsAsHandle, FailsToExplain}
 use Rattle.wave_c.proofs.Told.{told_at, told_none}
 use Rattle.wave_c.proofs.wave_call_explain.Goals as goal
 use Rattle.wave_c.proofs.wave_call_explain.Goals.{in-Some, in-None}
 
 pub returns-clause-told : goal.returns-clause-told
 returns-clause-told c =
+    let n = limit_of c.args.levels in
     let held = held_function_type c.args.handle.now in
     let Of = IsHeldBy held in
     let None = FailsAsHandle held in
-    let Says : FunctionType → List ℕ → Type 0 = IsCallExplanationAt c.args.text.now in
+    let Says : FunctionType → List ℕ → Type 0 = IsCallExplanationAt n c.args.text.now in
     let Fails : FunctionType → Failure → Type 0 = λ f. FailsToExplain c.args.text.now in
     let old = c.args.out.now in
     let new = c.answer.new.out in
