@@ -32,10 +32,10 @@ list_behind E n = times (value_at E) n.0 n.1 >>= as_list
 abbrev as_fixed : List Value × List ℕ → Reading Value
 as_fixed x = Ok (value.fixed (values x.0), x.1)
 
-abbrev as_tuple : List Value × List ℕ → Reading Value
+abbrev pub as_tuple : List Value × List ℕ → Reading Value
 as_tuple x = Ok (value.tuple (values x.0), x.1)
 
-abbrev as_none : List ℕ → Reading (List Value)
+abbrev pub as_none : List ℕ → Reading (List Value)
 as_none rest = Ok ([], rest)
 
 -- ---- lemmas on readings
@@ -63,7 +63,7 @@ times_long {A = A} read (suc n) bytes xs rest e =
     let b = bind_ok (times read n a.0.1) (λ others. Ok (a.0.0 ∷ others.0, others.1)) (xs, rest) a.2 in
     ap (λ (x : List A × List ℕ). length x.0) (sym (ok_is (a.0.0 ∷ b.0.0, b.0.1) (xs, rest) b.2)) ∙ ap suc (times_long read n a.0.1 b.0.0 b.0.1 b.1)
 
-row_times : (read : List ℕ → Reading Value) (n : ℕ) (bytes : List ℕ) → 1 ≤ n → row_at read n bytes ≡ times read n bytes
+pub row_times : (read : List ℕ → Reading Value) (n : ℕ) (bytes : List ℕ) → 1 ≤ n → row_at read n bytes ≡ times read n bytes
 row_times read zero bytes some = absurd (omega (arith, some))
 row_times read (suc n) bytes some = refl
 
@@ -73,19 +73,19 @@ types_each (type_and T more) bytes =
     bind_same (value_at T bytes) (λ first. types_at more first.1 >>= λ others. Ok (first.0 ∷ others.0, others.1)) (λ first. each_at (type_list more) first.1 >>= λ others. Ok (first.0 ∷ others.0, others.1))
     (λ first. ap (λ (q : Reading (List Value)). q >>= λ others. read_as (first.0 ∷ others.0) others.1) (types_each more first.1))
 
-row_each : (Ts : Types) (bytes : List ℕ) → 1 ≤ length (type_list Ts) → type_row_at Ts bytes ≡ each_at (type_list Ts) bytes
+pub row_each : (Ts : Types) (bytes : List ℕ) → 1 ≤ length (type_list Ts) → type_row_at Ts bytes ≡ each_at (type_list Ts) bytes
 row_each no_types bytes some = absurd (omega (arith, some))
 row_each (type_and T more) bytes some = types_each (type_and T more) bytes
 
-row_none : (Ts : Types) (bytes rest : List ℕ) → type_list Ts ≡ [] → zero_at bytes ≡ Ok rest → type_row_at Ts bytes ≡ Ok ([], rest)
+pub row_none : (Ts : Types) (bytes rest : List ℕ) → type_list Ts ≡ [] → zero_at bytes ≡ Ok rest → type_row_at Ts bytes ≡ Ok ([], rest)
 row_none no_types bytes rest none e = ap (λ (q : Result (List ℕ) Fault). q >>= as_none) e
 row_none (type_and T more) bytes rest none e = absurd cc
 
-row_none_stop : (Ts : Types) (bytes : List ℕ) (x : Fault) → type_list Ts ≡ [] → zero_at bytes ≡ Err x → type_row_at Ts bytes ≡ Err x
+pub row_none_stop : (Ts : Types) (bytes : List ℕ) (x : Fault) → type_list Ts ≡ [] → zero_at bytes ≡ Err x → type_row_at Ts bytes ≡ Err x
 row_none_stop no_types bytes x none e = ap (λ (q : Result (List ℕ) Fault). q >>= as_none) e
 row_none_stop (type_and T more) bytes x none e = absurd cc
 
-types_all : (P : List (List ℕ) → Type 0) (Ts : Types) → EachNamesOfTypes P Ts → AllOf (EachNames P) (type_list Ts)
+pub types_all : (P : List (List ℕ) → Type 0) (Ts : Types) → EachNamesOfTypes P Ts → AllOf (EachNames P) (type_list Ts)
 types_all P no_types h = tt
 types_all P (type_and T more) h = (h.0, types_all P more h.1)
 

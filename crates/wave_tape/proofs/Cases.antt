@@ -32,43 +32,43 @@ use Rattle.wave_tape.proofs.Builds.{as_type, first_stopped, bind_err}
 
 -- ---- what is read behind the first part
 
-abbrev as_some : Value × List ℕ → Reading Value
+abbrev pub as_some : Value × List ℕ → Reading Value
 as_some x = Ok (value.option (a_value x.0), x.1)
 
-abbrev option_behind : TypeTree → Bool × List ℕ → Reading Value
+abbrev pub option_behind : TypeTree → Bool × List ℕ → Reading Value
 option_behind P some = cond some.0 (value_at P some.1 >>= as_some) (Ok (value.option no_value, some.1))
 
-abbrev as_payload : Value × List ℕ → Reading MaybeValue
+abbrev pub as_payload : Value × List ℕ → Reading MaybeValue
 as_payload x = Ok (a_value x.0, x.1)
 
-abbrev as_ok : MaybeValue × List ℕ → Reading Value
+abbrev pub as_ok : MaybeValue × List ℕ → Reading Value
 as_ok x = Ok (value.ok x.0, x.1)
 
-abbrev as_err : MaybeValue × List ℕ → Reading Value
+abbrev pub as_err : MaybeValue × List ℕ → Reading Value
 as_err x = Ok (value.err x.0, x.1)
 
-abbrev result_behind : MaybeType → MaybeType → Bool × List ℕ → Reading Value
+abbrev pub result_behind : MaybeType → MaybeType → Bool × List ℕ → Reading Value
 result_behind A B err = cond err.0 (payload_at B err.1 >>= as_err) (payload_at A err.1 >>= as_ok)
 
-abbrev as_case : List ℕ → MaybeValue × List ℕ → Reading Value
+abbrev pub as_case : List ℕ → MaybeValue × List ℕ → Reading Value
 as_case name x = Ok (value.variant name x.0, x.1)
 
-abbrev case_behind : Cases → List ℕ → List ℕ × List ℕ → Reading Value
+abbrev pub case_behind : Cases → List ℕ → List ℕ × List ℕ → Reading Value
 case_behind cs bytes name = case_at cs bytes name.0 name.1
 
-abbrev enum_behind : List (List ℕ) → List ℕ → List ℕ × List ℕ → Reading Value
+abbrev pub enum_behind : List (List ℕ) → List ℕ → List ℕ × List ℕ → Reading Value
 enum_behind names bytes name = cond (is_one_of names name.0) (Ok (value.enum name.0, name.1)) (Err (fault kinds.Name bytes))
 
-abbrev as_flags : List (List ℕ) × List ℕ → Reading Value
+abbrev pub as_flags : List (List ℕ) × List ℕ → Reading Value
 as_flags x = Ok (value.flags x.0, x.1)
 
-abbrev flags_behind : List (List ℕ) → ℕ × List ℕ → Reading Value
+abbrev pub flags_behind : List (List ℕ) → ℕ × List ℕ → Reading Value
 flags_behind names n = flags_at names n.0 n.1 >>= as_flags
 
-abbrev as_map : List (Leaf × Value) × List ℕ → Reading Value
+abbrev pub as_map : List (Leaf × Value) × List ℕ → Reading Value
 as_map x = Ok (value.map (entries x.0), x.1)
 
-abbrev map_behind : Simple → TypeTree → ℕ × List ℕ → Reading Value
+abbrev pub map_behind : Simple → TypeTree → ℕ × List ℕ → Reading Value
 map_behind K V n = times (pair_at (leaf_at K) (value_at V)) n.0 n.1 >>= as_map
 
 -- ---- cases
@@ -233,12 +233,12 @@ one_list (x ∷ a) (y ∷ b) e =
     leaf_same k l e = cc
 
 -- the entries that were read
-record EntriesRead (K : Simple) (V : TypeTree) (n : ℕ) (bytes : List ℕ) (pairs : List (Value × Value)) (rest : List ℕ) : Type 0 where
+pub record EntriesRead (K : Simple) (V : TypeTree) (n : ℕ) (bytes : List ℕ) (pairs : List (Value × Value)) (rest : List ℕ) : Type 0 where
   pub es : List (Leaf × Value)
   pub are : leaf_entries es ≡ pairs
   pub read : times (pair_at (leaf_at K) (value_at V)) n bytes ≡ Ok (es, rest)
 
-entries_read : (K : Simple) (V : TypeTree) (n : ℕ) (bytes : List ℕ) (pairs : List (Value × Value)) (rest : List ℕ) → times (pair_at (value_at (type.simple K)) (value_at V)) n bytes ≡ Ok (pairs, rest) → EntriesRead K V n bytes pairs rest
+pub entries_read : (K : Simple) (V : TypeTree) (n : ℕ) (bytes : List ℕ) (pairs : List (Value × Value)) (rest : List ℕ) → times (pair_at (value_at (type.simple K)) (value_at V)) n bytes ≡ Ok (pairs, rest) → EntriesRead K V n bytes pairs rest
 entries_read K V n bytes pairs rest e =
     let a = bind_ok (times (pair_at (leaf_at K) (value_at V)) n bytes) (λ x. Ok (leaf_entries x.0, x.1)) (pairs, rest) (sym (times_keyed K V n bytes) ∙ e) in
     let same = ok_is (leaf_entries a.0.0, a.0.1) (pairs, rest) a.2 in
@@ -248,7 +248,7 @@ entries_read K V n bytes pairs rest e =
       read = a.1 ∙ ap (λ (s : List ℕ). read_as a.0.0 s) (ap (λ (x : List (Value × Value) × List ℕ). x.1) same);
     }
 
-entries_err : (K : Simple) (V : TypeTree) (n : ℕ) (bytes : List ℕ) (x : Fault) → times (pair_at (value_at (type.simple K)) (value_at V)) n bytes ≡ Err x → times (pair_at (leaf_at K) (value_at V)) n bytes ≡ Err x
+pub entries_err : (K : Simple) (V : TypeTree) (n : ℕ) (bytes : List ℕ) (x : Fault) → times (pair_at (value_at (type.simple K)) (value_at V)) n bytes ≡ Err x → times (pair_at (leaf_at K) (value_at V)) n bytes ≡ Err x
 entries_err K V n bytes x e = bind_err (times (pair_at (leaf_at K) (value_at V)) n bytes) (λ y. (leaf_entries y.0, y.1)) x (sym (times_keyed K V n bytes) ∙ e)
 
 -- ---- values of one part or of names
@@ -345,15 +345,15 @@ module _ {S : Type 0} (tree : S → Value) (of : S → TypeTree → Type 0) (Ful
   result_stopped T A B bytes s is h =
       first_stopped tree of Full parts T (type.result (maybe_type A) (maybe_type B)) bytes s (choice_at bytes) (result_behind (maybe_type A) (maybe_type B)) is refl h
 
-  option_again : (A : Option TypeTree) → type_option (maybe_type A) ≡ A
+  pub option_again : (A : Option TypeTree) → type_option (maybe_type A) ≡ A
   option_again None = refl
   option_again (Some T) = refl
 
-  ok_full : (A : Option TypeTree) (more : List TypeTree) → AllOf Full (payload_and (maybe_type A) more) → IsFullOption Full A
+  pub ok_full : (A : Option TypeTree) (more : List TypeTree) → AllOf Full (payload_and (maybe_type A) more) → IsFullOption Full A
   ok_full None more h = tt
   ok_full (Some T) more h = h.0
 
-  err_full : (A B : Option TypeTree) → AllOf Full (payload_and (maybe_type A) (payload_and (maybe_type B) [])) → IsFullOption Full B
+  pub err_full : (A B : Option TypeTree) → AllOf Full (payload_and (maybe_type A) (payload_and (maybe_type B) [])) → IsFullOption Full B
   err_full None B h = ok_full B [] h
   err_full (Some T) B h = ok_full B [] h.1
 

@@ -17,3 +17,11 @@ pub mod Cases
 pub mod Records
 pub mod Depths
 pub mod Whole
+pub mod TypedReadings
+pub mod WrittenReadings
+pub mod WrittenRows
+pub mod WrittenMaps
+pub mod WrittenCases
+pub mod WrittenParts
+pub mod WrittenLeaves
+pub mod PlainTexts

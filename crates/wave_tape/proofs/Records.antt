@@ -27,13 +27,13 @@ use Rattle.wave_tape.proofs.Builds.{as_type}
 
 -- ---- what is read
 
-abbrev as_fields : List (List ℕ × Value) × List ℕ → Reading FieldValues
+abbrev pub as_fields : List (List ℕ × Value) × List ℕ → Reading FieldValues
 as_fields x = Ok (field_values x.0, x.1)
 
 abbrev as_record : FieldValues × List ℕ → Reading Value
 as_record x = Ok (value.record_value x.0, x.1)
 
-abbrev no_fields_left : List ℕ → Reading FieldValues
+abbrev pub no_fields_left : List ℕ → Reading FieldValues
 no_fields_left rest = Ok (value.no_fields, rest)
 
 one_more : (name : List ℕ) (v : Value) (q : Reading (List (List ℕ × Value))) → ((q >>= as_fields) >>= λ others. read_as (value.field name v others.0) others.1) ≡ ((q >>= λ others. read_as ((name, v) ∷ others.0) others.1) >>= as_fields)
@@ -52,15 +52,15 @@ fields_each (type.field name T more) bytes = by (value_at T bytes) (λ rest. fie
         ∙ one_more name x.0 (each_field_at (type.field_list more) x.1)
     by (Err f) rest = refl
 
-row_each : (fs : Fields) (bytes : List ℕ) → 1 ≤ length (type.field_list fs) → field_row_at fs bytes ≡ (each_field_at (type.field_list fs) bytes >>= as_fields)
+pub row_each : (fs : Fields) (bytes : List ℕ) → 1 ≤ length (type.field_list fs) → field_row_at fs bytes ≡ (each_field_at (type.field_list fs) bytes >>= as_fields)
 row_each type.no_fields bytes some = absurd (omega (arith, some))
 row_each (type.field name T more) bytes some = fields_each (type.field name T more) bytes
 
-row_none : (fs : Fields) (bytes rest : List ℕ) → type.field_list fs ≡ [] → zero_at bytes ≡ Ok rest → field_row_at fs bytes ≡ Ok (value.no_fields, rest)
+pub row_none : (fs : Fields) (bytes rest : List ℕ) → type.field_list fs ≡ [] → zero_at bytes ≡ Ok rest → field_row_at fs bytes ≡ Ok (value.no_fields, rest)
 row_none type.no_fields bytes rest none e = ap (λ (q : Result (List ℕ) Fault). q >>= no_fields_left) e
 row_none (type.field name T more) bytes rest none e = absurd cc
 
-row_none_stop : (fs : Fields) (bytes : List ℕ) (x : Fault) → type.field_list fs ≡ [] → zero_at bytes ≡ Err x → field_row_at fs bytes ≡ Err x
+pub row_none_stop : (fs : Fields) (bytes : List ℕ) (x : Fault) → type.field_list fs ≡ [] → zero_at bytes ≡ Err x → field_row_at fs bytes ≡ Err x
 row_none_stop type.no_fields bytes x none e = ap (λ (q : Result (List ℕ) Fault). q >>= no_fields_left) e
 row_none_stop (type.field name T more) bytes x none e = absurd cc
 
@@ -73,11 +73,11 @@ list_names : (fs : Fields) → first_names (type.field_list fs) ≡ field_names 
 list_names type.no_fields = refl
 list_names (type.field name T more) = ap (λ (l : List (List ℕ)). name ∷ l) (list_names more)
 
-fields_all : (P : List (List ℕ) → Type 0) (fs : Fields) → EachNamesOfFields P fs → AllOf (λ f. EachNames P f.1) (type.field_list fs)
+pub fields_all : (P : List (List ℕ) → Type 0) (fs : Fields) → EachNamesOfFields P fs → AllOf (λ f. EachNames P f.1) (type.field_list fs)
 fields_all P type.no_fields h = tt
 fields_all P (type.field name T more) h = (h.0, fields_all P more h.1)
 
-full_all : (Full : TypeTree → Type 0) (fs : List (List ℕ × TypeTree)) → AllOf Full (map (λ f. f.1) fs) → AllOf (λ f. Full f.1) fs
+pub full_all : (Full : TypeTree → Type 0) (fs : List (List ℕ × TypeTree)) → AllOf Full (map (λ f. f.1) fs) → AllOf (λ f. Full f.1) fs
 full_all Full [] h = tt
 full_all Full (f ∷ fs) h = (h.0, full_all Full fs h.1)
 

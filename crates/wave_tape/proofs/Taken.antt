@@ -281,11 +281,11 @@ mutual
 
 -- ---- a whole tape
 
-end_is : (v w : Value) (rest : List ℕ) → end_at v rest ≡ Ok w → (rest ≡ []) × (v ≡ w)
+pub end_is : (v w : Value) (rest : List ℕ) → end_at v rest ≡ Ok w → (rest ≡ []) × (v ≡ w)
 end_is v w [] e = (refl, ok_is v w e)
 end_is v w (b ∷ rest) e = absurd cc
 
-passed : {A : Type 0} (b : Bool) (r : Result A Fault) (f : Fault) (v : A) → cond b r (Err f) ≡ Ok v → (b ≡ true) × (r ≡ Ok v)
+pub passed : {A : Type 0} (b : Bool) (r : Result A Fault) (f : Fault) (v : A) → cond b r (Err f) ≡ Ok v → (b ≡ true) × (r ≡ Ok v)
 passed true r f v e = (refl, e)
 passed false r f v e = absurd cc
 

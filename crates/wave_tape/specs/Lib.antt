@@ -4,5 +4,6 @@ pub mod Names
 pub mod Reading
 pub mod Errors
 pub mod Decoding
+pub mod Writing
 pub mod Laws
 pub mod Private

@@ -1,4 +1,5 @@
 pub mod Kinds
 pub mod Readers
 pub mod Rows
+pub mod TextWriters
 pub mod Writers

@@ -440,7 +440,7 @@ fn read_flags<'a, V: WasmValue>(
 }
 
 /// This many of the names, in their order.
-fn read_names<'a, 'name>(
+pub(crate) fn read_names<'a, 'name>(
     alloc: Global,
     names: &[&'name str],
     count: u64,
@@ -528,7 +528,7 @@ fn built<'a, V>(made: Result<V, WasmValueError>, rest: &'a [u8]) -> Result<(V, &
 }
 
 /// Why a value behind which this many bytes are left is refused.
-fn refusal(cause: WasmValueError, left: usize) -> Stop
+pub(crate) fn refusal(cause: WasmValueError, left: usize) -> Stop
     ensures { IsRefusal cause result }
 {
     match cause {

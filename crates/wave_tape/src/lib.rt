@@ -7,3 +7,5 @@ pub mod encode;
 pub mod encode_type;
 pub mod error;
 pub mod laws;
+pub(crate) mod plain;
+pub mod write;
