@@ -10,8 +10,8 @@ use crate::ended::{Argument, Failure};
 use std::alloc::Global;
 use wave_explain::value::explain_value;
 use wave_lex::error::{ParserError, ParserErrorKind};
-use wave_tape::decode::decode;
 use wave_tape::encode::encode;
+use wave_tape::write::write;
 use wave_tree::parser::{DEFAULT_LEVELS, MAX_LEVELS, Parser};
 use wave_type::ty::Type;
 use wave_value::value::Value;
@@ -75,7 +75,7 @@ pub(crate) fn canonical(
     ensures failed { IfErr result (FailsToRead (IsRefusedAt (limit_of levels) text.now ty.now) text.now) }
 {
     let value = value_at(alloc, ty, text, levels)?;
-    shown(alloc, &value)
+    canonical_text(alloc, &value)
 }
 
 /// Its tape.
@@ -97,8 +97,8 @@ pub(crate) fn written(alloc: Global, ty: &Type, tape: &[u8]) -> Result<Vec<u8>, 
     ensures said { IfOk result (λ said. IsWrittenAt tape.now ty.now said.items) }
     ensures failed { IfErr result (FailsToWrite tape.now ty.now) }
 {
-    let value = decode::<Value>(alloc, ty, tape)?;
-    shown(alloc, &value)
+    let said = write::<Value>(alloc, ty, tape)?;
+    Ok(said.into_bytes())
 }
 
 /// What explains the refusal of the text at the type; nothing where it isn't refused.
@@ -142,7 +142,7 @@ fn read(alloc: Global, ty: &Type, text: &str, levels: u32) -> Result<Value, Pars
 }
 
 /// The canonical text of the value.
-fn shown(alloc: Global, value: &Value) -> Result<Vec<u8>, Failure>
+fn canonical_text(alloc: Global, value: &Value) -> Result<Vec<u8>, Failure>
     ensures said { IfOk result (λ said. said.items ≡ text value.now.tree) }
     ensures writable { IfOk result (λ _. has_text value.now.tree ≡ true) }
     ensures failed { IfErr result FailsForMemory }
