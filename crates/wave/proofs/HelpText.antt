@@ -1,34 +1,128 @@
--- What the help has within it: where each part begins is computed.
-use Rattle.std.proofs.Common.{ℕ, zero, suc, ◌≡◌, ◌+◌, List, [], ◌∷◌, ◌++◌, length, take, drop, refl}
-use Rattle.std.specs.Prelude.{if◌then◌else◌}
-use Rattle.std.specs.Str.{bytes_eq}
-use Rattle.std.specs.Str.Iter.{HasSubslice}
-use Rattle.wave_wasm.specs.Lists.{AllOf}
-use Rattle.wave.specs.declared.help.TheConstants.{HELP}
-use Rattle.wave.specs.Help.{forms, sample_row, IsHelp}
+-- The constants are the help and the pages; and which arguments ask for none.
+use Rattle.std.proofs.Common.{ℕ, ◌≡◌, ◌≢◌, ◌⊎◌, List, [], ◌∷◌, ◌++◌, Option, Some, None, MatchOption, map, length, drop, get_or, refl, inl, inr, sym, ap, subst, arith, codes}
+use Rattle.wave.specs.declared.help.TheConstants.{HELP, VALUE_PAGE, CALL_PAGE, READ_PAGE, COMPLETIONS_PAGE}
+use Rattle.wave.specs.Completions.{IsScript, HasNoScript}
+use Rattle.wave.specs.Help.{forms, sample_row, reader_parts, IsHelp, IsValuePage, IsCallPage, IsReadPage, IsCompletionsPage, IsPage, HasNoPage, IsNotice, IsNoNotice}
 use Rattle.wave.specs.Types.{samples}
+use Rattle.wave.proofs.Within.{all_within}
 
--- before how many bytes the part begins, where the text has it
-abbrev place : List ℕ → List ℕ → ℕ
-place part [] = zero
-place part (byte ∷ text) = if bytes_eq (take (length part) (byte ∷ text)) part then zero else suc (place part text)
-
--- it stands there
-abbrev IsSplit : List ℕ → List ℕ → Type 0
-IsSplit text part = text ≡ take (place part text) text ++ (part ++ drop (place part text + length part) text)
-
-all_within : {A : Type 0} (text : List ℕ) (part_of : A → List ℕ) (xs : List A) → AllOf (λ x. IsSplit text (part_of x)) xs → AllOf (λ x. HasSubslice text (part_of x)) xs
-all_within text part_of [] split = tt
-all_within text part_of (x ∷ xs) (here, more) =
-    let part = part_of x in
-    ((take (place part text) text, drop (place part text + length part) text, here), all_within text part_of xs more)
-
--- the constant is the help
 pub help_is : IsHelp HELP.now
 help_is = record {
   is_constant = refl;
   rest = drop 89 HELP.now;
   begins = refl;
-  has_forms = all_within HELP.now (λ part. part) forms (refl, (refl, (refl, (refl, (refl, (refl, (refl, (refl, (refl, (refl, tt))))))))));
+  has_forms = all_within HELP.now (λ part. part) forms (refl, (refl, (refl, (refl, (refl, (refl, (refl, (refl, (refl, (refl, (refl, (refl, tt))))))))))));
   has_samples = all_within HELP.now sample_row samples (refl, (refl, (refl, (refl, (refl, (refl, (refl, tt)))))));
 }
+
+pub value_page_is : IsValuePage VALUE_PAGE.now
+value_page_is = record {
+  is_constant = refl;
+  rest = drop 42 VALUE_PAGE.now;
+  begins = refl;
+  has_parts = all_within VALUE_PAGE.now (λ part. part) (codes "\nN " ∷ reader_parts) (refl, (refl, (refl, (refl, (refl, (refl, (refl, (refl, tt))))))));
+}
+
+pub call_page_is : IsCallPage CALL_PAGE.now
+call_page_is = record {
+  is_constant = refl;
+  rest = drop 44 CALL_PAGE.now;
+  begins = refl;
+  has_parts = all_within CALL_PAGE.now (λ part. part) (codes "\nFUNC " ∷ reader_parts) (refl, (refl, (refl, (refl, (refl, (refl, (refl, (refl, tt))))))));
+}
+
+pub read_page_is : IsReadPage READ_PAGE.now
+read_page_is = record {
+  is_constant = refl;
+  rest = drop 46 READ_PAGE.now;
+  begins = refl;
+  has_parts = all_within READ_PAGE.now (λ part. part) (codes "\nNAME " ∷ codes "\nN " ∷ (map sample_row samples ++ reader_parts))
+      (refl, (refl, (refl, (refl, (refl, (refl, (refl, (refl, (refl, (refl, (refl, (refl, (refl, (refl, (refl, (refl, tt))))))))))))))));
+}
+
+pub completions_page_is : IsCompletionsPage COMPLETIONS_PAGE.now
+completions_page_is = record {
+  is_constant = refl;
+  rest = drop 30 COMPLETIONS_PAGE.now;
+  begins = refl;
+  has_parts = all_within COMPLETIONS_PAGE.now (λ part. part) (codes "\nbash " ∷ codes "\nzsh " ∷ codes "\nfish " ∷ []) (refl, (refl, (refl, tt)));
+}
+
+-- the first of two arguments, and the second
+first_is : (a b x y : List ℕ) → a ∷ b ∷ [] ≡ x ∷ y ∷ [] → a ≡ x
+first_is a b x y is = ap (λ ws. get_or ws 0 []) is
+
+second_is : (a b x y : List ℕ) → a ∷ b ∷ [] ≡ x ∷ y ∷ [] → b ≡ y
+second_is a b x y is = ap (λ ws. get_or ws 1 []) is
+
+-- two arguments ask for nothing where no page and no script goes with them
+no_notice : (a b : List ℕ)
+    → (a ≡ codes "help" → HasNoPage b) → ((b ≡ codes "--help") ⊎ (b ≡ codes "-h") → HasNoPage a) → (a ≡ codes "completions" → HasNoScript b)
+    → IsNoNotice (a ∷ b ∷ [])
+no_notice a b by_help by_option by_shell said (inl (inl is, help)) = absurd (omega (arith, ap length is))
+no_notice a b by_help by_option by_shell said (inl (inr (inl is), help)) = absurd (omega (arith, ap length is))
+no_notice a b by_help by_option by_shell said (inl (inr (inr is), help)) = absurd (omega (arith, ap length is))
+no_notice a b by_help by_option by_shell said (inr (inl (inl is, version))) = absurd (omega (arith, ap length is))
+no_notice a b by_help by_option by_shell said (inr (inl (inr (inl is), version))) = absurd (omega (arith, ap length is))
+no_notice a b by_help by_option by_shell said (inr (inl (inr (inr is), version))) = absurd (omega (arith, ap length is))
+no_notice a b by_help by_option by_shell said (inr (inr (inl (command, inl is, page)))) =
+    by_help (first_is a b _ _ is) said (subst (λ w. IsPage w said) (sym (second_is a b _ _ is)) page)
+no_notice a b by_help by_option by_shell said (inr (inr (inl (command, inr (inl is), page)))) =
+    by_option (inl (second_is a b _ _ is)) said (subst (λ w. IsPage w said) (sym (first_is a b _ _ is)) page)
+no_notice a b by_help by_option by_shell said (inr (inr (inl (command, inr (inr is), page)))) =
+    by_option (inr (second_is a b _ _ is)) said (subst (λ w. IsPage w said) (sym (first_is a b _ _ is)) page)
+no_notice a b by_help by_option by_shell said (inr (inr (inr (shell, is, script)))) =
+    by_shell (first_is a b _ _ is) said (subst (λ w. IsScript w said) (sym (second_is a b _ _ is)) script)
+
+-- a word that is no option asks for no page
+no_option : (a b : List ℕ) → (b ≢ codes "--help") → (b ≢ codes "-h") → (b ≡ codes "--help") ⊎ (b ≡ codes "-h") → HasNoPage a
+no_option a b long short (inl is) = absurd (long is)
+no_option a b long short (inr is) = absurd (short is)
+
+-- an option is no command and no shell
+option_has_no_page : (b : List ℕ) → (b ≡ codes "--help") ⊎ (b ≡ codes "-h") → HasNoPage b
+option_has_no_page b option said page = of_length (length_of option) page where
+  length_of : (b ≡ codes "--help") ⊎ (b ≡ codes "-h") → (length b ≡ 6) ⊎ (length b ≡ 2)
+  length_of (inl is) = inl (ap length is)
+  length_of (inr is) = inr (ap length is)
+
+  of_length : (length b ≡ 6) ⊎ (length b ≡ 2) → IsPage b said → ⊥
+  of_length fits (inl (is, page)) = absurd (omega (arith, fits, ap length is))
+  of_length fits (inr (inl (is, page))) = absurd (omega (arith, fits, ap length is))
+  of_length fits (inr (inr (inl (is, page)))) = absurd (omega (arith, fits, ap length is))
+  of_length fits (inr (inr (inr (is, page)))) = absurd (omega (arith, fits, ap length is))
+
+option_has_no_script : (b : List ℕ) → (b ≡ codes "--help") ⊎ (b ≡ codes "-h") → HasNoScript b
+option_has_no_script b option said script = of_length (length_of option) script where
+  length_of : (b ≡ codes "--help") ⊎ (b ≡ codes "-h") → (length b ≡ 6) ⊎ (length b ≡ 2)
+  length_of (inl is) = inl (ap length is)
+  length_of (inr is) = inr (ap length is)
+
+  of_length : (length b ≡ 6) ⊎ (length b ≡ 2) → IsScript b said → ⊥
+  of_length fits (inl (is, script)) = absurd (omega (arith, fits, ap length is))
+  of_length fits (inr (inl (is, script))) = absurd (omega (arith, fits, ap length is))
+  of_length fits (inr (inr (is, script))) = absurd (omega (arith, fits, ap length is))
+
+-- the two commands that take a word
+not_both : (a : List ℕ) → a ≡ codes "help" → a ≡ codes "completions" → ⊥
+not_both a help completions = absurd (omega (arith, ap length help, ap length completions))
+
+module _ {S : Type 0} (text : S → List ℕ) (a b : List ℕ) where
+  -- by an option behind a command its page is asked for
+  pub asked_by_option : (found : Option S) → (b ≡ codes "--help") ⊎ (b ≡ codes "-h") → MatchOption found (HasNoPage a) (λ s. IsPage a (text s))
+      → MatchOption found (IsNoNotice (a ∷ b ∷ [])) (λ s. IsNotice (a ∷ b ∷ []) (text s))
+  asked_by_option (Some s) (inl is) page = inr (inr (inl (a, inr (inl (ap (λ w. a ∷ w ∷ []) is)), page)))
+  asked_by_option (Some s) (inr is) page = inr (inr (inl (a, inr (inr (ap (λ w. a ∷ w ∷ []) is)), page)))
+  asked_by_option None option none = no_notice a b (λ _. option_has_no_page b option) (λ _. none) (λ _. option_has_no_script b option)
+
+  -- by `help` before it too
+  pub asked_by_help : (found : Option S) → a ≡ codes "help" → (b ≢ codes "--help") → (b ≢ codes "-h") → MatchOption found (HasNoPage b) (λ s. IsPage b (text s))
+      → MatchOption found (IsNoNotice (a ∷ b ∷ [])) (λ s. IsNotice (a ∷ b ∷ []) (text s))
+  asked_by_help (Some s) is long short page = inr (inr (inl (b, inl (ap (λ w. w ∷ b ∷ []) is), page)))
+  asked_by_help None is long short none = no_notice a b (λ _. none) (no_option a b long short) (λ other. absurd (not_both a is other))
+
+  -- by `completions` before a shell its script is asked for
+  pub asked_by_shell : (found : Option S) → a ≡ codes "completions" → (b ≢ codes "--help") → (b ≢ codes "-h") → MatchOption found (HasNoScript b) (λ s. IsScript b (text s))
+      → MatchOption found (IsNoNotice (a ∷ b ∷ [])) (λ s. IsNotice (a ∷ b ∷ []) (text s))
+  asked_by_shell (Some s) is long short script = inr (inr (inr (b, ap (λ w. w ∷ b ∷ []) is, script)))
+  asked_by_shell None is long short none = no_notice a b (λ other. absurd (not_both a other is)) (no_option a b long short) (λ _. none)

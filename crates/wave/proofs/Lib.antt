@@ -12,4 +12,6 @@ pub mod Options
 pub mod OneLine
 pub mod Misused
 pub mod Nearest
+pub mod Within
+pub mod Scripts
 pub mod HelpText

@@ -2,8 +2,11 @@
 use Rattle.std.proofs.Common.{ℕ, suc, zero, ◌≡◌, ◌≢◌, ◌≤◌, ◌<◌, ◌⊎◌, ◌∙◌, List, [], ◌∷◌, ◌++◌, String, Global, Result, Ok, Err, IfOk, Option, Some, None, MatchOption, string_bytes, map, get_or, length, refl, inl, inr, sym, ap, subst, arith, codes}
 use Rattle.wave_wasm.specs.Types.{TypeTree}
 use Rattle.wave.specs.declared.request.Request.TheVariants.{Value, Call, CallAt, Read}
+use Rattle.wave.specs.Commands.{command_names, paged_names}
+use Rattle.wave.specs.Completions.{IsScript, HasNoScript}
+use Rattle.wave.specs.Help.{IsPage, HasNoPage}
 use Rattle.wave.specs.Lines.{line}
-use Rattle.wave.specs.Misuse.{IsCommand, IsQuoted, AskToRead, IsMisuse, IsTypeExplained, IsBadType, IsBadFunc}
+use Rattle.wave.specs.Misuse.{IsCommand, IsQuoted, IsHint, AskToRead, TakeNoOption, IsMisuse, IsTypeExplained, IsBadType, IsBadFunc}
 use Rattle.wave_type.specs.FunctionSpelling.{IsFunctionOf, levels_of_function}
 use Rattle.wave_type.specs.FunctionType.{FunctionType}
 use Rattle.wave_type.specs.TypeErrors.{TypeRefusal, type_error_text}
@@ -12,7 +15,7 @@ use Rattle.wave_type.specs.declared.error.TypeErrorKind.TheVariants as kind
 use Rattle.wave_type.specs.TypeSpelling.{IsTypeOf, IsNoType, levels_of}
 use Rattle.wave_place.specs.Places.{IsExplained}
 use Rattle.wave.specs.Requests.{IsLimitWord}
-use Rattle.wave.specs.Private.Requests.{MakeNone}
+use Rattle.wave.specs.Private.Requests.{IsOtherWord, MakeNone}
 use Rattle.wave.specs.Types.{text_of, NamesType, NamesFunction}
 
 -- the text at a place
@@ -71,7 +74,13 @@ read_limit_said (Err e) rest type word is none reported = tt
 read_limit_said (Ok why) rest type word is none (quoted, quotes, said) =
     inr (inr (inr (inr (inl (codes "read" ∷ type ∷ [], word, quoted, ap (λ r. codes "read" ∷ r) is, inr (type, refl), none, quotes, said)))))
 
--- no type behind `read`
+-- nothing behind `read`
+pub no_type_said : {E : Type 0} (r : Result (String Global) E) (rest : List (List ℕ)) → rest ≡ [] → IfOk r (λ why. string_bytes why ≡ line (codes "no type: read takes the text of one, or the name of a sample"))
+    → IfOk r (λ why. IsMisuse (codes "read" ∷ rest) (string_bytes why))
+no_type_said (Err e) rest none said = tt
+no_type_said (Ok why) rest none said = inr (inr (inr (inl (ap (λ r. codes "read" ∷ r) none, said))))
+
+-- no type there
 pub type_said : {E : Type 0} (r : Result (String Global) E) (words : List (List ℕ)) (word : List ℕ) → AskToRead words word → IfOk r (λ why. IsBadType word (string_bytes why)) → IfOk r (λ why. IsMisuse words (string_bytes why))
 type_said (Err e) words word asked reported = tt
 type_said (Ok why) words word asked reported = inr (inr (inr (inr (inr (inl (word, asked, reported))))))
@@ -80,6 +89,78 @@ type_said (Ok why) words word asked reported = inr (inr (inr (inr (inr (inl (wor
 pub func_said : {E : Type 0} (r : Result (String Global) E) (rest : List (List ℕ)) (word : List ℕ) → rest ≡ word ∷ [] → IfOk r (λ why. IsBadFunc word (string_bytes why)) → IfOk r (λ why. IsMisuse (codes "call" ∷ rest) (string_bytes why))
 func_said (Err e) rest word is reported = tt
 func_said (Ok why) rest word is reported = inr (inr (inr (inr (inr (inr (inl (word, ap (λ r. codes "call" ∷ r) is, reported)))))))
+
+-- a word that is no command
+pub no_command : (word : List ℕ) → IsOtherWord word → (word ≢ codes "--help") → (word ≢ codes "-h") → (word ≢ codes "version") → (word ≢ codes "--version") → (word ≢ codes "-V")
+    → (most : ℕ) → IsCommand word most → ⊥
+no_command word (value, call, read, help, completions) no_help h version long v most (inl (is, count)) = value is
+no_command word (value, call, read, help, completions) no_help h version long v most (inr (inl (is, count))) = call is
+no_command word (value, call, read, help, completions) no_help h version long v most (inr (inr (inl (is, count)))) = read is
+no_command word (value, call, read, help, completions) no_help h version long v most (inr (inr (inr (inl (is, count))))) = completions is
+no_command word (value, call, read, help, completions) no_help h version long v most (inr (inr (inr (inr (inl (is, count)))))) = help is
+no_command word (value, call, read, help, completions) no_help h version long v most (inr (inr (inr (inr (inr (inl (is, count))))))) = no_help is
+no_command word (value, call, read, help, completions) no_help h version long v most (inr (inr (inr (inr (inr (inr (inl (is, count)))))))) = h is
+no_command word (value, call, read, help, completions) no_help h version long v most (inr (inr (inr (inr (inr (inr (inr (inl (is, count))))))))) = version is
+no_command word (value, call, read, help, completions) no_help h version long v most (inr (inr (inr (inr (inr (inr (inr (inr (inl (is, count)))))))))) = long is
+no_command word (value, call, read, help, completions) no_help h version long v most (inr (inr (inr (inr (inr (inr (inr (inr (inr (inl (is, count))))))))))) = v is
+no_command word (value, call, read, help, completions) no_help h version long v most (inr (inr (inr (inr (inr (inr (inr (inr (inr (inr none)))))))))) = none
+
+pub unknown_said : {E : Type 0} (r : Result (String Global) E) (word : List ℕ) (rest : List (List ℕ)) (hint : List ℕ) → ((most : ℕ) → IsCommand word most → ⊥) → IsHint word command_names hint
+    → IfOk r (λ why. (quoted : List ℕ) × IsQuoted word quoted × (string_bytes why ≡ codes "unknown command " ++ (quoted ++ line hint)))
+    → IfOk r (λ why. IsMisuse (word ∷ rest) (string_bytes why))
+unknown_said (Err e) word rest hint none near reported = tt
+unknown_said (Ok why) word rest hint none near (quoted, quotes, said) = inr (inl (word, rest, quoted, hint, refl, none, quotes, near, said))
+
+-- no page of the word behind `help`
+pub page_said : {E : Type 0} (r : Result (String Global) E) (rest : List (List ℕ)) (word hint : List ℕ) → rest ≡ word ∷ [] → HasNoPage word → IsHint word paged_names hint
+    → IfOk r (λ why. (quoted : List ℕ) × IsQuoted word quoted × (string_bytes why ≡ codes "no page for " ++ (quoted ++ line hint)))
+    → IfOk r (λ why. IsMisuse (codes "help" ∷ rest) (string_bytes why))
+page_said (Err e) rest word hint is none near reported = tt
+page_said (Ok why) rest word hint is none near (quoted, quotes, said) =
+    inr (inr (inr (inr (inr (inr (inr (inl (word, quoted, hint, ap (λ r. codes "help" ∷ r) is, none, quotes, near, said))))))))
+
+-- no shell behind `completions`
+pub no_shell_said : {E : Type 0} (r : Result (String Global) E) (rest : List (List ℕ)) → rest ≡ [] → IfOk r (λ why. string_bytes why ≡ line (codes "no shell: completions takes bash, zsh or fish"))
+    → IfOk r (λ why. IsMisuse (codes "completions" ∷ rest) (string_bytes why))
+no_shell_said (Err e) rest none said = tt
+no_shell_said (Ok why) rest none said = inr (inr (inr (inr (inr (inr (inr (inr (inl (ap (λ r. codes "completions" ∷ r) none, said)))))))))
+
+-- no script for the word behind it
+pub script_said : {E : Type 0} (r : Result (String Global) E) (rest : List (List ℕ)) (word : List ℕ) → rest ≡ word ∷ [] → HasNoScript word
+    → IfOk r (λ why. (quoted : List ℕ) × IsQuoted word quoted × (string_bytes why ≡ codes "no completions for " ++ (quoted ++ line (codes ": SHELL is bash, zsh or fish"))))
+    → IfOk r (λ why. IsMisuse (codes "completions" ∷ rest) (string_bytes why))
+script_said (Err e) rest word is none reported = tt
+script_said (Ok why) rest word is none (quoted, quotes, said) =
+    inr (inr (inr (inr (inr (inr (inr (inr (inr (inl (word, quoted, ap (λ r. codes "completions" ∷ r) is, none, quotes, said))))))))))
+
+-- options, where the other arguments ask for a text
+pub options_said : {E : Type 0} (r : Result (String Global) E) (words : List (List ℕ)) → TakeNoOption words
+    → IfOk r (λ why. string_bytes why ≡ line (codes "--lines and --quiet stand behind value, call or read"))
+    → IfOk r (λ why. IsMisuse words (string_bytes why))
+options_said (Err e) words asked said = tt
+options_said (Ok why) words asked said = inr (inr (inr (inr (inr (inr (inr (inr (inr (inr (asked, said))))))))))
+
+pub alone_taken : (word : List ℕ) (rest : List (List ℕ)) → rest ≡ []
+    → (word ≡ codes "--help") ⊎ (word ≡ codes "-h") ⊎ (word ≡ codes "version") ⊎ (word ≡ codes "--version") ⊎ (word ≡ codes "-V") → TakeNoOption (word ∷ rest)
+alone_taken word rest none is = by is where
+  words_are : (other : List ℕ) → word ≡ other → word ∷ rest ≡ other ∷ []
+  words_are other is_other = λ i. is_other i ∷ none i
+
+  by : (word ≡ codes "--help") ⊎ (word ≡ codes "-h") ⊎ (word ≡ codes "version") ⊎ (word ≡ codes "--version") ⊎ (word ≡ codes "-V") → TakeNoOption (word ∷ rest)
+  by (inl is_help) = inl (inl (words_are _ is_help))
+  by (inr (inl is_h)) = inl (inr (inr (words_are _ is_h)))
+  by (inr (inr (inl is_version))) = inr (inl (inr (inl (words_are _ is_version))))
+  by (inr (inr (inr (inl is_long)))) = inr (inl (inl (words_are _ is_long)))
+  by (inr (inr (inr (inr is_v)))) = inr (inl (inr (inr (words_are _ is_v))))
+
+pub help_taken : (rest : List (List ℕ)) → rest ≡ [] → TakeNoOption (codes "help" ∷ rest)
+help_taken rest none = inl (inr (inl (ap (λ r. codes "help" ∷ r) none)))
+
+pub page_taken : (rest : List (List ℕ)) (word page : List ℕ) → rest ≡ word ∷ [] → IsPage word page → TakeNoOption (codes "help" ∷ rest)
+page_taken rest word page is has = inr (inr (inl (word, page, ap (λ r. codes "help" ∷ r) is, has)))
+
+pub script_taken : (rest : List (List ℕ)) (word script : List ℕ) → rest ≡ word ∷ [] → IsScript word script → TakeNoOption (codes "completions" ∷ rest)
+script_taken rest word script is has = inr (inr (inr (word, script, ap (λ r. codes "completions" ∷ r) is, has)))
 
 -- what `call` or `read` takes is none, where no request is made
 pub none_called : (rest : List (List ℕ)) (word : List ℕ) → rest ≡ word ∷ [] → MakeNone (codes "call" ∷ rest) → (f : FunctionType) → NamesFunction word f → ⊥

@@ -1,7 +1,8 @@
 -- Which of the words is the nearest, and the first of those.
-use Rattle.std.proofs.Common.{ℕ, ◌≡◌, ◌<◌, ◌≤◌, ◌∙◌, List, [], ◌∷◌, ◌++◌, String, Global, Result, Ok, Err, IfOk, string_bytes, inr, refl, ap, sym, subst, arith, append_assoc, codes}
+use Rattle.std.proofs.Common.{ℕ, ◌≡◌, ◌<◌, ◌≤◌, ◌⊎◌, ◌∙◌, List, [], ◌∷◌, ◌++◌, String, Global, Result, Ok, Err, IfOk, string_bytes, inl, inr, refl, ap, sym, subst, arith, append_assoc, codes}
+use Rattle.std.proofs.lemmas.Bool.{cases_lt}
 use Rattle.wave_wasm.specs.Lists.{AllOf}
-use Rattle.wave.specs.Misuse.{edits, suggestions, IsNearest, IsHint}
+use Rattle.wave.specs.Misuse.{edits, IsNearest, IsHint}
 
 -- the only word is
 pub nearest_alone : (word near : List ℕ) → IsNearest word (near ∷ []) near
@@ -31,8 +32,34 @@ pub nearest_stays : (word near other : List ℕ) (words : List (List ℕ)) → e
 nearest_stays word near other words fits (before, behind, is, first, rest) =
     (before, behind ++ other ∷ [], ap (λ z. z ++ other ∷ []) is ∙ append_assoc before (near ∷ behind) (other ∷ []), first, all_joined (λ x. edits word near ≤ edits word x) behind (other ∷ []) rest (fits, tt))
 
--- it is said, where it is near
-pub hinted : {E : Type 0} (r : Result (String Global) E) (word near : List ℕ) → IsNearest word suggestions near → edits word near ≤ 2
-    → IfOk r (λ hint. string_bytes hint ≡ codes "; did you mean \"" ++ (near ++ codes "\"?")) → IfOk r (λ hint. IsHint word (string_bytes hint))
-hinted (Err e) word near nearest close is = tt
-hinted (Ok hint) word near nearest close is = inr (near, nearest, close, is)
+-- what is no nearer than a far word is far too
+all_beyond : (word near : List ℕ) (words : List (List ℕ)) → 2 < edits word near → AllOf (λ x. edits word near ≤ edits word x) words → AllOf (λ x. 2 < edits word x) words
+all_beyond word near [] far none = tt
+all_beyond word near (w ∷ ws) far (here, more) = (omega (arith, far, here), all_beyond word near ws far more)
+
+-- where the nearest is far, all are
+all_far : (word near : List ℕ) (words : List (List ℕ)) → 2 < edits word near → IsNearest word words near → AllOf (λ x. 2 < edits word x) words
+all_far word near words far (before, behind, is, first, rest) =
+    let all = all_joined (λ x. 2 < edits word x) before (near ∷ behind) (all_beyond word near before far (all_no_nearer word near before first)) (far, all_beyond word near behind far rest) in
+    subst (AllOf (λ x. 2 < edits word x)) (sym is) all
+
+-- the nearest of the words, of which this is the last
+pub nearest_of : {X E : Type 0} (text : X → List ℕ) (count : X → ℕ) (r : Result X E) (word near other : List ℕ) (words : List (List ℕ)) → IsNearest word words near
+    → IfOk r (λ x. (ws : List (List ℕ)) → IsNearest word ws near → IsNearest word (ws ++ other ∷ []) (text x)) → IfOk r (λ x. count x ≡ edits word (text x))
+    → IfOk r (λ x. IsNearest word (words ++ other ∷ []) (text x) × (count x ≡ edits word (text x)))
+nearest_of text count (Err e) word near other words nearest first counted = tt
+nearest_of text count (Ok x) word near other words nearest first counted = (first words nearest, counted)
+
+-- what is said of it, where it is near
+pub hint_is : (word near text : List ℕ) (words : List (List ℕ)) (count : ℕ) → IsNearest word words near → count ≡ edits word near → (count ≤ 2 → text ≡ codes "; did you mean \"" ++ (near ++ codes "\"?"))
+    → (2 < count → text ≡ []) → IsHint word words text
+hint_is word near text words count nearest is close far = by (cases_lt 2 count) where
+  by : (2 < count) ⊎ (count ≤ 2) → IsHint word words text
+  by (inl beyond) = inl (all_far word near words (subst (λ n. 2 < n) is beyond) nearest, far beyond)
+  by (inr within) = inr (near, nearest, subst (λ n. n ≤ 2) is within, close within)
+
+pub hinted : {E : Type 0} (r : Result (String Global) E) (word near : List ℕ) (words : List (List ℕ)) (count : ℕ) → IsNearest word words near → count ≡ edits word near
+    → (count ≤ 2 → IfOk r (λ hint. string_bytes hint ≡ codes "; did you mean \"" ++ (near ++ codes "\"?"))) → (2 < count → IfOk r (λ hint. string_bytes hint ≡ []))
+    → IfOk r (λ hint. IsHint word words (string_bytes hint))
+hinted (Err e) word near words count nearest is close far = tt
+hinted (Ok hint) word near words count nearest is close far = hint_is word near (string_bytes hint) words count nearest is close far

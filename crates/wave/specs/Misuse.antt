@@ -16,6 +16,9 @@ use Rattle.wave_type.specs.declared.error.TypeErrorKind.TheVariants as kind
 use Rattle.wave_type.specs.TypeSpelling.{IsTypeOf, IsNoType}
 use Rattle.wave_place.specs.Places.{IsExplained}
 use Rattle.wave.specs.declared.output.Output.{Output}
+use Rattle.wave.specs.Commands.{command_names, paged_names}
+use Rattle.wave.specs.Completions.{IsScript, HasNoScript}
+use Rattle.wave.specs.Help.{AskForHelp, AskForVersion, IsPage, HasNoPage}
 use Rattle.wave.specs.Lines.{line}
 use Rattle.wave.specs.Requests.{IsLimitWord}
 use Rattle.wave.specs.Types.{text_of, HasValue}
@@ -25,7 +28,7 @@ use Rattle.wave.specs.Written.{WritesWhole, WritesLess}
 abbrev pub commands : List (List ℕ × ℕ)
 commands =
     (codes "value", 2) ∷ (codes "call", 2) ∷ (codes "read", 3)
-    ∷ (codes "help", 1) ∷ (codes "--help", 1) ∷ (codes "-h", 1)
+    ∷ (codes "completions", 2) ∷ (codes "help", 2) ∷ (codes "--help", 1) ∷ (codes "-h", 1)
     ∷ (codes "version", 1) ∷ (codes "--version", 1) ∷ (codes "-V", 1)
     ∷ []
 
@@ -45,10 +48,6 @@ IsQuoted word quoted = IfSome (debug_str word) (λ text. quoted ≡ text)
 unfoldable pub edits : List ℕ → List ℕ → ℕ
 edits word other = levenshtein_row nat_eq (chars word) (chars other) (length (chars other))
 
--- the words to which a misspelled command is compared
-abbrev pub suggestions : List (List ℕ)
-suggestions = codes "value" ∷ codes "call" ∷ codes "read" ∷ codes "help" ∷ codes "version" ∷ []
-
 -- this one of the words is the first to which the fewest edits lead
 abbrev pub IsNearest : List ℕ → List (List ℕ) → List ℕ → Type 0
 IsNearest word words near =
@@ -56,11 +55,11 @@ IsNearest word words near =
     × AllOf (λ other. edits word near < edits word other) before
     × AllOf (λ other. edits word near ≤ edits word other) behind
 
--- what is said of the nearest command, at most two edits away; nothing where none is that near
-abbrev pub IsHint : List ℕ → List ℕ → Type 0
-IsHint word hint =
-    AllOf (λ other. 2 < edits word other) suggestions × (hint ≡ [])
-    ⊎ ((near : List ℕ) × IsNearest word suggestions near × (edits word near ≤ 2)
+-- what is said of the nearest of the words, at most two edits away; nothing where none is that near
+abbrev pub IsHint : List ℕ → List (List ℕ) → List ℕ → Type 0
+IsHint word words hint =
+    AllOf (λ other. 2 < edits word other) words × (hint ≡ [])
+    ⊎ ((near : List ℕ) × IsNearest word words near × (edits word near ≤ 2)
     × (hint ≡ codes "; did you mean \"" ++ (near ++ codes "\"?")))
 
 -- the text is that of a type or of a function's type that is refused, and the refusal is shown in it
@@ -74,7 +73,7 @@ IsFuncExplained text why = (e : TypeRefusal) × (e.kind ≢ kind.OutOfMemory) ×
 abbrev pub IsUnknownCommand : List (List ℕ) → List ℕ → Type 0
 IsUnknownCommand words why =
     (word : List ℕ) × (more : List (List ℕ)) × (quoted : List ℕ) × (hint : List ℕ)
-    × (words ≡ word ∷ more) × ((most : ℕ) → IsCommand word most → ⊥) × IsQuoted word quoted × IsHint word hint
+    × (words ≡ word ∷ more) × ((most : ℕ) → IsCommand word most → ⊥) × IsQuoted word quoted × IsHint word command_names hint
     × (why ≡ codes "unknown command " ++ (quoted ++ line hint))
 
 -- behind a command and what it takes stands one more
@@ -112,6 +111,28 @@ AskToRead words word =
     (words ≡ codes "read" ∷ word ∷ [])
     ⊎ ((limit : List ℕ) × (n : ℕ) × (words ≡ codes "read" ∷ word ∷ limit ∷ []) × IsLimitWord limit n)
 
+-- the words ask for the page of a command, which has none; and perhaps one that has is near
+abbrev pub HasNoSuchPage : List (List ℕ) → List ℕ → Type 0
+HasNoSuchPage words why =
+    (word : List ℕ) × (quoted : List ℕ) × (hint : List ℕ)
+    × (words ≡ codes "help" ∷ word ∷ []) × HasNoPage word × IsQuoted word quoted × IsHint word paged_names hint
+    × (why ≡ codes "no page for " ++ (quoted ++ line hint))
+
+-- they ask for the script for a shell, which has none
+abbrev pub HasNoSuchScript : List (List ℕ) → List ℕ → Type 0
+HasNoSuchScript words why =
+    (word : List ℕ) × (quoted : List ℕ)
+    × (words ≡ codes "completions" ∷ word ∷ []) × HasNoScript word × IsQuoted word quoted
+    × (why ≡ codes "no completions for " ++ (quoted ++ line (codes ": SHELL is bash, zsh or fish")))
+
+-- they ask for a text, with which no option goes
+abbrev pub TakeNoOption : List (List ℕ) → Type 0
+TakeNoOption words =
+    AskForHelp words
+    ⊎ AskForVersion words
+    ⊎ ((command : List ℕ) × (page : List ℕ) × (words ≡ codes "help" ∷ command ∷ []) × IsPage command page)
+    ⊎ ((shell : List ℕ) × (script : List ℕ) × (words ≡ codes "completions" ∷ shell ∷ []) × IsScript shell script)
+
 -- what is wrong with the arguments, and what is said of it; no two of these can be so at once
 abbrev pub IsMisuse : List (List ℕ) → List ℕ → Type 0
 IsMisuse words why =
@@ -122,7 +143,10 @@ IsMisuse words why =
     ⊎ HasNoLimit words why
     ⊎ ((word : List ℕ) × AskToRead words word × IsBadType word why)
     ⊎ ((word : List ℕ) × (words ≡ codes "call" ∷ word ∷ []) × IsBadFunc word why)
-    ⊎ ((word : List ℕ) × (words ≡ word ∷ []) × IsCommand word 1 × (why ≡ line (codes "--lines and --quiet stand behind value, call or read")))
+    ⊎ HasNoSuchPage words why
+    ⊎ (words ≡ codes "completions" ∷ []) × (why ≡ line (codes "no shell: completions takes bash, zsh or fish"))
+    ⊎ HasNoSuchScript words why
+    ⊎ TakeNoOption words × (why ≡ line (codes "--lines and --quiet stand behind value, call or read"))
 
 -- what is said of arguments without options that make no request, and where help is
 abbrev pub IsExplainedMisuse : List (List ℕ) → List ℕ → Type 0

@@ -6,11 +6,14 @@ ghost use Rattle.wave_type.specs.FunctionType.{FunctionType};
 ghost use Rattle.wave_type.specs.TypeErrors.{type_error_text};
 ghost use Rattle.wave_type.specs.declared.error.TypeErrorKind.TheVariants as kind;
 ghost use Rattle.wave_place.specs.Places.{IsExplained};
+ghost use Rattle.wave.specs.Commands.{command_names, paged_names};
 ghost use Rattle.wave.specs.Lines.{line};
-ghost use Rattle.wave.specs.Misuse.{edits, suggestions, IsNearest, IsHint, IsQuoted, IsBadType, IsBadFunc, IsMisuse, IsExplainedMisuse};
-ghost use Rattle.wave.specs.Private.Requests.{IsNoRequestWord, MakeNone};
+ghost use Rattle.wave.specs.Misuse.{edits, IsNearest, IsHint, IsQuoted, IsBadType, IsBadFunc, IsMisuse, IsExplainedMisuse};
+ghost use Rattle.wave.specs.Private.Requests.{IsOtherWord, MakeNone};
 ghost use Rattle.wave.specs.Types.{NamesType, NamesFunction};
 
+use crate::completions::script_of;
+use crate::help::page_of;
 use crate::request::limit_of;
 use crate::types::text_of;
 use std::alloc::{AllocError, Global};
@@ -23,6 +26,12 @@ const TOO_MANY: &str = "an argument too many: ";
 
 /// What is said behind an argument that is no limit.
 const NO_LIMIT: &str = " is no number of levels: N is a whole number from 1 to 1000";
+
+/// What is said behind a word that is no shell.
+const NO_SHELL: &str = ": SHELL is bash, zsh or fish";
+
+/// What is said of options behind a command that takes none.
+const NO_OPTIONS: &str = "--lines and --quiet stand behind value, call or read\n";
 
 /// What is wrong with the arguments, which make no request and have no options, and where help is.
 pub fn explain_misuse(alloc: Global, words: &[String]) -> Result<String, AllocError>
@@ -46,6 +55,8 @@ fn misuse(alloc: Global, words: &[String]) -> Result<String, AllocError>
         "value" => value_misuse(alloc, rest),
         "call" => call_misuse(alloc, rest),
         "read" => read_misuse(alloc, rest),
+        "help" => help_misuse(alloc, rest),
+        "completions" => completions_misuse(alloc, rest),
         command => other_misuse(alloc, command, rest),
     }
 }
@@ -93,37 +104,88 @@ fn read_misuse(alloc: Global, rest: &[String]) -> Result<String, AllocError>
     }
 }
 
+/// What is wrong behind `help`.
+fn help_misuse(alloc: Global, rest: &[String]) -> Result<String, AllocError>
+    ensures { IfOk result (λ why. IsMisuse (codes "help" ∷ map string_bytes rest.now) (string_bytes why)) }
+{
+    match rest {
+        [] => String::from_str(alloc, NO_OPTIONS),
+        [command] => {
+            let word = command.as_str();
+            match page_of(word) {
+                Some(_) => String::from_str(alloc, NO_OPTIONS),
+                None => {
+                    let (near, least) = nearest_page(alloc, word)?;
+                    let hint = hint(alloc, near, least)?;
+                    quoting(alloc, "no page for ", word, hint.as_str())
+                }
+            }
+        }
+        [_, extra, ..] => quoting(alloc, TOO_MANY, extra.as_str(), ""),
+    }
+}
+
+/// What is wrong behind `completions`.
+fn completions_misuse(alloc: Global, rest: &[String]) -> Result<String, AllocError>
+    ensures { IfOk result (λ why. IsMisuse (codes "completions" ∷ map string_bytes rest.now) (string_bytes why)) }
+{
+    match rest {
+        [] => String::from_str(alloc, "no shell: completions takes bash, zsh or fish\n"),
+        [shell] => {
+            let word = shell.as_str();
+            match script_of(word) {
+                Some(_) => String::from_str(alloc, NO_OPTIONS),
+                None => quoting(alloc, "no completions for ", word, NO_SHELL),
+            }
+        }
+        [_, extra, ..] => quoting(alloc, TOO_MANY, extra.as_str(), ""),
+    }
+}
+
 /// What is wrong with another command, or behind it.
 fn other_misuse(alloc: Global, command: &str, rest: &[String]) -> Result<String, AllocError>
-    requires { IsNoRequestWord command.now }
+    requires { IsOtherWord command.now }
     ensures { IfOk result (λ why. IsMisuse (command.now ∷ map string_bytes rest.now) (string_bytes why)) }
 {
     match command {
-        "help" | "--help" | "-h" | "version" | "--version" | "-V" => match rest {
-            [] => String::from_str(
-                alloc,
-                "--lines and --quiet stand behind value, call or read\n",
-            ),
+        "--help" | "-h" | "version" | "--version" | "-V" => match rest {
+            [] => String::from_str(alloc, NO_OPTIONS),
             [extra, ..] => quoting(alloc, TOO_MANY, extra.as_str(), ""),
         },
         _ => {
-            let hint = hint(alloc, command)?;
+            let hint = command_hint(alloc, command)?;
             quoting(alloc, "unknown command ", command, hint.as_str())
         }
     }
 }
 
-/// What is said of the nearest of the words to which a misspelled command is compared, at most two edits
-/// away; nothing where none is that near.
-fn hint(alloc: Global, word: &str) -> Result<String, AllocError>
-    ensures { IfOk result (λ hint. IsHint word.now (string_bytes hint)) }
+/// What is said of the nearest command to a misspelled one, at most two edits away; nothing where none is
+/// that near.
+fn command_hint(alloc: Global, word: &str) -> Result<String, AllocError>
+    ensures { IfOk result (λ hint. IsHint word.now command_names (string_bytes hint)) }
+{
+    let (near, least) = nearest_page(alloc, word)?;
+    let (near, least) = nearer(alloc, word, near, least, "help")?;
+    let (near, least) = nearer(alloc, word, near, least, "version")?;
+    hint(alloc, near, least)
+}
+
+/// The nearest command that has a page, with its edits.
+fn nearest_page(alloc: Global, word: &str) -> Result<(&'static str, usize), AllocError>
+    ensures { IfOk result (λ found. IsNearest word.now paged_names found.0.now × (found.1 ≡ edits word.now found.0.now)) }
 {
     let least = edits(alloc, word, "value")?;
     let (near, least) = nearer(alloc, word, "value", least, "call")?;
     let (near, least) = nearer(alloc, word, near, least, "read")?;
-    let (near, least) = nearer(alloc, word, near, least, "help")?;
-    let (near, least) = nearer(alloc, word, near, least, "version")?;
-    if least > 2 {
+    nearer(alloc, word, near, least, "completions")
+}
+
+/// The words that name what is near, at most two edits away; else none.
+fn hint(alloc: Global, near: &str, count: usize) -> Result<String, AllocError>
+    ensures near { count ≤ 2 → IfOk result (λ hint. string_bytes hint ≡ codes "; did you mean \"" ++ (near.now ++ codes "\"?")) }
+    ensures far { 2 < count → IfOk result (λ hint. string_bytes hint ≡ []) }
+{
+    if count > 2 {
         return Ok(String::new(alloc));
     }
     format!(in alloc; "; did you mean \"{near}\"?")

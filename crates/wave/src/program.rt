@@ -54,8 +54,8 @@ impl Ended {
 }
 
 /// Answers the arguments on the input, and gives the status to end with: 0 where the request has an
-/// answer, or the arguments ask for the help or the version, for which nothing is read; 1 where it
-/// has none, 2 where the arguments make no request, and 3 where the input or the output failed, the
+/// answer, or the arguments ask for the help, a page of it, the version or a script, for which nothing is
+/// read; 1 where it has none, 2 where the arguments make no request, and 3 where the input or the output failed, the
 /// input is no text, or memory ran out, also for the type that the arguments name, before anything is
 /// read. An input whose reader had reported its end before the call counts as one that failed. Where a
 /// refusal was printed, it is shown to a person too: what explains it is written to `errors`, unless

@@ -19,6 +19,7 @@ IsFit (Read T n) = IsLimit n × HasDistinctNames T
 abbrev pub MakeNone : List (List ℕ) → Type 0
 MakeNone words = (request : Request) → AreWordsOf request words → ⊥
 
--- the word begins no request
-abbrev pub IsNoRequestWord : List ℕ → Type 0
-IsNoRequestWord word = (word ≢ codes "value") × (word ≢ codes "call") × (word ≢ codes "read")
+-- the word is no command behind which another word may stand
+abbrev pub IsOtherWord : List ℕ → Type 0
+IsOtherWord word =
+    (word ≢ codes "value") × (word ≢ codes "call") × (word ≢ codes "read") × (word ≢ codes "help") × (word ≢ codes "completions")

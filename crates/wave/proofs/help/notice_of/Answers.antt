@@ -10,5 +10,5 @@ returns-in-len1 c =
 
 pub returns-in-len2 : goal.returns-in-len2
 returns-in-len2 c =
-    let is = two_words c.args.words.now _ _ c.as_str-in-len2.result.now c.as_str-in-len2-2.result.now c.in-len2.len_at_least c.in-len2.len_below c.command-item.is c.option-item.is c.as_str-in-len2.ensures.value c.as_str-in-len2-2.ensures.value in
-    subst (λ ws. MatchOption c.help_of.result (IsNoNotice ws) (λ said. IsNotice ws said.now)) (sym is) c.help_of.ensures
+    let is = two_words c.args.words.now _ _ c.as_str-in-len2.result.now c.as_str-in-len2-2.result.now c.in-len2.len_at_least c.in-len2.len_below c.first-item.is c.second-item.is c.as_str-in-len2.ensures.value c.as_str-in-len2-2.ensures.value in
+    subst (λ ws. MatchOption c.notice_of_two.result (IsNoNotice ws) (λ said. IsNotice ws said.now)) (sym is) c.notice_of_two.ensures

@@ -20,5 +20,11 @@ read_misuse-requires c = none_first _ _ (texts_first _ _ _ _ _ c.in-Some.ensures
 pub returns-in-read : goal.returns-in-read
 returns-in-read c = said_of c.read_misuse.result _ _ (texts_first _ _ _ _ _ c.in-Some.ensures.cases.0 c.as_str.ensures.value c.in-read.is) c.read_misuse.ensures
 
+pub returns-in-help : goal.returns-in-help
+returns-in-help c = said_of c.help_misuse.result _ _ (texts_first _ _ _ _ _ c.in-Some.ensures.cases.0 c.as_str.ensures.value c.in-help.is) c.help_misuse.ensures
+
+pub returns-in-completions : goal.returns-in-completions
+returns-in-completions c = said_of c.completions_misuse.result _ _ (texts_first _ _ _ _ _ c.in-Some.ensures.cases.0 c.as_str.ensures.value c.in-completions.is) c.completions_misuse.ensures
+
 pub returns-in_default-as_str : goal.returns-in_default-as_str
 returns-in_default-as_str c = said_of c.other_misuse.result _ _ (texts_first _ _ _ _ c.as_str.result.now c.in-Some.ensures.cases.0 c.as_str.ensures.value refl) c.other_misuse.ensures

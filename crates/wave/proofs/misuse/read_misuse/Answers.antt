@@ -1,8 +1,11 @@
 use Rattle.std.proofs.Common.{ℕ, ◌∷◌, rules, arith, codes, inl, inr, refl, sym, ap, subst, ◌∙◌}
 use Rattle.wave.specs.Requests.{IsLimitWord}
-use Rattle.wave.proofs.Misused.{length_texts, text_at, none_read, none_read_within, type_said, read_limit_said, too_many_said}
+use Rattle.wave.proofs.Misused.{no_texts, length_texts, text_at, no_type_said, none_read, none_read_within, type_said, read_limit_said, too_many_said}
 use Rattle.wave.proofs.Requested.{one_word, two_words}
 use Rattle.wave.proofs.misuse.read_misuse.Goals as goal
+
+pub returns-in-empty : goal.returns-in-empty
+returns-in-empty c = no_type_said c.from_str.result _ (no_texts c.args.rest.now c.in-empty.len_below) c.from_str.ensures.ok
 
 pub bad_type-requires : goal.bad_type-requires
 bad_type-requires c = none_read _ _ (one_word c.args.rest.now c.ty-item.result _ c.in-len1.len_at_least c.in-len1.len_below c.ty-item.is c.as_str.ensures.value) c.requires
