@@ -1,0 +1,3 @@
+pub mod TextBegins
+pub mod Tried
+pub mod Said

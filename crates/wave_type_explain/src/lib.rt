@@ -1,0 +1,7 @@
+//! Refusals of texts that spell no type, as a person is shown them.
+#![tactic(auto)]
+
+pub mod expected;
+pub mod explain;
+mod hints;
+mod rows;
