@@ -9,11 +9,11 @@ use Rattle.wave.specs.Lines.{line}
 use Rattle.wave.specs.Misuse.{IsCommand, IsQuoted, IsHint, AskToRead, TakeNoOption, IsMisuse, IsTypeExplained, IsBadType, IsBadFunc}
 use Rattle.wave_type.specs.FunctionSpelling.{IsFunctionOf, levels_of_function}
 use Rattle.wave_type.specs.FunctionType.{FunctionType}
-use Rattle.wave_type.specs.TypeErrors.{TypeRefusal, type_error_text}
+use Rattle.wave_type.specs.TypeErrors.{TypeRefusal}
 use Rattle.wave_type.specs.TypeItems.{IsTypeFault}
 use Rattle.wave_type.specs.declared.error.TypeErrorKind.TheVariants as kind
 use Rattle.wave_type.specs.TypeSpelling.{IsTypeOf, IsNoType, levels_of}
-use Rattle.wave_place.specs.Places.{IsExplained}
+use Rattle.wave_type_explain.specs.TypeExplained as explained
 use Rattle.wave.specs.Requests.{IsLimitWord}
 use Rattle.wave.specs.Private.Requests.{IsOtherWord, MakeNone}
 use Rattle.wave.specs.Types.{text_of, NamesType, NamesFunction}
@@ -194,7 +194,7 @@ valueless_said (Ok why) word text T is spells levels none said =
 
 -- no type
 pub type_refused_said : {E : Type 0} (r : Result (String Global) E) (word text : List ℕ) (e : TypeRefusal) (shown : List ℕ) → text ≡ text_of word → e.kind ≢ kind.OutOfMemory → IsNoType text e.kind → IsTypeFault text e
-    → IsExplained text (type_error_text e) e.span shown → IfOk r (λ why. string_bytes why ≡ codes "argument 2 is no type:\n" ++ shown) → IfOk r (λ why. IsBadType word (string_bytes why))
+    → explained.IsTypeExplained text e shown → IfOk r (λ why. string_bytes why ≡ codes "argument 2 is no type:\n" ++ shown) → IfOk r (λ why. IsBadType word (string_bytes why))
 type_refused_said (Err x) word text e shown is other none fault explained said = tt
 type_refused_said (Ok why) word text e shown is other none fault explained said = inl (shown, subst (λ s. IsTypeExplained s shown) is (e, other, none, fault, explained), said)
 

@@ -10,11 +10,11 @@ use Rattle.wave_wasm.specs.Lists.{AllOf}
 use Rattle.wave_wasm.specs.Types.{TypeTree}
 use Rattle.wave_type.specs.FunctionSpelling.{IsFunctionOf, IsNoFunction}
 use Rattle.wave_type.specs.FunctionType.{FunctionType, types_of}
-use Rattle.wave_type.specs.TypeErrors.{TypeRefusal, type_error_text}
+use Rattle.wave_type.specs.TypeErrors.{TypeRefusal}
 use Rattle.wave_type.specs.TypeItems.{IsTypeFault, IsFunctionFault}
 use Rattle.wave_type.specs.declared.error.TypeErrorKind.TheVariants as kind
 use Rattle.wave_type.specs.TypeSpelling.{IsTypeOf, IsNoType}
-use Rattle.wave_place.specs.Places.{IsExplained}
+use Rattle.wave_type_explain.specs.TypeExplained as explained
 use Rattle.wave.specs.declared.output.Output.{Output}
 use Rattle.wave.specs.Commands.{command_names, paged_names}
 use Rattle.wave.specs.Completions.{IsScript, HasNoScript}
@@ -62,12 +62,12 @@ IsHint word words hint =
     ⊎ ((near : List ℕ) × IsNearest word words near × (edits word near ≤ 2)
     × (hint ≡ codes "; did you mean \"" ++ (near ++ codes "\"?")))
 
--- the text is that of a type or of a function's type that is refused, and the refusal is shown in it
+-- the text is that of a type or of a function's type that is refused, and the refusal is shown in it, with what may stand there
 abbrev pub IsTypeExplained : List ℕ → List ℕ → Type 0
-IsTypeExplained text why = (e : TypeRefusal) × (e.kind ≢ kind.OutOfMemory) × IsNoType text e.kind × IsTypeFault text e × IsExplained text (type_error_text e) e.span why
+IsTypeExplained text why = (e : TypeRefusal) × (e.kind ≢ kind.OutOfMemory) × IsNoType text e.kind × IsTypeFault text e × explained.IsTypeExplained text e why
 
 abbrev pub IsFuncExplained : List ℕ → List ℕ → Type 0
-IsFuncExplained text why = (e : TypeRefusal) × (e.kind ≢ kind.OutOfMemory) × IsNoFunction text e.kind × IsFunctionFault text e × IsExplained text (type_error_text e) e.span why
+IsFuncExplained text why = (e : TypeRefusal) × (e.kind ≢ kind.OutOfMemory) × IsNoFunction text e.kind × IsFunctionFault text e × explained.IsFunctionExplained text e why
 
 -- the first argument is no command, and perhaps one is near
 abbrev pub IsUnknownCommand : List (List ℕ) → List ℕ → Type 0

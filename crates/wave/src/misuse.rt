@@ -3,10 +3,9 @@ ghost use Rattle.std.specs.Prelude.{ℕ, List, [], ◌∷◌, ◌≡◌, ◌≢�
 ghost use Rattle.wave_wasm.specs.Lists.{AllOf};
 ghost use Rattle.wave_wasm.specs.Types.{TypeTree};
 ghost use Rattle.wave_type.specs.FunctionType.{FunctionType};
-ghost use Rattle.wave_type.specs.TypeErrors.{type_error_text};
 ghost use Rattle.wave_type.specs.declared.error.TypeErrorKind.TheVariants as kind;
-ghost use Rattle.wave_place.specs.Places.{IsExplained};
 ghost use Rattle.wave.specs.Commands.{command_names, paged_names};
+ghost use Rattle.wave_type_explain.specs.TypeExplained.{IsExplainedAs};
 ghost use Rattle.wave.specs.Lines.{line};
 ghost use Rattle.wave.specs.Misuse.{edits, IsNearest, IsHint, IsQuoted, IsBadType, IsBadFunc, IsMisuse, IsExplainedMisuse};
 ghost use Rattle.wave.specs.Private.Requests.{IsOtherWord, MakeNone};
@@ -18,8 +17,9 @@ use crate::request::limit_of;
 use crate::types::text_of;
 use std::alloc::{AllocError, Global};
 use strsim::levenshtein;
-use wasm_wave::explain::explain_at;
 use wasm_wave::value::{FuncType, Type, TypeError, TypeErrorKind};
+use wave_type_explain::expected::Reading;
+use wave_type_explain::explain::explain_as;
 
 /// What is said before an argument that stands behind all that its command takes.
 const TOO_MANY: &str = "an argument too many: ";
@@ -241,7 +241,7 @@ fn bad_type(alloc: Global, word: &str) -> Result<String, AllocError>
             "argument 2 is a type without a value: f32 and f64 have none here, nor has what needs one of them\n",
         ),
         Err(error) => {
-            let shown = refused(alloc, &error, text)?;
+            let shown = refused(alloc, &error, text, Reading::ValueType)?;
             format!(in alloc; "argument 2 is no type:\n{shown}")
         }
     }
@@ -258,20 +258,24 @@ fn bad_func(alloc: Global, word: &str) -> Result<String, AllocError>
             "argument 2 has a parameter of a type without a value: f32 and f64 have none here, nor has what needs one of them\n",
         ),
         Err(error) => {
-            let shown = refused(alloc, &error, word)?;
+            let shown = refused(alloc, &error, word, Reading::FunctionType)?;
             format!(in alloc; "argument 2 is no type of a function:\n{shown}")
         }
     }
 }
 
-/// The refusal of the text, shown in it; out of memory, for that or as the refusal itself.
-fn refused(alloc: Global, error: &TypeError, text: &str) -> Result<String, AllocError>
-    ensures shown { IfOk result (λ shown. IsExplained text.now (type_error_text error.now) error.now.span (string_bytes shown)) }
+/// The refusal of the text that is to spell this, shown in it; out of memory, for that or as the refusal itself.
+fn refused(
+    alloc: Global,
+    error: &TypeError,
+    text: &str,
+    reading: Reading,
+) -> Result<String, AllocError>
+    ensures shown { IfOk result (λ shown. IsExplainedAs reading text.now error.now (string_bytes shown)) }
     ensures reported { OnOk result (error.now.kind ≢ kind.OutOfMemory) }
 {
     if error.kind() == TypeErrorKind::OutOfMemory {
         return Err(AllocError);
     }
-    let message = error.to_string(alloc)?;
-    explain_at(alloc, message.as_str(), error.span(), text)
+    explain_as(alloc, error, text, reading)
 }

@@ -10,7 +10,7 @@ use Rattle.wave_lex.specs.Labels.{HasDistinctLabels}
 use Rattle.wave_type.specs.DistinctLabels.{FunctionHasDistinctLabels}
 use Rattle.wave_type.specs.FunctionSpelling.{IsFunctionOf}
 use Rattle.wave_type.specs.FunctionType.{FunctionType, func_of, types_of}
-use Rattle.wave_type.specs.TypeErrors.{TypeRefusal, type_error_text}
+use Rattle.wave_type.specs.TypeErrors.{TypeRefusal}
 use Rattle.wave_type.specs.TypeSpelling.{IsTypeOf}
 use Rattle.wave_value.specs.TypedValue.{TypedValue, IsAt}
 use Rattle.wave_grammar.specs.Denotes.{Means, SpellsText}
@@ -20,7 +20,7 @@ use Rattle.wave_tree.specs.FromStr.{IsRead}
 use Rattle.wave_tree.specs.UntypedCall.{Called, IsCalledWithin, GivesParamsAt}
 use Rattle.wave_tape.specs.Tape.{tape, call_tape}
 use Rattle.wave_tape.specs.TypeTape.{type_tape, func_tape}
-use Rattle.wave_place.specs.Places.{IsExplained}
+use Rattle.wave_type_explain.specs.TypeExplained as explained
 use Rattle.wave_explain.specs.CallExplained.{IsCallExplained}
 use Rattle.wave_explain.specs.ValueExplained.{IsValueExplained, IsUntypedExplained}
 use Rattle.wave_c.specs.declared.ended.Failure.{Failure}
@@ -76,12 +76,12 @@ IsExplanationAt n s T bytes =
 
 -- what explains the refusal of a text that spells no type
 abbrev pub IsTypeExplained : ℕ → List ℕ → List ℕ → Type 0
-IsTypeExplained n ty bytes = (e : TypeRefusal) × IsNoTypeFor n ty e × IsExplained ty (type_error_text e) e.span bytes
+IsTypeExplained n ty bytes = (e : TypeRefusal) × IsNoTypeFor n ty e × explained.IsTypeExplained ty e bytes
 
 -- so of a function's type; nothing where the text spells one
 abbrev pub IsFunctionExplained : ℕ → List ℕ → List ℕ → Type 0
 IsFunctionExplained n func bytes =
-    ((e : TypeRefusal) × IsNoFunctionFor n func e × IsExplained func (type_error_text e) e.span bytes)
+    ((e : TypeRefusal) × IsNoFunctionFor n func e × explained.IsFunctionExplained func e bytes)
     ⊎ ((f : FunctionType) × IsFunctionSpelledBy func f × (bytes ≡ []))
 
 -- the canonical text of the type, and its tape

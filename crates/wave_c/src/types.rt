@@ -1,19 +1,19 @@
 // What the calls answer of types, and of functions and their calls.
 ghost use Rattle.std.specs.Prelude.{◌≡◌, ◌≢◌, IfOk, IfErr};
-ghost use Rattle.wave_type.specs.TypeErrors.{type_error_text};
 ghost use Rattle.wave_type.specs.declared.error.TypeErrorKind.TheVariants as type_kind;
-ghost use Rattle.wave_place.specs.Places.{IsExplained};
+ghost use Rattle.wave_type_explain.specs.TypeExplained.{IsExplainedAs};
 ghost use Rattle.wave_c.specs.Answers.{IsSpelledBy, IsFunctionSpelledBy, IsExplanationBy, IsFunctionExplained, IsTypeTextAt, IsTypeTapeAt, IsFunctionTextAt, IsFunctionTapeAt, FailsToExplainBy};
 ghost use Rattle.wave_c.specs.Failures.{limit_of, FailsAsType, FailsAsFunction, FailsToExplainType, FailsForMemory};
 
 use crate::answer::{explained, limit_of, text_of};
 use crate::ended::{Argument, Failure};
 use std::alloc::Global;
-use wave_place::explain::explain_at;
 use wave_tape::encode_type::{encode_func, encode_type};
 use wave_type::error::{TypeError, TypeErrorKind};
 use wave_type::func::FuncType;
 use wave_type::ty::Type;
+use wave_type_explain::expected::Reading;
+use wave_type_explain::explain::explain_as;
 
 /// The type that the text spells within the levels.
 pub(crate) fn opened(alloc: Global, ty: &[u8], levels: u32) -> Result<Type, Failure>
@@ -90,7 +90,7 @@ pub(crate) fn explained_by(
     let spelling = text_of(ty, Argument::TypeText)?;
     match Type::parse_within(alloc, spelling, limit_of(levels)) {
         Ok(ty) => explained(alloc, &ty, text, levels),
-        Err(error) => explain_type(alloc, &error, spelling),
+        Err(error) => explain_type(alloc, &error, spelling, Reading::ValueType),
     }
 }
 
@@ -102,19 +102,23 @@ pub(crate) fn func_explained(alloc: Global, func: &[u8], levels: u32) -> Result<
     let func = text_of(func, Argument::TypeText)?;
     match FuncType::parse_within(alloc, func, limit_of(levels)) {
         Ok(_) => Ok(Vec::new(alloc)),
-        Err(error) => explain_type(alloc, &error, func),
+        Err(error) => explain_type(alloc, &error, func, Reading::FunctionType),
     }
 }
 
-/// What explains the refusal of a type's text; out of memory, for that or as the refusal itself.
-fn explain_type(alloc: Global, error: &TypeError, ty: &str) -> Result<Vec<u8>, Failure>
-    ensures said { IfOk result (λ said. IsExplained ty.now (type_error_text error.now) error.now.span said.items) }
+/// What explains the refusal of a text that is to spell this; out of memory, for that or as the refusal itself.
+fn explain_type(
+    alloc: Global,
+    error: &TypeError,
+    ty: &str,
+    reading: Reading,
+) -> Result<Vec<u8>, Failure>
+    ensures said { IfOk result (λ said. IsExplainedAs reading ty.now error.now said.items) }
     ensures reported { IfOk result (λ _. error.now.kind ≢ type_kind.OutOfMemory) }
     ensures failed { IfErr result FailsForMemory }
 {
     if error.kind() == TypeErrorKind::OutOfMemory {
         return Err(Failure::Memory);
     }
-    let message = error.to_string(alloc)?;
-    Ok(explain_at(alloc, message.as_str(), error.span(), ty)?.into_bytes())
+    Ok(explain_as(alloc, error, ty, reading)?.into_bytes())
 }
