@@ -1,0 +1,12 @@
+-- Proofs.
+mod Writing
+mod OpenBrackets
+mod LastCommas
+mod Laying
+mod Ending
+mod EmptyCalls
+mod CallNames
+mod Lines
+mod Steps
+mod Gaps
+mod WholeTexts

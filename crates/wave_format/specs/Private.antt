@@ -1,0 +1,4 @@
+pub mod Writing
+pub mod Brackets
+pub mod Sheets
+pub mod Laying
