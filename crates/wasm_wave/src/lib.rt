@@ -18,6 +18,7 @@ use std::alloc::Global;
 use wave_lex::error::ParserError;
 
 pub mod explain;
+pub mod format;
 pub mod laws;
 pub mod value;
 pub mod wasm;
