@@ -10,6 +10,7 @@
 mod calls;
 mod cuts;
 mod explained;
+mod layout;
 mod nodes;
 mod parsers;
 mod reading;
@@ -87,6 +88,7 @@ fn call(rt: HostRuntime, name: &str, words: &[String]) -> Result<(), Stopped> {
         "explain" | "explain_value" | "explain_at" | "explain_call" => {
             explained::block(rt, name, words)
         }
+        "format_text" | "format_call" | "to_string_pretty" => layout::laid_out(rt, name, words),
         _ => calls::call(rt, name, words),
     }
 }
