@@ -1,4 +1,3 @@
-pub mod Moved
 pub mod HavingValue
 pub mod Spelled
 pub mod Requested

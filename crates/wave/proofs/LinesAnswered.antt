@@ -12,15 +12,15 @@ use Rattle.wave.specs.declared.input.Input.{Input}
 use Rattle.wave.specs.declared.input.RunError.{RunError}
 use Rattle.wave.specs.declared.input.RunError.TheVariants.{NotUtf8, InputFailed, OutOfMemory}
 use Rattle.wave.specs.declared.lines.Unread.{Unread}
-use Rattle.wave.specs.declared.output.Output.{Output}
+use Rattle.wave_files.specs.declared.output.Output.{Output}
 use Rattle.wave.specs.declared.program.Ended.{Ended}
 use Rattle.wave.specs.Answers.{words_of_fault}
 use Rattle.wave.specs.ByLines.{IsLineAnswer, AreAnswered, IsStatusOf, IsPlaceShown, IsLineFault, EndsAtFault, AnswersLines, AreRead, most_unanswered}
-use Rattle.wave.specs.Counts.{CountsOne}
+use Rattle.wave_files.specs.Counts.{CountsOne}
 use Rattle.wave.specs.Lines.{line}
 use Rattle.wave.specs.Options.{unless_quiet}
 use Rattle.wave.specs.ReadFaults.{IsUnread}
-use Rattle.wave.specs.Written.{WritesWhole, WritesLess, Prints}
+use Rattle.wave_files.specs.Written.{WritesWhole, WritesLess, Prints}
 use Rattle.wave.specs.Private.ByLines.{IsUnansweredLine, IsNoNextAnswer, ShowsLast, Releases}
 use Rattle.wave.specs.Private.InputLines.{IsCutOff, IsEndKnown, LosesPart, TakesLine, TakesLines, left, most_lines, unread_bytes}
 

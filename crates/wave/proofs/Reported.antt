@@ -10,7 +10,7 @@ use Rattle.wave.specs.declared.program.Ended.{Ended}
 use Rattle.wave.specs.declared.input.Input.{Input}
 use Rattle.wave.specs.declared.input.RunError.{RunError}
 use Rattle.wave.specs.declared.input.RunError.TheVariants.{NotUtf8, InputFailed, OutOfMemory}
-use Rattle.wave.specs.declared.output.Output.{Output}
+use Rattle.wave_files.specs.declared.output.Output.{Output}
 use Rattle.wave.specs.Requests.{SayLimit, AreWordsOf}
 use Rattle.wave.specs.Answers.{IsFaultOf, IsInput, words_of_fault}
 use Rattle.wave.specs.ByLines.{AnswersLines, RunsByLines}
@@ -19,7 +19,7 @@ use Rattle.wave.specs.Lines.{line}
 use Rattle.wave.specs.Options.{is_by_lines, is_quiet, plain, unless_quiet}
 use Rattle.wave.specs.ReadFaults.{IsReadToEnd}
 use Rattle.wave.specs.Statuses.{IsLineOfRequest, IsLineOfRun}
-use Rattle.wave.specs.Written.{Prints, WritesWhole, WritesLess}
+use Rattle.wave_files.specs.Written.{Prints, WritesWhole, WritesLess}
 use Rattle.wave.specs.Private.Requests.{IsFit, MakeNone}
 use Rattle.wave.proofs.Spelled.{named_distinct, params_distinct}
 use Rattle.wave.specs.Private.Answers.{ShowsText, ShowsFault, IsNoOutcome, Refuses, ReportsRefusal}

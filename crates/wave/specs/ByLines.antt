@@ -13,7 +13,7 @@ use Rattle.wave.specs.declared.request.Request.{Request}
 use Rattle.wave.specs.declared.input.Input.{Input}
 use Rattle.wave.specs.declared.input.RunError.{RunError}
 use Rattle.wave.specs.declared.input.RunError.TheVariants.{NotUtf8, InputFailed, OutOfMemory}
-use Rattle.wave.specs.declared.output.Output.{Output}
+use Rattle.wave_files.specs.declared.output.Output.{Output}
 use Rattle.wave.specs.declared.program.Ended.{Ended}
 use Rattle.wave.specs.Answers.{Answers, IsRefused, IsTextUpTo, words_of_fault}
 use Rattle.wave.specs.Explained.{Explains, place_shown}
@@ -21,7 +21,7 @@ use Rattle.wave.specs.Lines.{line, IsInOneLine}
 use Rattle.wave.specs.Options.{is_quiet, unless_quiet}
 use Rattle.wave.specs.ReadFaults.{IsReadToEnd, IsUnread}
 use Rattle.wave.specs.Requests.{AskByLines}
-use Rattle.wave.specs.Written.{WritesWhole, WritesLess}
+use Rattle.wave_files.specs.Written.{WritesWhole, WritesLess}
 
 -- nothing stands in the text but whitespace and comments
 abbrev pub IsBlank : List ℕ → Type 0

@@ -13,12 +13,12 @@ use Rattle.wave.specs.declared.request.Request.TheVariants as request
 use Rattle.wave.specs.declared.input.Input.{Input}
 use Rattle.wave.specs.declared.input.RunError.{RunError}
 use Rattle.wave.specs.declared.input.RunError.TheVariants.{NotUtf8, InputFailed, OutOfMemory}
-use Rattle.wave.specs.declared.output.Output.{Output}
+use Rattle.wave_files.specs.declared.output.Output.{Output}
 use Rattle.wave.specs.Options.{is_quiet, unless_quiet}
 use Rattle.wave.specs.Requests.{AskFor}
 use Rattle.wave.specs.Answers.{IsRefused, IsInput, IsFaultOf, words_of_fault}
 use Rattle.wave.specs.Lines.{line}
-use Rattle.wave.specs.Written.{WritesWhole, WritesLess}
+use Rattle.wave_files.specs.Written.{WritesWhole, WritesLess}
 
 -- the text explains the refusal of the whole text: without a type with what may stand there; of a value at a type, and of a call at a
 -- function's type, with the path to the part that is wrong and the type that is expected there

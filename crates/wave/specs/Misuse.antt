@@ -15,14 +15,14 @@ use Rattle.wave_type.specs.TypeItems.{IsTypeFault, IsFunctionFault}
 use Rattle.wave_type.specs.declared.error.TypeErrorKind.TheVariants as kind
 use Rattle.wave_type.specs.TypeSpelling.{IsTypeOf, IsNoType}
 use Rattle.wave_type_explain.specs.TypeExplained as explained
-use Rattle.wave.specs.declared.output.Output.{Output}
+use Rattle.wave_files.specs.declared.output.Output.{Output}
 use Rattle.wave.specs.Commands.{command_names, paged_names}
 use Rattle.wave.specs.Completions.{IsScript, HasNoScript}
 use Rattle.wave.specs.Help.{AskForHelp, AskForVersion, IsPage, HasNoPage}
 use Rattle.wave.specs.Lines.{line}
 use Rattle.wave.specs.Requests.{IsLimitWord}
 use Rattle.wave.specs.Types.{text_of, HasValue}
-use Rattle.wave.specs.Written.{WritesWhole, WritesLess}
+use Rattle.wave_files.specs.Written.{WritesWhole, WritesLess}
 
 -- the commands, and how many arguments each has at most, itself included
 abbrev pub commands : List (List ℕ × ℕ)

@@ -1,6 +1,6 @@
 -- How far an input was read, and why not to its end.
 use Rattle.std.specs.Prelude.{◌≡◌, ◌⊎◌, true, false}
-use Rattle.wave.specs.Counts.{CountsOne}
+use Rattle.wave_files.specs.Counts.{CountsOne}
 use Rattle.wave.specs.declared.input.Input.{Input}
 
 module _ {R : Type 0} where

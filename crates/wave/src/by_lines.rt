@@ -8,17 +8,17 @@ ghost use Rattle.wave.specs.Lines.{line};
 ghost use Rattle.wave.specs.Private.ByLines.{IsUnansweredLine, IsNoNextAnswer, ShowsLast, Releases};
 ghost use Rattle.wave.specs.Private.InputLines.{left, IsEndKnown, LosesPart, TakesLine, most_lines};
 ghost use Rattle.wave.specs.Private.Requests.{IsFit};
-ghost use Rattle.wave.specs.Written.{WritesWhole, WritesLess};
+ghost use Rattle.wave_files.specs.Written.{WritesWhole, WritesLess};
 
 use crate::answer::{Unanswered, answer, explain_refusal};
 use crate::input::{Input, RunError};
 use crate::lines::Unread;
-use crate::output::Output;
-use crate::program::{Ended, fault_line, line_of, print, unless_quiet, write_whole};
+use crate::program::{Ended, fault_line, line_of, unless_quiet};
 use crate::request::Request;
 use std::alloc::{AllocError, Global};
 use std::io::{Read, Write};
 use wasm_wave::parser::{Parser, ParserError, ParserErrorKind};
+use wave_files::output::{Output, print, write_whole};
 
 /// So many bytes of answers are written at the latest.
 const MOST_HELD: usize = 65_536;

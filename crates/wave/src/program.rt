@@ -4,7 +4,7 @@ ghost use Rattle.std.specs.Str.{IsValidUpTo};
 ghost use Rattle.wave_lex.specs.Errors.{error_text};
 ghost use Rattle.wave_lex.specs.declared.error.ParserErrorKind.TheVariants as kind;
 ghost use Rattle.wave.specs.ReadFaults.{IsReadToEnd};
-ghost use Rattle.wave.specs.Written.{WritesWhole, WritesLess, Prints};
+ghost use Rattle.wave_files.specs.Written.{WritesWhole, WritesLess, Prints};
 ghost use Rattle.wave.specs.Options.{is_quiet, plain, unless_quiet};
 ghost use Rattle.wave.specs.Requests.{AreUnknown};
 ghost use Rattle.wave.specs.Answers.{words_of_fault, usage};
@@ -22,11 +22,12 @@ use crate::help::notice_of;
 use crate::input::{Input, RunError};
 use crate::lines::CHUNK;
 use crate::misuse::explain_misuse;
-use crate::output::Output;
-use crate::request::{Request, request_of, take_option};
+use crate::request::{Request, request_of};
 use std::alloc::{AllocError, Global};
 use std::io::{Read, Write};
 use wasm_wave::parser::{ParserError, ParserErrorKind};
+use wave_files::options::take_option;
+use wave_files::output::{Output, print, write_whole};
 
 const USAGE: &str = "usage: wave value [N] | wave call | wave read NAME [N]\n";
 
@@ -278,33 +279,6 @@ pub fn fault_line(fault: RunError) -> &'static str
         RunError::InputFailed => "input failed\n",
         RunError::OutOfMemory => "out of memory\n",
     }
-}
-
-/// The status, or 3 where a write failed before all of the text was written.
-pub fn print<W: Write>(output: &mut Output<W>, line: &str, status: u8) -> u8
-    ensures { Prints W.contents output.old output.new line.now status result }
-{
-    if write_whole(output, line.as_bytes()) {
-        status
-    } else {
-        3
-    }
-}
-
-/// Writes all of the bytes, or answers false where a write failed before all were written.
-pub fn write_whole<W: Write>(output: &mut Output<W>, bytes: &[u8]) -> bool
-    ensures whole { result ≡ true → WritesWhole W.contents output.old output.new bytes.now }
-    ensures cut { result ≡ false → WritesLess W.contents output.old output.new bytes.now }
-{
-    let mut rest = bytes;
-    while !rest.is_empty() {
-        let count = output.write(rest);
-        if count == 0 {
-            return false;
-        }
-        rest = &rest[count..];
-    }
-    true
 }
 
 /// What a request comes to on the whole input.

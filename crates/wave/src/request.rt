@@ -1,6 +1,5 @@
 // What the arguments after the program's name ask for.
 ghost use Rattle.std.specs.Prelude.{ℕ, [], ◌∷◌, ◌≡◌, IfOk, IfErr, MatchOption, map, string_bytes};
-ghost use Rattle.wave.specs.Options.{is_given, without};
 ghost use Rattle.wave.specs.Requests.{IsLimitWord, AreWordsOf, HaveType};
 ghost use Rattle.wave.specs.Private.Requests.{MakeNone};
 
@@ -100,22 +99,6 @@ fn three_words(
         Some(ty) => Ok(Some(Request::Read(ty, levels))),
         None => Ok(None),
     }
-}
-
-/// Takes the option out of the arguments where it stands behind the first, once. Whether it stood there.
-pub fn take_option(words: &mut Vec<String>, option: &str) -> bool
-    ensures given { result ≡ is_given option.now (map string_bytes words.old.items) }
-    ensures left { map string_bytes words.new.items ≡ without option.now (map string_bytes words.old.items) }
-{
-    let mut place = 1;
-    while place < words.len() {
-        if words[place].as_str() == option {
-            drop(words.remove(place));
-            return true;
-        }
-        place += 1;
-    }
-    false
 }
 
 /// The request that the arguments make, which have no options. The only error is out of memory, for the

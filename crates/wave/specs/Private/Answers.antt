@@ -12,7 +12,7 @@ use Rattle.wave.specs.declared.request.Request.{Request}
 use Rattle.wave.specs.declared.input.Input.{Input}
 use Rattle.wave.specs.declared.input.RunError.{RunError}
 use Rattle.wave.specs.declared.input.RunError.TheVariants.{NotUtf8, InputFailed, OutOfMemory}
-use Rattle.wave.specs.declared.output.Output.{Output}
+use Rattle.wave_files.specs.declared.output.Output.{Output}
 use Rattle.wave.specs.declared.program.Outcome.{Outcome}
 use Rattle.wave.specs.declared.program.Outcome.TheVariants.{Answered, Refused}
 use Rattle.wave.specs.Answers.{Answers, IsRefused, IsInput, IsNoText, words_of_fault}
@@ -20,7 +20,7 @@ use Rattle.wave.specs.Lines.{line}
 use Rattle.wave.specs.Options.{unless_quiet}
 use Rattle.wave.specs.ReadFaults.{IsReadToEnd, IsUnread}
 use Rattle.wave.specs.Statuses.{IsAnswer}
-use Rattle.wave.specs.Written.{Prints, WritesWhole, WritesLess}
+use Rattle.wave_files.specs.Written.{Prints, WritesWhole, WritesLess}
 use Rattle.wave.specs.Explained.{ShowsPlace}
 
 -- the request has no answer on the text, and the refusal says why; or it is out of memory

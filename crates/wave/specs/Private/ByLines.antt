@@ -5,8 +5,8 @@ use Rattle.wave.specs.declared.input.Input.{Input}
 use Rattle.wave.specs.declared.input.RunError.{RunError}
 use Rattle.wave.specs.declared.input.RunError.TheVariants.{NotUtf8, InputFailed, OutOfMemory}
 use Rattle.wave.specs.Answers.{IsTextUpTo}
-use Rattle.wave.specs.declared.output.Output.{Output}
-use Rattle.wave.specs.Written.{WritesWhole, WritesLess}
+use Rattle.wave_files.specs.declared.output.Output.{Output}
+use Rattle.wave_files.specs.Written.{WritesWhole, WritesLess}
 use Rattle.wave.specs.Private.InputLines.{IsCutOff, TakesLine}
 
 -- why a line is not answered: it is no text; or there was no memory

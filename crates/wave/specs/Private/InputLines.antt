@@ -3,7 +3,7 @@ use Rattle.std.specs.Prelude.{ℕ, ◌≡◌, ◌+◌, ◌*◌, ◌<◌, ◌≤�
 use Rattle.std.specs.declared.option.Option.{Option}
 use Rattle.std.specs.Io.KnownBytes.{Consumes, IsAtEnd, prepend_known}
 use Rattle.std.specs.Str.Lines.{lines}
-use Rattle.wave.specs.Counts.{CountsOne}
+use Rattle.wave_files.specs.Counts.{CountsOne}
 use Rattle.wave.specs.Lines.{IsInOneLine}
 use Rattle.wave.specs.declared.input.RunError.{RunError}
 use Rattle.wave.specs.declared.input.RunError.TheVariants.{NotUtf8, InputFailed, OutOfMemory}

@@ -1,7 +1,7 @@
 use Rattle.std.proofs.Common.{◌∙◌, [], Err, refl, sym, ap, subst}
 use Rattle.wave.specs.ByLines.{IsPlaceShown}
 use Rattle.wave.specs.Options.{unless_quiet}
-use Rattle.wave.specs.Written.{WritesWhole, WritesLess}
+use Rattle.wave_files.specs.Written.{WritesWhole, WritesLess}
 use Rattle.wave.proofs.LinesAnswered.{shows_nothing, shows_last, unwritten, unreported, all_reported}
 use Rattle.wave.proofs.by_lines.fail_at.Goals as goal
 

@@ -1,7 +1,7 @@
 use Rattle.std.proofs.Common.{◌++◌, ◌∙◌, refl, sym, ap, subst, string_bytes}
 use Rattle.std.specs.Prelude.{if◌then◌else◌}
 use Rattle.wave.specs.Private.ByLines.{Releases}
-use Rattle.wave.specs.Written.{WritesWhole, WritesLess}
+use Rattle.wave_files.specs.Written.{WritesWhole, WritesLess}
 use Rattle.wave.proofs.LinesAnswered.{released_with, released_less, less_more}
 use Rattle.wave.proofs.by_lines.hold.Goals as goal
 

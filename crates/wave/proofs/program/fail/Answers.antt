@@ -1,7 +1,7 @@
 use Rattle.std.proofs.Common.{◌∙◌, inl, sym, ap, subst}
 use Rattle.wave.specs.Private.Answers.{ShowsFault}
 use Rattle.wave.specs.Options.{unless_quiet}
-use Rattle.wave.specs.Written.{WritesWhole}
+use Rattle.wave_files.specs.Written.{WritesWhole}
 use Rattle.wave.proofs.Reported.{place_shown_of}
 use Rattle.wave.proofs.program.fail.Goals as goal
 

@@ -1,7 +1,7 @@
 use Rattle.std.proofs.Common.{◌∙◌, inr, ap, subst}
 use Rattle.wave.specs.Explained.{Explains}
 use Rattle.wave.specs.Options.{unless_quiet}
-use Rattle.wave.specs.Written.{Prints}
+use Rattle.wave_files.specs.Written.{Prints}
 use Rattle.wave.proofs.Reported.{printed_so, shown_text}
 use Rattle.wave.proofs.program.refuse.Goals as goal
 

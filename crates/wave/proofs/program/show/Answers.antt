@@ -1,6 +1,6 @@
 use Rattle.std.proofs.Common.{◌≡◌, ◌⊎◌, Ok, refl, sym, subst}
 use Rattle.wave.specs.Private.Answers.{ShowsText}
-use Rattle.wave.specs.Written.{WritesWhole, WritesLess}
+use Rattle.wave_files.specs.Written.{WritesWhole, WritesLess}
 use Rattle.wave.proofs.Reported.{written}
 use Rattle.wave.proofs.program.show.Goals as goal
 

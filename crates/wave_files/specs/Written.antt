@@ -2,8 +2,8 @@
 use Rattle.std.specs.Prelude.{ℕ, List, [], ◌++◌, ◌≡◌, ◌≢◌, ◌⊎◌}
 use Rattle.std.specs.declared.option.Option.{Option}
 use Rattle.std.specs.Io.KnownBytes.{Appends}
-use Rattle.wave.specs.declared.output.Output.{Output}
-use Rattle.wave.specs.Counts.{CountsOne}
+use Rattle.wave_files.specs.declared.output.Output.{Output}
+use Rattle.wave_files.specs.Counts.{CountsOne}
 
 module _ {W : Type 0} (contents : W → Option (List ℕ)) where
   -- the whole text was written, and no write failed

@@ -1,10 +1,10 @@
 use Rattle.std.proofs.Common.{◌≡◌, ◌<◌, ◌+◌, suc, true, ◌∙◌, String, Global, Vec, string_bytes, map, length, sym, ap, subst, arith}
 use Rattle.std.specs.Prelude.{remove}
 use Rattle.std.specs.Str.{bytes_eq}
-use Rattle.wave.specs.Options.{is_given, without}
-use Rattle.wave.proofs.Misused.{text_at, length_texts}
-use Rattle.wave.proofs.Options.{IsSearchedFrom, searched_more, given_here, taken_here}
-use Rattle.wave.proofs.request.take_option.Goals as goal
+use Rattle.wave_files.specs.Options.{is_given, without}
+use Rattle.wave_files.proofs.TakenOut.{text_at, length_texts}
+use Rattle.wave_files.proofs.TakenOut.{IsSearchedFrom, searched_more, given_here, taken_here}
+use Rattle.wave_files.proofs.options.take_option.Goals as goal
 
 pub returns-then-eq-clause-given : goal.returns-then-eq-clause-given
 returns-then-eq-clause-given c =

@@ -1,0 +1,4 @@
+pub mod Moved
+pub mod TakenOut
+pub mod Outputs
+pub mod Entries
