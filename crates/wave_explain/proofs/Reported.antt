@@ -14,7 +14,7 @@ use Rattle.wave_grammar.specs.NodeTree.{NodeTree}
 use Rattle.wave_grammar.specs.ErrorSpans.{LiesInNode}
 use Rattle.wave_tree.specs.UntypedCall.{Called, IsCalledWithin, IsNoCallWithin}
 use Rattle.wave_explain.specs.EscapeMarks.{IsSyntaxMark}
-use Rattle.wave_explain.specs.ValueExplained.{is_of_type, ReportsPart, IsPartMark, IsUnexpected, BeginWith}
+use Rattle.wave_explain.specs.ValueExplained.{is_of_type, ReportsPart, IsBlock}
 use Rattle.wave_explain.specs.CallExplained.{name_or_number, Gives, ReportsParameter, HasNoParameter, ReportsExpectedInCall}
 
 -- the same is told of an equal node, by an equal path and equal lines
@@ -22,6 +22,12 @@ pub reported_again : (source : List ℕ) (span : Range ℕ) (n k : NodeTree) (T 
 reported_again source span n k T way path lines others same_node same_path same_lines reported =
     subst (λ x. ReportsPart source span x T path others) same_node
     (subst (λ x. ReportsPart source span n T x others) same_path (subst (λ x. ReportsPart source span n T way x) same_lines reported))
+
+-- a block of an equal message, an equal path and equal lines
+pub block_again : (source said message : List ℕ) (mark : Range ℕ) (way path lines others text : List ℕ) → said ≡ message → way ≡ path → lines ≡ others → IsBlock source said mark way lines text → IsBlock source message mark path others text
+block_again source said message mark way path lines others text same_message same_path same_lines block =
+    subst (λ x. IsBlock source x mark path others text) same_message
+    (subst (λ x. IsBlock source said mark x others text) same_path (subst (λ x. IsBlock source said mark way x text) same_lines block))
 
 -- the name of a parameter that has one
 pub parameter_name : (names : List (Bor (List ℕ))) (i : ℕ) (x : Bor (List ℕ)) → i < length names → x ≡ get_or names i x → name_or_number (slice_get (texts names) i) i ≡ x.now
@@ -69,14 +75,3 @@ module _ {S : Type 0} (tree : S → TypeTree) where
   -- as many as were answered
   pub as_many : (types : List TypeTree) (items : List (Bor S)) (n : ℕ) → n ≡ length items → denoted_all tree items ≡ types → n ≡ length types
   as_many types items n count parts = count ∙ (sym (length-map items (λ (b : Bor S). tree b.now)) ∙ ap length parts)
-
--- what a block of a call tells by its path and its lines
-abbrev pub Reports : List ℕ → Func → Diagnostic → Range ℕ → List ℕ → List ℕ → Type 0
-Reports source f e mark path lines =
-    (is_of_type e.kind ≡ true) × ReportsParameter source f e.span path lines × IsPartMark source e.span mark
-    ⊎ (path ≡ []) × HasNoParameter e.kind source f.params e.span × IsSyntaxMark source e mark × (IsUnexpected e.kind → BeginWith ReportsExpectedInCall source e.span.start lines)
-
--- the same is reported by an equal path and equal lines
-pub params_again : (source : List ℕ) (f : Func) (e : Diagnostic) (mark : Range ℕ) (path lines other others : List ℕ) → path ≡ other → lines ≡ others → Reports source f e mark path lines → Reports source f e mark other others
-params_again source f e mark path lines other others same_path same_lines reported =
-    subst (λ x. Reports source f e mark x others) same_path (subst (λ x. Reports source f e mark path x) same_lines reported)

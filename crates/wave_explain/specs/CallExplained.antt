@@ -12,7 +12,7 @@ use Rattle.wave_expected.specs.declared.expected.Expected.{Expected}
 use Rattle.wave_expected.specs.Expected.{IsExpectedInCallWithin, IsWithoutName}
 use Rattle.wave_tree.specs.UntypedCall.{Called, IsCalledWithin, IsNoCallWithin}
 use Rattle.wave_explain.specs.EscapeMarks.{IsSyntaxMark}
-use Rattle.wave_explain.specs.ValueExplained.{is_of_type, ReportsPart, IsPartMark, IsBlock, IsUnexpected, expectation, BeginWith, IsSyntaxExplained}
+use Rattle.wave_explain.specs.ValueExplained.{is_of_type, ReportsPart, IsPartMark, IsBlock, IsUnexpected, expectation, BeginWith, ExplainsSyntax, IsSyntaxExplained}
 
 -- the call gives the value of this node to the parameter at index i
 abbrev pub Gives : Called → ℕ → NodeTree → Type 0
@@ -61,14 +61,22 @@ ReportsExpectedInCall source at said =
 abbrev pub IsUntypedCallExplained : List ℕ → Diagnostic → List ℕ → Type 0
 IsUntypedCallExplained source e text = IsSyntaxExplained ReportsExpectedInCall source e text
 
--- the text explains the refusal of the source, a call of the function f: of a fault of type a block with the path to the part of a
--- parameter that is wrong and the type that is expected there, or one without a path where no parameter is reported
+-- the mark, the path and the lines explain the refusal of the source, which is read as a call without types
+abbrev pub ExplainsUntypedCall : List ℕ → Diagnostic → Range ℕ → List ℕ → List ℕ → Type 0
+ExplainsUntypedCall source e mark path lines = ExplainsSyntax ReportsExpectedInCall source e mark path lines
+
+-- the mark, the path and the lines explain the refusal of the source, a call of the function f: of a fault of type by the path to the part of
+-- a parameter that is wrong and the type that is expected there, or without a path where no parameter is reported
+abbrev pub ExplainsCall : List ℕ → Func → Diagnostic → Range ℕ → List ℕ → List ℕ → Type 0
+ExplainsCall source f e mark path lines =
+    (is_of_type e.kind ≡ true) × ReportsParameter source f e.span path lines × IsPartMark source e.span mark
+    ⊎ (path ≡ []) × HasNoParameter e.kind source f.params e.span × IsSyntaxMark source e mark
+    × (IsUnexpected e.kind → BeginWith ReportsExpectedInCall source e.span.start lines)
+
+-- the text explains the refusal of the source, a call of the function f: a block of such a mark, path and lines
 pub record IsCallExplained (source : List ℕ) (f : Func) (e : Diagnostic) (text : List ℕ) : Type 0 where
   pub mark : Range ℕ
   pub path : List ℕ
   pub lines : List ℕ
-  pub reported :
-      (is_of_type e.kind ≡ true) × ReportsParameter source f e.span path lines × IsPartMark source e.span mark
-      ⊎ (path ≡ []) × HasNoParameter e.kind source f.params e.span × IsSyntaxMark source e mark
-      × (IsUnexpected e.kind → BeginWith ReportsExpectedInCall source e.span.start lines)
+  pub reported : ExplainsCall source f e mark path lines
   pub block : IsBlock source (error_text e) mark path lines text

@@ -108,6 +108,16 @@ ReportsExpectedAt source at said = (x : Expected) × IsExpected source at 1000 x
 abbrev pub BeginWith : (List ℕ → ℕ → List ℕ → Type 0) → List ℕ → ℕ → List ℕ → Type 0
 BeginWith Reports source at lines = (said : List ℕ) × (more : List ℕ) × Reports source at said × (lines ≡ said ++ more)
 
+-- the mark and the lines explain the refusal of the source, without a path: the lines tell what may stand where a token or the end is refused
+pub record ExplainsSyntax (Reports : List ℕ → ℕ → List ℕ → Type 0) (source : List ℕ) (e : Diagnostic) (mark : Range ℕ) (path lines : List ℕ) : Type 0 where
+  pub is_mark : IsSyntaxMark source e mark
+  pub no_path : path ≡ []
+  pub reported : IsUnexpected e.kind → BeginWith Reports source e.span.start lines
+
+-- so they do where a value is read without a type
+abbrev pub ExplainsUntyped : List ℕ → Diagnostic → Range ℕ → List ℕ → List ℕ → Type 0
+ExplainsUntyped source e mark path lines = ExplainsSyntax ReportsExpectedAt source e mark path lines
+
 -- the text explains the refusal of the source: a block without a path, whose lines tell what may stand where a token or the end is refused
 pub record IsSyntaxExplained (Reports : List ℕ → ℕ → List ℕ → Type 0) (source : List ℕ) (e : Diagnostic) (text : List ℕ) : Type 0 where
   pub mark : Range ℕ
@@ -122,13 +132,22 @@ IsUntypedExplained source e text = IsSyntaxExplained ReportsExpectedAt source e 
 
 -- ---- at a type
 
--- the text explains the refusal of the source at the type T: of a fault of type a block with the path to the part that is wrong and the
--- type that is expected there, or one without a path where no part is looked for
+-- the mark, the path and the lines explain the fault of the node at the type T: the path leads from the node to the part that is wrong, and
+-- the first line says which type is expected there
+abbrev pub ExplainsFault : List ℕ → NodeTree → TypeTree → Diagnostic → Range ℕ → List ℕ → List ℕ → Type 0
+ExplainsFault source n T e mark path lines = ReportsPart source e.span n T path lines × IsPartMark source e.span mark
+
+-- the mark, the path and the lines explain the refusal of the source at the type T: of a fault of type by the path to the part that is wrong
+-- and the type that is expected there, or without a path where no part is looked for
+abbrev pub ExplainsValue : List ℕ → TypeTree → Diagnostic → Range ℕ → List ℕ → List ℕ → Type 0
+ExplainsValue source T e mark path lines =
+    (is_of_type e.kind ≡ true) × ReportsPartOfValue source e.span T path lines × IsPartMark source e.span mark
+    ⊎ (path ≡ []) × HasNoPart e.kind source × IsSyntaxMark source e mark × (IsUnexpected e.kind → BeginWith ReportsExpectedAt source e.span.start lines)
+
+-- the text explains the refusal of the source at the type T: a block of such a mark, path and lines
 pub record IsValueExplained (source : List ℕ) (T : TypeTree) (e : Diagnostic) (text : List ℕ) : Type 0 where
   pub mark : Range ℕ
   pub path : List ℕ
   pub lines : List ℕ
-  pub reported :
-      (is_of_type e.kind ≡ true) × ReportsPartOfValue source e.span T path lines × IsPartMark source e.span mark
-      ⊎ (path ≡ []) × HasNoPart e.kind source × IsSyntaxMark source e mark × (IsUnexpected e.kind → BeginWith ReportsExpectedAt source e.span.start lines)
+  pub reported : ExplainsValue source T e mark path lines
   pub block : IsBlock source (error_text e) mark path lines text

@@ -10,11 +10,13 @@ ghost use Rattle.wave_grammar.specs.TypedReading.{IsValueOf};
 ghost use Rattle.wave_tree.specs.UntypedCall.{IsCalledWithin, IsNoCallWithin};
 ghost use Rattle.wave_explain.specs.EscapeMarks.{IsSyntaxMark};
 ghost use Rattle.wave_explain.specs.ValueExplained.{is_of_type, IsPartMark, IsUnexpected, BeginWith};
-ghost use Rattle.wave_explain.specs.CallExplained.{Gives, parameter_text, ReportsParameter, HasNoParameter, ReportsExpectedInCall, IsCallExplained, IsUntypedCallExplained};
+ghost use Rattle.wave_explain.specs.CallExplained.{Gives, parameter_text, ReportsParameter, HasNoParameter, ReportsExpectedInCall, ExplainsCall, ExplainsUntypedCall, IsCallExplained, IsUntypedCallExplained};
 
 use crate::open::open_line_in_call;
 use crate::syntax::Reading;
-use crate::value::{block, explain_syntax, is_of_type, part_mark, report_part};
+use crate::value::{
+    Explanation, explain_syntax, explained, is_of_type, part_mark, report_part, syntax_explanation,
+};
 use std::alloc::{AllocError, Global};
 use std::fmt::Write;
 use wave_hints::params::params_lines;
@@ -55,6 +57,19 @@ pub fn explain_call<F: WasmFunc>(
 ) -> Result<String, AllocError>
     ensures { IfOk result (λ text. IsCallExplained source.now (F.func func.now) error.now (string_bytes text)) }
 {
+    let parts = call_explanation(alloc, error, source, func)?;
+    explained(alloc, error, source, &parts)
+}
+
+/// What `explain_call` shows of the refusal, in its parts.
+pub fn call_explanation<F: WasmFunc>(
+    alloc: Global,
+    error: &ParserError,
+    source: &str,
+    func: &F,
+) -> Result<Explanation, AllocError>
+    ensures { IfOk result (λ x. ExplainsCall source.now (F.func func.now) error.now x.mark (string_bytes x.path) (string_bytes x.lines)) }
+{
     match called(alloc, error.kind(), source)? {
         Some(call) => explain_params(alloc, error, source, &call, func),
         None => explain_call_alone(alloc, error, source, func),
@@ -84,6 +99,17 @@ pub fn explain_untyped_call(
     explain_syntax(alloc, error, source, Reading::Call, "")
 }
 
+/// What `explain_untyped_call` shows of the refusal, in its parts.
+pub fn untyped_call_explanation(
+    alloc: Global,
+    error: &ParserError,
+    source: &str,
+) -> Result<Explanation, AllocError>
+    ensures { IfOk result (λ x. ExplainsUntypedCall source.now error.now x.mark (string_bytes x.path) (string_bytes x.lines)) }
+{
+    syntax_explanation(alloc, error, source, Reading::Call, "")
+}
+
 /// The explanation by the call that the source is.
 fn explain_params<F: WasmFunc>(
     alloc: Global,
@@ -91,23 +117,15 @@ fn explain_params<F: WasmFunc>(
     source: &str,
     call: &UntypedFuncCall<'_>,
     func: &F,
-) -> Result<String, AllocError>
+) -> Result<Explanation, AllocError>
     requires call { IsCalledWithin 1000 source.now call.now }
     requires kind { IsUnexpected error.now.kind → ⊥ }
-    ensures { IfOk result (λ text. IsCallExplained source.now (F.func func.now) error.now (string_bytes text)) }
+    ensures { IfOk result (λ x. ExplainsCall source.now (F.func func.now) error.now x.mark (string_bytes x.path) (string_bytes x.lines)) }
 {
     let mut path = String::new(alloc);
     let mut lines = String::new(alloc);
     let mark = report_params(alloc, error, source, call, func, &mut path, &mut lines)?;
-    let message = error.to_string(alloc)?;
-    block(
-        alloc,
-        message.as_str(),
-        mark,
-        source,
-        path.as_str(),
-        lines.as_str(),
-    )
+    Ok(Explanation { mark, path, lines })
 }
 
 /// The explanation where no parameter is looked for.
@@ -116,13 +134,13 @@ fn explain_call_alone<F: WasmFunc>(
     error: &ParserError,
     source: &str,
     func: &F,
-) -> Result<String, AllocError>
+) -> Result<Explanation, AllocError>
     requires { (is_of_type error.now.kind ≡ false) ⊎ IsNoCallWithin 1000 source.now }
-    ensures { IfOk result (λ text. IsCallExplained source.now (F.func func.now) error.now (string_bytes text)) }
+    ensures { IfOk result (λ x. ExplainsCall source.now (F.func func.now) error.now x.mark (string_bytes x.path) (string_bytes x.lines)) }
 {
     let at = part_mark(source, error.span(), None).start;
     let more = open_line_in_call(alloc, error.kind(), source, at, func)?;
-    explain_syntax(alloc, error, source, Reading::Call, more.as_str())
+    syntax_explanation(alloc, error, source, Reading::Call, more.as_str())
 }
 
 /// The call that the source is, read without types, where the refusal is of a fault of its parameters.

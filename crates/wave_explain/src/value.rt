@@ -5,6 +5,7 @@ ghost use Rattle.wave_wasm.specs.Types.{TypeTree};
 ghost use Rattle.wave_lex.specs.Errors.{error_text};
 ghost use Rattle.wave_grammar.specs.TypedReading.{IsValueOf};
 ghost use Rattle.wave_explain.specs.ValueExplained.{is_of_type, HasNoPart, IsPrefix, ReportsPart, IsPartMark, IsBlock, IsUntypedExplained, IsSyntaxExplained, IsValueExplained, heading_with_path, before_path};
+ghost use Rattle.wave_explain.specs.ValueExplained.{ExplainsSyntax, ExplainsUntyped, ExplainsFault, ExplainsValue};
 ghost use Rattle.wave_explain.specs.Private.Readings.{TellsAs};
 
 use crate::escape::syntax_mark;
@@ -53,10 +54,45 @@ pub fn explain_value<T: WasmType>(
 ) -> Result<String, AllocError>
     ensures { IfOk result (λ text. IsValueExplained source.now (T.tree ty.now) error.now (string_bytes text)) }
 {
+    let parts = value_explanation(alloc, error, source, ty)?;
+    explained(alloc, error, source, &parts)
+}
+
+/// What explains a refusal of a text, in its parts.
+#[derive(Debug, Drop)]
+pub struct Explanation {
+    /// What is marked of the text.
+    pub mark: Span,
+    /// The path to the part of the value that is wrong; empty for the whole value.
+    pub path: String,
+    /// The lines below the mark: each begins with `  = ` and ends with a line feed.
+    pub lines: String,
+}
+
+/// What `explain_value` shows of the refusal, in its parts.
+pub fn value_explanation<T: WasmType>(
+    alloc: Global,
+    error: &ParserError,
+    source: &str,
+    ty: &T,
+) -> Result<Explanation, AllocError>
+    ensures { IfOk result (λ x. ExplainsValue source.now (T.tree ty.now) error.now x.mark (string_bytes x.path) (string_bytes x.lines)) }
+{
     match untyped(alloc, error.kind(), source)? {
         Some(value) => explain_part(alloc, error, source, &value, ty),
         None => explain_alone(alloc, error, source, ty),
     }
+}
+
+/// What `explain_untyped` shows of the refusal, in its parts.
+pub fn untyped_explanation(
+    alloc: Global,
+    error: &ParserError,
+    source: &str,
+) -> Result<Explanation, AllocError>
+    ensures { IfOk result (λ x. ExplainsUntyped source.now error.now x.mark (string_bytes x.path) (string_bytes x.lines)) }
+{
+    syntax_explanation(alloc, error, source, Reading::Value, "")
 }
 
 /// The explanation by the value that begins the source, read without a type.
@@ -66,24 +102,30 @@ fn explain_part<T: WasmType>(
     source: &str,
     value: &UntypedValue<'_>,
     ty: &T,
-) -> Result<String, AllocError>
+) -> Result<Explanation, AllocError>
     requires prefix { IsPrefix source.now value.now }
     requires kind { is_of_type error.now.kind ≡ true }
-    ensures { IfOk result (λ text. IsValueExplained source.now (T.tree ty.now) error.now (string_bytes text)) }
+    ensures { IfOk result (λ x. ExplainsValue source.now (T.tree ty.now) error.now x.mark (string_bytes x.path) (string_bytes x.lines)) }
+{
+    fault_explanation(alloc, error, source, value.node(), ty)
+}
+
+/// What `explain_value` shows of a fault of the value at the type, in its parts, by the node of the value: the
+/// text isn't read again. The node was parsed from `source`, as a value.
+pub fn fault_explanation<T: WasmType>(
+    alloc: Global,
+    error: &ParserError,
+    source: &str,
+    node: &Node,
+    ty: &T,
+) -> Result<Explanation, AllocError>
+    requires { IsValueOf source.now node.now }
+    ensures { IfOk result (λ x. ExplainsFault source.now node.now (T.tree ty.now) error.now x.mark (string_bytes x.path) (string_bytes x.lines)) }
 {
     let mut path = String::new(alloc);
     let mut lines = String::new(alloc);
-    let node = value.node();
     let mark = report_part(alloc, error, source, node, ty, &mut path, &mut lines)?;
-    let message = error.to_string(alloc)?;
-    block(
-        alloc,
-        message.as_str(),
-        mark,
-        source,
-        path.as_str(),
-        lines.as_str(),
-    )
+    Ok(Explanation { mark, path, lines })
 }
 
 /// The refusal of a text that is read without a type, as by `UntypedValue::parse`: what `explain` shows,
@@ -121,16 +163,47 @@ pub(crate) fn explain_syntax(
 ) -> Result<String, AllocError>
     ensures { IfOk result (λ text. IsSyntaxExplained (TellsAs reading) source.now error.now (string_bytes text)) }
 {
+    let parts = syntax_explanation(alloc, error, source, reading, more)?;
+    explained(alloc, error, source, &parts)
+}
+
+/// The explanation of such a refusal, in its parts.
+pub(crate) fn syntax_explanation(
+    alloc: Global,
+    error: &ParserError,
+    source: &str,
+    reading: Reading,
+    more: &str,
+) -> Result<Explanation, AllocError>
+    ensures { IfOk result (λ x. ExplainsSyntax (TellsAs reading) source.now error.now x.mark (string_bytes x.path) (string_bytes x.lines)) }
+{
     let mut lines = syntax_lines(alloc, error, source, reading)?;
     lines.push_str(more)?;
+    Ok(Explanation {
+        mark: syntax_mark(error, source),
+        path: String::new(alloc),
+        lines,
+    })
+}
+
+/// The text of an explanation.
+pub(crate) fn explained(
+    alloc: Global,
+    error: &ParserError,
+    source: &str,
+    parts: &Explanation,
+) -> Result<String, AllocError>
+    ensures { IfOk result (λ text. IsBlock source.now (error_text error.now) parts.now.mark (string_bytes parts.now.path) (string_bytes parts.now.lines) (string_bytes text)) }
+{
     let message = error.to_string(alloc)?;
+    let mark = parts.mark.start..parts.mark.end;
     block(
         alloc,
         message.as_str(),
-        syntax_mark(error, source),
+        mark,
         source,
-        "",
-        lines.as_str(),
+        parts.path.as_str(),
+        parts.lines.as_str(),
     )
 }
 
@@ -140,13 +213,13 @@ fn explain_alone<T: WasmType>(
     error: &ParserError,
     source: &str,
     ty: &T,
-) -> Result<String, AllocError>
+) -> Result<Explanation, AllocError>
     requires { HasNoPart error.now.kind source.now }
-    ensures { IfOk result (λ text. IsValueExplained source.now (T.tree ty.now) error.now (string_bytes text)) }
+    ensures { IfOk result (λ x. ExplainsValue source.now (T.tree ty.now) error.now x.mark (string_bytes x.path) (string_bytes x.lines)) }
 {
     let at = part_mark(source, error.span(), None).start;
     let more = open_line(alloc, error.kind(), source, at, ty)?;
-    explain_syntax(alloc, error, source, Reading::Value, more.as_str())
+    syntax_explanation(alloc, error, source, Reading::Value, more.as_str())
 }
 
 /// The value that begins the source, read without a type, where the refusal is of a fault of type.
@@ -173,7 +246,7 @@ fn untyped(
 }
 
 /// Whether the kind is that of a fault of a value at its type.
-pub(crate) fn is_of_type(kind: ParserErrorKind) -> bool
+pub fn is_of_type(kind: ParserErrorKind) -> bool
     ensures { result ≡ is_of_type kind }
 {
     matches!(
