@@ -10,6 +10,7 @@ ghost use Rattle.wasm_wave.specs.MainTheorem.{OneValue};
 ghost use Rattle.wave_place.specs.Places.{IsExplained};
 
 pub use wave_expected::laws::{open_brackets_are_forms, unexpected_may_not_follow};
+pub use wave_faults::laws::{faults_are_told, first_is_answered, no_fault_is_a_value};
 pub use wave_lex::laws::{
     decoding_functional, faults_refuse, labels_are_words, lines_join, no_longer_label, one_cut,
     one_line_joins, parts_join, through_first_quotes, tokens_cut,

@@ -24,6 +24,7 @@ pub mod value;
 pub mod wasm;
 
 pub use wave_expected::expected;
+pub use wave_faults::faults;
 pub use wave_grammar::number::WholeNumber;
 pub use wave_lex::asked::Asked;
 pub use wave_lex::{lex, strings};

@@ -7,4 +7,6 @@ mod bare;
 #[cfg(test)]
 mod examples;
 #[cfg(test)]
+mod faulty;
+#[cfg(test)]
 mod readme;

@@ -1,0 +1,2 @@
+pub mod EachTold
+pub mod Walk

@@ -1,0 +1,12 @@
+pub mod Adding
+pub mod Forms
+pub mod Rows
+pub mod Payloads
+pub mod Cases
+pub mod Leaves
+pub mod Records
+pub mod Types
+pub mod TypeTests
+pub mod FieldRows
+pub mod Labels
+pub mod Telling

@@ -1,0 +1,4 @@
+pub mod AllFaults
+pub mod FaultsOfText
+pub mod FaultsLaws
+pub mod Private

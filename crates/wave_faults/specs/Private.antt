@@ -1,0 +1,4 @@
+pub mod Told
+pub mod LeafAnswers
+pub mod FlagFaults
+pub mod RecordFaults
