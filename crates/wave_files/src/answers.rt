@@ -35,11 +35,14 @@ pub trait Job {
     ghost use Rattle.wave_files.specs.declared.answers.FileName.{FileName};
     ghost use Rattle.wave_files.specs.declared.answers.Answer.{Answer};
 
+    // what the job has to be
+    ghost is_ready: { Self → Type 0 };
     // what is answered on this text of the file
     ghost answers: { Self → FileName → List ℕ → Answer → Type 0 };
 
     /// What is answered on this text of the file. The only error is out of memory.
     fn answer(&self, alloc: Global, name: &FileName, text: &str) -> Result<Answer, AllocError>
+        requires { is_ready self.now }
         ensures { IfOk result (answers self.now name.now text.now) };
 }
 
@@ -106,6 +109,7 @@ pub fn answer_files<F: Folder, J: Job, W: Write, E: Write>(
     output: &mut Output<W>,
     errors: &mut Output<E>,
 ) -> Tally
+    requires { J.is_ready job.now }
     ensures { AnswersFiles F.holds J.answers W.contents E.contents job.now names.now folder.old folder.new output.old output.new errors.old errors.new result }
 {
     let mut tally = Tally::new();
@@ -139,6 +143,7 @@ fn file_answer<F: Folder, J: Job>(
     job: &J,
     name: &FileName,
 ) -> Result<FileAnswer, AllocError>
+    requires { J.is_ready job.now }
     ensures answer { IfOk result (λ a. IsEntry F.holds J.answers job.now folder.old folder.new name.now (entry_of a)) }
     ensures memory { OnErr result (Keeps (F.holds folder.old) (F.holds folder.new)) }
 {

@@ -1,0 +1,4 @@
+pub mod Names
+pub mod Reports
+pub mod Checked
+pub mod Formatted
