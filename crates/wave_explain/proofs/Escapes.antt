@@ -1,9 +1,10 @@
 -- The walk through what stands behind an opening quote, to the first `\` that begins no escape.
 use Rattle.std.proofs.Common.{ℕ, ◌≡◌, ◌≢◌, ◌+◌, ◌<◌, ◌≤◌, ◌⊎◌, inl, inr, List, [], ◌∷◌, ◌++◌, Some, None, length, take, drop, refl, sym, ap, ◌∙◌, subst, arith}
-use Rattle.std.specs.Prelude.{slice_get, encode_utf8}
+use Rattle.std.specs.Prelude.{slice_get, get_or, encode_utf8}
 use Rattle.std.specs.List.{flat_map}
 use Rattle.std.specs.declared.ops.Range.{Range}
-use Rattle.std.proofs.lemmas.List.{append-nil, take-append-drop, drop-drop, length-take-le, length-append, length-drop}
+use Rattle.std.proofs.lemmas.List.{append-nil, take-append-drop, drop-drop, length-take-le, length-append, length-drop, get_or-drop}
+use Rattle.std.proofs.lemmas.Option.{slice_get-get_or}
 use Rattle.std.proofs.lemmas.Grind.{flat_map-append}
 use Rattle.std.proofs.Math.Seq.{take-add, take-append_seam}
 use Rattle.wave_lex.specs.Tokens.{backslash, single_quote, double_quote, line_feed}
@@ -31,6 +32,13 @@ take_more s e t at n is long = take-add at n s ∙ ap (λ x. take at s ++ x) (ap
 pub first_byte : (s : List ℕ) (b : ℕ) → slice_get s 0 ≡ Some b → s ≡ b ∷ drop 1 s
 first_byte [] b e = absurd (cc)
 first_byte (c ∷ s) b e = let same : c ≡ b = cc in λ i. same i ∷ s
+
+-- the byte at a place is the first one of the rest
+pub byte_at : (s : List ℕ) (at b : ℕ) → at < length s → b ≡ get_or s at b → slice_get (drop at s) 0 ≡ Some b
+byte_at s at b within is =
+    let some : 0 < length (drop at s) = omega (arith, length-drop at s, within) in
+    let same : at + 0 ≡ at = omega (arith) in
+    slice_get-get_or (drop at s) 0 b some ∙ ap Some (get_or-drop at s 0 b ∙ (ap (λ n. get_or s n b) same ∙ sym is))
 
 -- behind one more byte
 pub run_byte : (q : ℕ) (s : List ℕ) (at b : ℕ) → IsRun q (take at s) → slice_get (drop at s) 0 ≡ Some b → b ≢ q → b ≢ backslash → b ≢ line_feed → IsRun q (take (at + 1) s)

@@ -68,16 +68,16 @@ fn scalar_at(text: &str, at: usize) -> Option<char>
 
 /// Where in the text behind an opening quote the first `\` stands that begins no escape.
 #[tactic(auto, using(crate::proofs::Escapes::run_start, crate::proofs::Escapes::first_byte))]
-fn fault_at(text: &str, quote: u8) -> Option<usize>
+pub(crate) fn fault_at(text: &str, quote: u8) -> Option<usize>
     ensures run { IfSome result (λ at. IsRun quote (take at text.now)) }
     ensures escape { IfSome result (λ at. UnescapesTo (drop at text.now) None) }
     ensures backslash { IfSome result (λ at. (more : List ℕ) × (drop at text.now ≡ backslash ∷ more)) }
 {
     let mut at = 0;
     'pieces: while at < text.len() {
-        let rest = text.split_at_checked(at)?.1;
-        let byte = *rest.as_bytes().first()?;
+        let byte = *text.as_bytes().get(at)?;
         if byte == b'\\' {
+            let rest = text.split_at_checked(at)?.1;
             match unescape(rest) {
                 Some((_, count)) => at += count,
                 None => return Some(at),

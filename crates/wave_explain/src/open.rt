@@ -8,7 +8,7 @@ use wave_place::path::{
     push_first, push_item, push_key, push_name, type_alone, type_of_case, type_of_field,
 };
 use wave_tree::parser::MAX_LEVELS;
-use wave_wasm::wasm::{DisplayType, WasmFunc, WasmType};
+use wave_wasm::wasm::{DisplayType, WasmFunc, WasmType, WasmTypeKind};
 
 /// How many scalars of a type are shown.
 const TYPE_SHOWN: usize = 60;
@@ -29,7 +29,7 @@ pub(crate) fn open_line<T: WasmType>(
     let mut path = String::new(alloc);
     let brackets = expected.open_brackets.as_slice();
     let expected_type = open_part(alloc, source, brackets, 0, at, ty, &mut path)?;
-    type_line(alloc, path.as_str(), expected_type)
+    type_line(alloc, source, at, path.as_str(), expected_type)
 }
 
 /// The line that says so of a call: the path begins with the parameter.
@@ -62,7 +62,7 @@ pub(crate) fn open_line_in_call<F: WasmFunc>(
     push_parameter(&mut path, &func.param_names(alloc)?, place.commas)?;
     let ty = types[place.commas];
     let expected_type = open_part(alloc, source, inner, first.end, at, ty, &mut path)?;
-    type_line(alloc, path.as_str(), expected_type)
+    type_line(alloc, source, at, path.as_str(), expected_type)
 }
 
 /// Whether a refusal of the kind stands in a part that is open.
@@ -75,8 +75,15 @@ fn is_reported(kind: ParserErrorKind) -> bool {
     )
 }
 
-/// The line that says which type is expected at the path; none where that is empty.
-fn type_line<T: WasmType>(alloc: Global, path: &str, ty: &T) -> Result<String, AllocError> {
+/// The line that says which type is expected at the path; none where that is empty. Where a string is expected and
+/// no quote stands at the place, it says how one is written.
+fn type_line<T: WasmType>(
+    alloc: Global,
+    source: &str,
+    at: usize,
+    path: &str,
+    ty: &T,
+) -> Result<String, AllocError> {
     let mut lines = String::new(alloc);
     if !path.is_empty() {
         let text = DisplayType::new(alloc, ty).to_string(alloc)?;
@@ -84,6 +91,10 @@ fn type_line<T: WasmType>(alloc: Global, path: &str, ty: &T) -> Result<String, A
         lines.push_str(path)?;
         lines.push_str(" is ")?;
         push_first(&mut lines, text.as_str(), TYPE_SHOWN)?;
+        let begins_string = source.get(at..source.len()).unwrap_or("").starts_with('"');
+        if ty.kind() == WasmTypeKind::String && !begins_string {
+            lines.push_str(", in double quotes")?;
+        }
         lines.push_str("\n")?;
     }
     Ok(lines)
@@ -140,6 +151,9 @@ fn open_part<'a, T: WasmType>(
         None => Ok(part),
     }
 }
+
+/// What a word on one line has not in it.
+const WHOLE: &[char] = &['{', '[', '(', '}', ']', ')', '"', '\n'];
 
 /// The type of the value at the place within a part of the type, where that can be determined; the step to it is
 /// added.
@@ -240,7 +254,8 @@ struct Passed<'source> {
     word: Option<&'source str>,
     /// The last token before a colon there: the key, where a value is expected behind it or stands there.
     key: Option<&'source str>,
-    /// Whether a value is expected at the place: no token stands behind the last comma or colon.
+    /// Whether a value is expected at the place, as no token stands behind the last comma or colon, or the place is
+    /// behind the word that a key has as its value on the same line.
     is_needed: bool,
 }
 
@@ -268,6 +283,13 @@ impl<'source> Passed<'source> {
             if depth == 0 {
                 passed.note(token, lexer.slice());
             }
+        }
+        let behind_colon = source.get(from..to).unwrap_or("").rsplit_once(':');
+        if let Some((_, value)) = behind_colon
+            && passed.key.is_some()
+            && !value.contains(WHOLE)
+        {
+            passed.is_needed = true;
         }
         passed
     }

@@ -18,8 +18,6 @@ pub(crate) enum AuthorWords {
     All,
     /// What is within brackets or quotes.
     Inside,
-    /// A label within quotes.
-    Label,
     /// The names within brackets.
     Names,
     /// A name without its `%`.
@@ -38,6 +36,8 @@ pub(crate) enum AuthorWords {
     BesideUnderscores,
     /// A number in groups of three digits, without the blanks between them.
     BesideBlanks,
+    /// So, without the commas.
+    BesideCommas,
     /// A number without the zeros before it.
     BehindZeros,
     /// A number, of which this is the hexadecimal, the octal or the binary form.
@@ -58,14 +58,6 @@ pub(crate) fn words_of<'a>(
         AuthorWords::Nothing => None,
         AuthorWords::All => Some(text),
         AuthorWords::Inside => Some(inside(text)),
-        AuthorWords::Label => {
-            let label = inside(text);
-            if is_token(label, Token::LabelOrKeyword) {
-                Some(label)
-            } else {
-                None
-            }
-        }
         AuthorWords::Names => match node {
             Some(node) if are_names(node) => Some(inside(text)),
             _ => Some("name, name"),
@@ -85,6 +77,7 @@ pub(crate) fn words_of<'a>(
         AuthorWords::BeforePoint => before_point(text),
         AuthorWords::BesideUnderscores => return beside(alloc, text, '_'),
         AuthorWords::BesideBlanks => return beside(alloc, text, ' '),
+        AuthorWords::BesideCommas => return beside(alloc, text, ','),
         AuthorWords::BehindZeros => match text.trim_start_matches('0') {
             "" => Some("0"),
             digits => Some(digits),
@@ -189,12 +182,12 @@ fn before_point(text: &str) -> Option<&str> {
     }
 }
 
-/// The number without its underscores or blanks, where it is a whole number then; blanks part groups of three
-/// digits.
+/// The number without its underscores, blanks or commas, where it is a whole number then; blanks and commas
+/// part groups of three digits.
 fn beside(alloc: Global, word: &str, between: char) -> Result<Option<String>, AllocError> {
     let mut number = String::new(alloc);
     for part in word.split(between) {
-        if between == ' ' && !number.is_empty() && part.len() != 3 {
+        if between != '_' && !number.is_empty() && part.len() != 3 {
             return Ok(None);
         }
         number.push_str(part)?;

@@ -1,8 +1,8 @@
 //! How a fault of a value at its type may be mended.
-use crate::author::{inside, without_percent, word_before};
+use crate::author::{inside, is_token, without_percent, word_before};
 use crate::names::{missing_line, push_names, push_quoted};
 use crate::rows::{FORMS, LISTS, NUMBERS, PAYLOADS, SIGNED, UNSIGNED, line, row_hint};
-use crate::word::word_hint;
+use crate::word::{BESIDE_NAME, word_hint};
 use std::alloc::{AllocError, Global};
 use wave_lex::error::{ParserError, ParserErrorKind};
 use wave_lex::lex::{Lexer, Span, Token};
@@ -10,7 +10,7 @@ use wave_node::ast::{Node, NodeType};
 use wave_place::path::{type_alone, type_of_case, type_of_field};
 use wave_place::place::place_of;
 use wave_wasm::keyword::Keyword;
-use wave_wasm::wasm::{WasmType, WasmTypeKind, WasmValueError};
+use wave_wasm::wasm::{DisplayType, WasmType, WasmTypeKind, WasmValueError};
 
 /// At most two lines that say how the fault may be mended, and the name within the place that is wrong,
 /// where there is one.
@@ -30,7 +30,12 @@ pub fn hints_of<T: WasmType>(
     node: &Node,
     ty: &T,
 ) -> Result<Hints, AllocError> {
-    let mut lines = word_hint(alloc, source, &node.span())?;
+    let beside = if ty.kind() == WasmTypeKind::String {
+        BESIDE_NAME
+    } else {
+        ""
+    };
+    let mut lines = word_hint(alloc, source, &node.span(), beside)?;
     if lines.is_empty() {
         match (error.cause(), error.kind(), ty.kind()) {
             (Some(WasmValueError::UnknownCase(_)), _, _)
@@ -136,6 +141,25 @@ fn unknown_key(source: &str, node: &Node, names: &Vec<&str>) -> Option<Span> {
     None
 }
 
+/// The names that stand in quotes as keys of the record, parted by commas.
+fn quoted_keys(alloc: Global, source: &str, node: &Node) -> Result<String, AllocError> {
+    let mut keys = String::new(alloc);
+    let Ok(mut entries) = node.as_map() else {
+        return Ok(keys);
+    };
+    while let Some((key, _)) = entries.next() {
+        let text = text_at(source, &key.span());
+        let name = inside(text);
+        if text.starts_with('"') && is_token(name, Token::LabelOrKeyword) {
+            if !keys.is_empty() {
+                keys.push_str(", ")?;
+            }
+            keys.push_str(name)?;
+        }
+    }
+    Ok(keys)
+}
+
 /// Where the first label of this name stands from this byte of the source on.
 fn label_of(source: &str, start: usize, name: &str) -> Option<Span> {
     let mut lexer = Lexer::new(source.get(start..)?);
@@ -150,6 +174,9 @@ fn label_of(source: &str, start: usize, name: &str) -> Option<Span> {
 }
 
 // ---- others
+
+/// How the keys of a record are written, with their names.
+const KEYS: &str = "the name of a field is a word without quotes: @";
 
 /// What helps against a refusal without a cause.
 fn hint_at<T: WasmType>(
@@ -166,12 +193,57 @@ fn hint_at<T: WasmType>(
             row_hint(alloc, NUMBERS, text, None, expected, None)
         }
         (ParserErrorKind::InvalidType, WasmTypeKind::Record, NodeType::TupleSet) => {
-            let key = text_at(source, &error.span());
-            row_hint(alloc, FORMS, key, Some(node), expected, None)
+            let keys = quoted_keys(alloc, source, node)?;
+            let keys = if keys.is_empty() {
+                None
+            } else {
+                Some(keys.as_str())
+            };
+            line(alloc, KEYS, keys)
         }
         (ParserErrorKind::InvalidType, _, _) => form_hint(alloc, source, node, ty),
+        (ParserErrorKind::InvalidMultilineString, _, _) => multiline_hint(alloc, text),
         (kind, _, _) => line(alloc, kind_hint(kind), None),
     }
+}
+
+/// What helps with this text of a multiline string.
+fn multiline_hint(alloc: Global, text: &str) -> Result<String, AllocError> {
+    let (first, rest) = text.split_once('\n').unwrap_or(("", ""));
+    if !first.trim_end().ends_with("\"\"\"") {
+        return line(
+            alloc,
+            "the text begins on the line behind the opening \"\"\"",
+            None,
+        );
+    }
+    let last = match rest.rsplit_once('\n') {
+        Some((_, last)) => last,
+        None => rest,
+    };
+    let indent = last.trim_end_matches('"');
+    let blanks = indent.trim_start_matches(' ');
+    if blanks.contains('\t') && blanks.trim().is_empty() {
+        return line(
+            alloc,
+            "a tab stands before the closing \"\"\": write spaces there",
+            None,
+        );
+    }
+    if !blanks.is_empty() {
+        return line(
+            alloc,
+            "the closing \"\"\" stands on a line of its own",
+            None,
+        );
+    }
+    if indent.len() < 2 {
+        return line(alloc, MULTILINE, None);
+    }
+    let count = format!(in alloc; "{}", indent.len())?;
+    let hint =
+        "each line, an empty one too, begins with the @ spaces before the closing \"\"\"; tabs are no spaces";
+    line(alloc, hint, Some(count.as_str()))
 }
 
 /// What helps where the record that ends at the place lacks a field.
@@ -212,6 +284,9 @@ fn closes_more(source: &str) -> bool {
     closed > opened
 }
 
+/// How many scalars of the type are shown before the hints; beside a longer one the type of what is missing is told.
+const EXPECTED_SHOWN: usize = 60;
+
 /// What helps where the value of this text could not be made.
 fn cause_hint<T: WasmType>(
     alloc: Global,
@@ -225,11 +300,18 @@ fn cause_hint<T: WasmType>(
                 Some((ok, err)) => if name.as_str() == "ok" { ok } else { err },
                 None => type_of_case(alloc, ty, name.as_str())?,
             };
-            let expected = match payload {
-                Some(payload) => Some(payload.kind()),
-                None => None,
+            let Some(payload) = payload else {
+                return Ok(String::new(alloc));
             };
-            row_hint(alloc, PAYLOADS, text, None, expected, None)
+            let expected = Some(payload.kind());
+            let mut lines = row_hint(alloc, PAYLOADS, text, None, expected, None)?;
+            let whole = DisplayType::new(alloc, ty).to_string(alloc)?;
+            if whole.len() > EXPECTED_SHOWN {
+                let mut what = String::new(alloc);
+                push_quoted(&mut what, "the payload of ", name.as_str())?;
+                lines.push_str(missing_line(alloc, what.as_str(), payload)?.as_str())?;
+            }
+            Ok(lines)
         }
         WasmValueError::UnexpectedPayload(_) => line(
             alloc,

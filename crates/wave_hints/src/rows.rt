@@ -160,46 +160,46 @@ const WORDS: &[Form] = &[
 ];
 
 /// Names of a value that there is not.
-const NULLS: &[&str] = &["null", "NULL", "nil", "NIL", "NONE"];
-
-/// Names that are meant for a bool.
-const SWITCHES: &[&str] = &[
-    "TRUE", "YES", "ON", "yes", "on", "FALSE", "NO", "OFF", "no", "off",
-];
+const NULLS: &[&str] = &["null", "NULL", "nil", "NIL", "NONE", "undefined"];
 
 // ---- hints
 
 const NO_NULL: &str = "there is no null; where an option is expected, write none";
 
+const NO_NULL_BOOL: &str = "there is no null; a bool is true or false, and an option may be none";
+
 /// Where a value of another form is expected.
 pub(crate) const FORMS: &[Row] = rows! {
+    Text(NULLS), &[Kind::Bool], Nothing, NO_NULL_BOOL;
+    Text(NULLS), &[Kind::Record, Kind::Flags], Nothing, NO_NULL;
     Value(STRINGS), CASES, Case, "a case is written without quotes: @";
     Value(&[Form::VariantWithPayload]), CASES, Case, "a case of an enum has no payload: @";
     Value(&[Form::TupleSet]), &[Kind::Variant], Nothing, "a payload is written in parentheses behind its case: name(..)";
     Any, CASES, Nothing, "";
     Value(&[Form::EmptySet]), &[Kind::Record], Nothing, "an empty record is written {:}";
     Value(&[Form::Flags]), &[Kind::Record], Nothing, "each field has a value: {name: value}";
-    Value(STRINGS), &[Kind::Record], Nothing, "";
-    Start("\""), &[Kind::Record], Label, "the name of a field is written without quotes: @";
-    Any, &[Kind::Record], Nothing, "";
+    Any, &[Kind::Record], Nothing, "a record is written in braces: {name: value}";
     Text(&["{:}"]), &[Kind::Flags], Nothing, "empty flags are written {}";
     Value(&[Form::TupleSet]), &[Kind::Flags], Nothing, "flags are names, without values: {name, name}";
     Value(&[Form::List]), &[Kind::Flags], Names, "flags are written in braces: {@}";
     Value(&[Form::Label]), &[Kind::Flags], All, "flags are written in braces: {@}";
-    Any, &[Kind::Flags], Nothing, "";
+    Any, &[Kind::Flags], Nothing, "flags are written in braces: {name, name}";
     Text(NULLS), &[], Nothing, NO_NULL;
     Start("error("), &[], Nothing, "the error of a result is written err(..)";
-    Text(SWITCHES), &[Kind::Bool], Nothing, "a bool is written true or false";
-    Value(STRINGS), &[Kind::Bool], Bool, "a bool is written without quotes: @";
-    Value(STRINGS), SIGNED, Number, "a number is written without quotes: @";
-    Value(STRINGS), UNSIGNED, Number, "a number is written without quotes: @";
+    Value(STRINGS), &[Kind::Bool], Bool, "a bool is written true or false, without quotes: @";
+    Any, &[Kind::Bool], Nothing, "a bool is written true or false";
+    Value(STRINGS), SIGNED, Number, "a number is written in digits, without quotes: @";
+    Value(STRINGS), UNSIGNED, Number, "a number is written in digits, without quotes: @";
     Any, &[Kind::Char], Scalar, "a char is written in single quotes: '@'";
     Value(WORDS), &[Kind::String], Name, "a string is written in double quotes: \"@\"";
     Any, &[Kind::String], Nothing, "a string is written in double quotes";
+    Text(&["error", "failure", "fail"]), &[], Nothing, "where a result is expected, its error is written err(..)";
     Value(&[Form::Flags]), &[Kind::Map], Nothing, "each key has a value: {key: value}";
-    Value(&[Form::List]), &[Kind::Map], Nothing, "a map is written in braces: {key: value}";
+    Any, &[Kind::Map], Nothing, "a map is written in braces: {key: value}";
     Value(&[Form::Tuple]), LISTS, Inside, "a list is written in brackets: [@]";
+    Any, LISTS, Nothing, "a list is written in brackets: [item, item]";
     Value(&[Form::List]), &[Kind::Tuple], Inside, "a tuple is written in parentheses: (@)";
+    Any, &[Kind::Tuple], Nothing, "a tuple is written in parentheses: (item, item)";
     Any, &[Kind::Option], All, "this option is written some(@) or none";
 };
 
@@ -229,6 +229,7 @@ pub(crate) const DIGITS: &[Row] = rows! {
     Start("0O"), &[], Octal, "numbers are written in decimal, not in octal: @";
     Part(&['_']), &[], BesideUnderscores, "a number has no underscores: @";
     Part(&[' ']), &[], BesideBlanks, "a number has no spaces in it: @";
+    Part(&[',']), &[], BesideCommas, "a number has no commas in it: @";
     LeadingZero, &[], BehindZeros, "a number has no leading zero: @";
     Unit, &[], All, "a number has no unit; a string is written in double quotes: \"@\"";
     NoNumber, &[], All, "a string is written in double quotes: \"@\"";
@@ -241,6 +242,7 @@ pub(crate) const KEYWORDS: &[Row] = rows! {
     Text(&["Some"]), &[], Nothing, "keywords are in lower case: some";
     Text(&["Ok"]), &[], Nothing, "keywords are in lower case: ok";
     Text(&["Err"]), &[], Nothing, "keywords are in lower case: err";
+    Text(&["Error"]), &[], Nothing, "names are in kebab-case: error; the error of a result is written err(..)";
     Text(&["True"]), &[], Nothing, "keywords are in lower case: true";
     Text(&["False"]), &[], Nothing, "keywords are in lower case: false";
 };
@@ -253,6 +255,7 @@ const TOKENS: &[Row] = rows! {
     First(&['‘', '’', '“', '”', '„', '«', '»', '`']), &[], Nothing, "write straight quotes: \"text\", 'c'";
     Start("+"), &[], Nothing, "a number has no plus sign, and sums are not worked out";
     Start("="), &[], Nothing, "a colon stands between a name and its value: {name: value}";
+    Text(&[";", ";\n"]), &[], Nothing, "no ; stands behind a value";
     Start(";"), &[], Nothing, "values are separated by commas, and a comment begins with //";
     Start("#"), &[], Nothing, "a comment begins with //";
     Start("--"), &[], Nothing, "a comment begins with //";
@@ -260,7 +263,11 @@ const TOKENS: &[Row] = rows! {
     Start("/"), &[], Nothing, "a string is written in double quotes, and a comment begins with //";
     Start("|"), &[], Nothing, "flags are written in braces, with commas between them: {name, name}";
     Start("%"), &[], Nothing, "a number has no percent sign; % stands only right before a name";
-    Start("."), &[], Nothing, "a number has a digit before its point; a string is written in double quotes";
+    Start("."), &[], Nothing, "a number has digits on both sides of its point; a string is written in double quotes";
+    Start("-"), &[], Nothing, "a - stands right before the digits of a number, or between the letters of a name";
+    Start("*"), &[], Nothing, "products are not worked out; a string is written in double quotes";
+    First(&['\u{2010}', '\u{2011}', '\u{2012}', '\u{2013}', '\u{2014}', '\u{2212}']), &[], Nothing, "this is no hyphen of ASCII: write -";
+    First(&['@', '$', '~', '<', '>', '&', '!', '?', '^', '\\']), &[], Nothing, "a string is written in double quotes";
     Start("\u{feff}"), &[], Nothing, "this is a byte order mark, U+FEFF, which can't be seen";
     Start("\u{200b}"), &[], Nothing, "this is a zero-width space, U+200B, which can't be seen";
     Start("\u{200c}"), &[], Nothing, "this is a zero-width non-joiner, U+200C, which can't be seen";

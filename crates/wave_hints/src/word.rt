@@ -2,34 +2,61 @@
 ghost use Rattle.std.specs.Prelude.{ℕ, ◌≡◌, ◌≤◌, ◌<◌, ◌-◌, length, IfSome, IsTrue, ◌↔◌, slice_index};
 ghost use Rattle.wave_hints.specs.WordMarks.{IsOfWord, IsWordMark, IsName};
 
-use crate::author::{DECIMALS, is_number};
+use crate::author::{DECIMALS, is_number, push_author_words};
 use crate::rows::{DIGITS, KEYWORDS, line, row_for, row_hint};
 use std::alloc::{AllocError, Global};
 use wave_lex::lex::Span;
 
-/// What helps with the word that holds the span; no line where the word isn't wrong.
-pub fn word_hint(alloc: Global, source: &str, span: &Span) -> Result<String, AllocError> {
+/// Before which of these an unquoted text of several words ends.
+const TEXT_ENDS: &[char] = &['\r', '\n', ',', ')', ']', '}'];
+
+/// What tells that words are no text.
+const NOT_IN_TEXT: &[char] = &[':', '(', '[', '{', '"', '\'', '\\', '@'];
+
+/// What is said beside a name in kebab-case where a string may be meant.
+pub const BESIDE_NAME: &str = "; a string is written in double quotes: \"@\"";
+
+/// What helps with the word that holds the span; no line where the word isn't wrong. Beside a name in kebab-case
+/// this is said, with the text that begins with the word where `@` stands, but not of a word before a colon or a
+/// payload.
+pub fn word_hint(
+    alloc: Global,
+    source: &str,
+    span: &Span,
+    beside: &str,
+) -> Result<String, AllocError> {
     let Some(place) = wrong_word(source, span) else {
         return Ok(String::new(alloc));
     };
     let word = source.get(place.start..place.end).unwrap_or("");
     if word.starts_with(DECIMALS) {
-        return row_hint(
-            alloc,
-            DIGITS,
-            text_around(source, place.start),
-            None,
-            None,
-            None,
-        );
+        let text = text_around(source, place.start);
+        return row_hint(alloc, DIGITS, text, None, None, None);
     }
     let hint = row_hint(alloc, KEYWORDS, word, None, None, None)?;
     let name = kebab(alloc, word)?;
     let name = name.as_str().trim_end_matches('-');
-    if hint.is_empty() && !name.is_empty() {
-        return line(alloc, "names are in kebab-case: @", Some(name));
+    if !hint.is_empty() || name.is_empty() || name.starts_with(DECIMALS) {
+        return Ok(hint);
     }
-    Ok(hint)
+    let mut hint = String::from_str(alloc, "names are in kebab-case: ")?;
+    push_author_words(&mut hint, name)?;
+    let behind = source.get(place.end..source.len()).unwrap_or("");
+    if !behind.trim_start().starts_with(BEHIND_NAME) {
+        hint.push_str(beside)?;
+    }
+    let rest = source.get(place.start..source.len()).unwrap_or("");
+    let text = rest
+        .split_once(TEXT_ENDS)
+        .unwrap_or((rest, ""))
+        .0
+        .trim_end();
+    let shown = if text.contains(NOT_IN_TEXT) {
+        word
+    } else {
+        text
+    };
+    line(alloc, hint.as_str(), Some(shown))
 }
 
 /// Before which of these an unquoted text ends.
@@ -42,8 +69,17 @@ const BEGINNINGS: &[char] = &[
     ' ', '\t', '\r', '\n', ',', ')', ']', '}', '(', '[', '{', '"', '\'', ':',
 ];
 
+/// What stands behind a name that can be no string.
+const BEHIND_NAME: &[char] = &[':', '('];
+
 /// The digits of a number and the blanks between groups of them.
-const GROUPS: &[char] = &['0', '1', '2', '3', '4', '5', '6', '7', '8', '9', ' '];
+const BLANK_GROUPS: &[char] = &['0', '1', '2', '3', '4', '5', '6', '7', '8', '9', ' '];
+
+/// So, with commas between them.
+const COMMA_GROUPS: &[char] = &['0', '1', '2', '3', '4', '5', '6', '7', '8', '9', ','];
+
+/// What stands between groups of digits.
+const BETWEEN_GROUPS: &[char] = &[' ', ','];
 
 /// What the word at the place, which begins with a digit, is of: a number in groups of three digits, or a text
 /// without quotes.
@@ -51,20 +87,23 @@ fn text_around(source: &str, at: usize) -> &str {
     let before = source.get(0..at).unwrap_or("");
     let after = source.get(at..source.len()).unwrap_or("");
     let head = after.split_once(ENDS).unwrap_or((after, "")).0;
-    let number = before.trim_end_matches(' ');
+    let (between, groups) = if before.ends_with(',') {
+        (',', COMMA_GROUPS)
+    } else {
+        (' ', BLANK_GROUPS)
+    };
+    let number = before.trim_end_matches(between);
     if number.len() < before.len()
         && number.ends_with(DECIMALS)
         && head.len() == 3
         && is_number(head)
     {
-        let start = number
-            .trim_end_matches(DECIMALS)
-            .trim_end_matches('-')
-            .len();
+        let start = number.trim_end_matches(groups).trim_end_matches('-').len();
         let end = source
             .len()
-            .saturating_sub(after.trim_start_matches(GROUPS).len());
-        return source.get(start..end).unwrap_or("").trim_end_matches(' ');
+            .saturating_sub(after.trim_start_matches(groups).len());
+        let text = source.get(start..end).unwrap_or("");
+        return text.trim_matches(BETWEEN_GROUPS);
     }
     let start = match before.rsplit_once(BEGINNINGS) {
         Some((_, tail)) => before.len().saturating_sub(tail.len()),

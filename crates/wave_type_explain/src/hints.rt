@@ -25,7 +25,7 @@ pub(crate) fn hints(
     if !hint.is_empty() {
         return Ok(hint);
     }
-    let hint = word_hint(alloc, text, mark)?;
+    let hint = word_hint(alloc, text, mark, "")?;
     if !hint.is_empty() {
         return Ok(hint);
     }

@@ -137,6 +137,9 @@ const WORD: &[char] = &[
 
 const DIGITS: &[char] = &['0', '1', '2', '3', '4', '5', '6', '7', '8', '9', '-'];
 
+/// What stands in values, in names or in other languages, but in no type.
+const SIGNS: &[char] = &['.', '@', '$', '~', '!', '^', '\\', '+', '&', '*'];
+
 const QUOTES: &[char] = &['"', '\''];
 
 /// Where a type may stand.
@@ -229,6 +232,7 @@ pub(crate) const MARKS: &[Row] = rows! {
     First(&[';', '|']), &[Comma], Nothing, "the parts are separated by commas";
     First(&['(', ':']), &[Comma], Nothing, "only a case of a variant has a payload: variant {name(T)}";
     AnyWord, &[Comma], Nothing, "a comma is missing before this";
+    First(SIGNS), &[], Nothing, "this sign stands in no type";
 };
 
 /// What is met behind a whole text.

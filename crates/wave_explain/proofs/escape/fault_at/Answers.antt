@@ -1,8 +1,8 @@
-use Rattle.std.proofs.Common.{Some, None, arith, subst, sym, ap, ◌∙◌}
-use Rattle.std.specs.Prelude.{slice_get}
+use Rattle.std.proofs.Common.{Some, None, arith, subst, ap, ◌∙◌}
+use Rattle.std.specs.Prelude.{get_or}
 use Rattle.std.proofs.lemmas.List.{length-drop}
 use Rattle.wave_lex.specs.Strings.{UnescapesTo}
-use Rattle.wave_explain.proofs.Escapes.{run_byte, run_escape, escape_within}
+use Rattle.wave_explain.proofs.Escapes.{byte_at, run_byte, run_escape, escape_within}
 use Rattle.wave_explain.proofs.escape.fault_at.Goals as goal
 
 pub pieces-preserved-in-Some : goal.pieces-preserved-in-Some
@@ -17,5 +17,7 @@ returns-in-None-clause-escape c = subst (λ s. UnescapesTo s None) c.in_ok-rest.
 pub pieces-preserved : goal.pieces-preserved
 pieces-preserved c =
     let text = c.args.text.now in
-    let first = sym (c.in_ok-byte.ensures.value ∙ ap (λ s. slice_get s 0) (c.as_bytes.ensures.value ∙ c.in_ok-rest.ensures.back)) in
-    (omega (arith, c.pieces-test.true), run_byte c.args.quote text c.pieces.at c.in_ok-byte.field-0.now c.pieces.invariant.1 first c.if-byte-quote.false c.if-byte-eq92.false c.if-byte-eq10.false)
+    let byte = c.in_ok-byte.field-0.now in
+    let is = c.in_ok-byte.ensures.lookup.1 ∙ ap (λ s. get_or s c.pieces.at byte) c.as_bytes.ensures.value in
+    let first = byte_at text c.pieces.at byte (omega (arith, c.pieces-test.true)) is in
+    (omega (arith, c.pieces-test.true), run_byte c.args.quote text c.pieces.at byte c.pieces.invariant.1 first c.if-byte-quote.false c.if-byte-eq92.false c.if-byte-eq10.false)
