@@ -1,8 +1,8 @@
 -- The constants are the help and the pages; and which arguments ask for none.
 use Rattle.std.proofs.Common.{ℕ, ◌≡◌, ◌≢◌, ◌⊎◌, List, [], ◌∷◌, ◌++◌, Option, Some, None, MatchOption, map, length, drop, get_or, refl, inl, inr, sym, ap, subst, arith, codes}
-use Rattle.wave.specs.declared.help.TheConstants.{HELP, VALUE_PAGE, CALL_PAGE, READ_PAGE, COMPLETIONS_PAGE}
+use Rattle.wave.specs.declared.help.TheConstants.{HELP, VALUE_PAGE, CALL_PAGE, READ_PAGE, FORMAT_PAGE, CHECK_PAGE, COMPLETIONS_PAGE}
 use Rattle.wave.specs.Completions.{IsScript, HasNoScript}
-use Rattle.wave.specs.Help.{forms, sample_row, reader_parts, IsHelp, IsValuePage, IsCallPage, IsReadPage, IsCompletionsPage, IsPage, HasNoPage, IsNotice, IsNoNotice}
+use Rattle.wave.specs.Help.{forms, sample_row, ended_parts, reader_parts, IsHelp, IsValuePage, IsCallPage, IsReadPage, IsFormatPage, IsCheckPage, IsCompletionsPage, IsPage, HasNoPage, IsNotice, IsNoNotice}
 use Rattle.wave.specs.Types.{samples}
 use Rattle.wave.proofs.Within.{all_within}
 
@@ -11,33 +11,52 @@ help_is = record {
   is_constant = refl;
   rest = drop 89 HELP.now;
   begins = refl;
-  has_forms = all_within HELP.now (λ part. part) forms (refl, (refl, (refl, (refl, (refl, (refl, (refl, (refl, (refl, (refl, (refl, (refl, tt))))))))))));
+  has_forms = all_within HELP.now (λ part. part) forms (refl, (refl, (refl, (refl, (refl, (refl, (refl, (refl, (refl, (refl, (refl, (refl, (refl, (refl, (refl, (refl, tt))))))))))))))));
   has_samples = all_within HELP.now sample_row samples (refl, (refl, (refl, (refl, (refl, (refl, (refl, tt)))))));
 }
 
 pub value_page_is : IsValuePage VALUE_PAGE.now
 value_page_is = record {
   is_constant = refl;
-  rest = drop 42 VALUE_PAGE.now;
+  rest = drop 62 VALUE_PAGE.now;
   begins = refl;
-  has_parts = all_within VALUE_PAGE.now (λ part. part) (codes "\nN " ∷ reader_parts) (refl, (refl, (refl, (refl, (refl, (refl, (refl, (refl, tt))))))));
+  has_parts = all_within VALUE_PAGE.now (λ part. part) (codes "\nN " ∷ reader_parts) (refl, (refl, (refl, (refl, (refl, (refl, (refl, (refl, (refl, (refl, tt))))))))));
 }
 
 pub call_page_is : IsCallPage CALL_PAGE.now
 call_page_is = record {
   is_constant = refl;
-  rest = drop 44 CALL_PAGE.now;
+  rest = drop 64 CALL_PAGE.now;
   begins = refl;
-  has_parts = all_within CALL_PAGE.now (λ part. part) (codes "\nFUNC " ∷ reader_parts) (refl, (refl, (refl, (refl, (refl, (refl, (refl, (refl, tt))))))));
+  has_parts = all_within CALL_PAGE.now (λ part. part) (codes "\nFUNC " ∷ codes "\n--type " ∷ reader_parts) (refl, (refl, (refl, (refl, (refl, (refl, (refl, (refl, (refl, (refl, (refl, tt)))))))))));
 }
 
 pub read_page_is : IsReadPage READ_PAGE.now
 read_page_is = record {
   is_constant = refl;
-  rest = drop 46 READ_PAGE.now;
+  rest = drop 66 READ_PAGE.now;
   begins = refl;
-  has_parts = all_within READ_PAGE.now (λ part. part) (codes "\nNAME " ∷ codes "\nN " ∷ (map sample_row samples ++ reader_parts))
-      (refl, (refl, (refl, (refl, (refl, (refl, (refl, (refl, (refl, (refl, (refl, (refl, (refl, (refl, (refl, (refl, tt))))))))))))))));
+  has_parts = all_within READ_PAGE.now (λ part. part) (codes "\nNAME " ∷ codes "\nN " ∷ codes "\n--type " ∷ (map sample_row samples ++ reader_parts))
+      (refl, (refl, (refl, (refl, (refl, (refl, (refl, (refl, (refl, (refl, (refl, (refl, (refl, (refl, (refl, (refl, (refl, (refl, (refl, tt)))))))))))))))))));
+}
+
+pub format_page_is : IsFormatPage FORMAT_PAGE.now
+format_page_is = record {
+  is_constant = refl;
+  rest = drop 73 FORMAT_PAGE.now;
+  begins = refl;
+  has_parts = all_within FORMAT_PAGE.now (λ part. part)
+      (codes "\nFILE " ∷ codes "\n--check " ∷ codes "\n--write " ∷ codes "\n--width " ∷ codes "\n--indent " ∷ ended_parts)
+      (refl, (refl, (refl, (refl, (refl, (refl, (refl, (refl, (refl, (refl, tt))))))))));
+}
+
+pub check_page_is : IsCheckPage CHECK_PAGE.now
+check_page_is = record {
+  is_constant = refl;
+  rest = drop 48 CHECK_PAGE.now;
+  begins = refl;
+  has_parts = all_within CHECK_PAGE.now (λ part. part) (codes "\nNAME " ∷ codes "\nFILE " ∷ codes "\n--type " ∷ codes "\n--format " ∷ ended_parts)
+      (refl, (refl, (refl, (refl, (refl, (refl, (refl, (refl, (refl, tt)))))))));
 }
 
 pub completions_page_is : IsCompletionsPage COMPLETIONS_PAGE.now
@@ -79,29 +98,30 @@ no_option : (a b : List ℕ) → (b ≢ codes "--help") → (b ≢ codes "-h") �
 no_option a b long short (inl is) = absurd (long is)
 no_option a b long short (inr is) = absurd (short is)
 
--- an option is no command and no shell
-option_has_no_page : (b : List ℕ) → (b ≡ codes "--help") ⊎ (b ≡ codes "-h") → HasNoPage b
-option_has_no_page b option said page = of_length (length_of option) page where
-  length_of : (b ≡ codes "--help") ⊎ (b ≡ codes "-h") → (length b ≡ 6) ⊎ (length b ≡ 2)
-  length_of (inl is) = inl (ap length is)
-  length_of (inr is) = inr (ap length is)
+-- an option begins with a hyphen, as no command and no shell does
+begins_with : (b word : List ℕ) → b ≡ word → get_or b 0 0 ≡ get_or word 0 0
+begins_with b word is = ap (λ w. get_or w 0 0) is
 
-  of_length : (length b ≡ 6) ⊎ (length b ≡ 2) → IsPage b said → ⊥
-  of_length fits (inl (is, page)) = absurd (omega (arith, fits, ap length is))
-  of_length fits (inr (inl (is, page))) = absurd (omega (arith, fits, ap length is))
-  of_length fits (inr (inr (inl (is, page)))) = absurd (omega (arith, fits, ap length is))
-  of_length fits (inr (inr (inr (is, page)))) = absurd (omega (arith, fits, ap length is))
+hyphen : (b : List ℕ) → (b ≡ codes "--help") ⊎ (b ≡ codes "-h") → get_or b 0 0 ≡ 45
+hyphen b (inl is) = begins_with b _ is
+hyphen b (inr is) = begins_with b _ is
+
+option_has_no_page : (b : List ℕ) → (b ≡ codes "--help") ⊎ (b ≡ codes "-h") → HasNoPage b
+option_has_no_page b option said page = of_first (hyphen b option) page where
+  of_first : get_or b 0 0 ≡ 45 → IsPage b said → ⊥
+  of_first first (inl (is, page)) = absurd (omega (arith, first, begins_with b _ is))
+  of_first first (inr (inl (is, page))) = absurd (omega (arith, first, begins_with b _ is))
+  of_first first (inr (inr (inl (is, page)))) = absurd (omega (arith, first, begins_with b _ is))
+  of_first first (inr (inr (inr (inl (is, page))))) = absurd (omega (arith, first, begins_with b _ is))
+  of_first first (inr (inr (inr (inr (inl (is, page)))))) = absurd (omega (arith, first, begins_with b _ is))
+  of_first first (inr (inr (inr (inr (inr (is, page)))))) = absurd (omega (arith, first, begins_with b _ is))
 
 option_has_no_script : (b : List ℕ) → (b ≡ codes "--help") ⊎ (b ≡ codes "-h") → HasNoScript b
-option_has_no_script b option said script = of_length (length_of option) script where
-  length_of : (b ≡ codes "--help") ⊎ (b ≡ codes "-h") → (length b ≡ 6) ⊎ (length b ≡ 2)
-  length_of (inl is) = inl (ap length is)
-  length_of (inr is) = inr (ap length is)
-
-  of_length : (length b ≡ 6) ⊎ (length b ≡ 2) → IsScript b said → ⊥
-  of_length fits (inl (is, script)) = absurd (omega (arith, fits, ap length is))
-  of_length fits (inr (inl (is, script))) = absurd (omega (arith, fits, ap length is))
-  of_length fits (inr (inr (is, script))) = absurd (omega (arith, fits, ap length is))
+option_has_no_script b option said script = of_first (hyphen b option) script where
+  of_first : get_or b 0 0 ≡ 45 → IsScript b said → ⊥
+  of_first first (inl (is, script)) = absurd (omega (arith, first, begins_with b _ is))
+  of_first first (inr (inl (is, script))) = absurd (omega (arith, first, begins_with b _ is))
+  of_first first (inr (inr (is, script))) = absurd (omega (arith, first, begins_with b _ is))
 
 -- the two commands that take a word
 not_both : (a : List ℕ) → a ≡ codes "help" → a ≡ codes "completions" → ⊥

@@ -14,3 +14,4 @@ pub mod Nearest
 pub mod Within
 pub mod Scripts
 pub mod HelpText
+pub mod FileWords

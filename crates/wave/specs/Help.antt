@@ -2,7 +2,7 @@
 use Rattle.std.specs.Prelude.{ℕ, ◌-◌, List, [], ◌∷◌, ◌++◌, ◌≡◌, ◌⊎◌, length, map, replicate, codes}
 use Rattle.std.specs.Str.Iter.{HasSubslice}
 use Rattle.wave_wasm.specs.Lists.{AllOf}
-use Rattle.wave.specs.declared.help.TheConstants.{HELP, VALUE_PAGE, CALL_PAGE, READ_PAGE, COMPLETIONS_PAGE, VERSION}
+use Rattle.wave.specs.declared.help.TheConstants.{HELP, VALUE_PAGE, CALL_PAGE, READ_PAGE, FORMAT_PAGE, CHECK_PAGE, COMPLETIONS_PAGE, VERSION}
 use Rattle.wave.specs.Completions.{IsScript}
 use Rattle.wave.specs.Lines.{line}
 use Rattle.wave.specs.Types.{samples}
@@ -26,8 +26,8 @@ AskForVersion words = (words ≡ codes "--version" ∷ []) ⊎ (words ≡ codes 
 abbrev pub forms : List (List ℕ)
 forms =
     codes "\n  wave value [N] " ∷ codes "\n  wave call " ∷ codes "\n  wave call FUNC " ∷ codes "\n  wave read NAME [N] "
-    ∷ codes "\n  wave help COMMAND " ∷ codes "\n  wave completions SHELL " ∷ codes "\n  wave --help " ∷ codes "`wave help`" ∷ codes "`wave -h`"
-    ∷ codes "\n  wave --version " ∷ codes "\n--lines " ∷ codes "\n--quiet "
+    ∷ codes "\n  wave format [FILE..] " ∷ codes "\n  wave check NAME FILE.. " ∷ codes "\n  wave help COMMAND " ∷ codes "\n  wave completions SHELL " ∷ codes "\n  wave --help " ∷ codes "`wave help`" ∷ codes "`wave -h`"
+    ∷ codes "\n  wave --version " ∷ codes "\n--lines " ∷ codes "\n--pretty " ∷ codes "\n--quiet " ∷ codes "\n--type "
     ∷ []
 
 -- what is said of a sample: a line with its name and, from column 14 on, its type
@@ -42,11 +42,13 @@ pub record IsHelp (said : List ℕ) : Type 0 where
   pub has_forms : AllOf (HasSubslice said) forms
   pub has_samples : AllOf (λ sample. HasSubslice said (sample_row sample)) samples
 
--- what the page of a command that reads has of its options and statuses, and its examples
+-- what a page has of the statuses, and its examples
+abbrev pub ended_parts : List (List ℕ)
+ended_parts = codes "\nstatus 0 " ∷ codes "\nstatus 1 " ∷ codes "\nstatus 2 " ∷ codes "\nstatus 3 " ∷ codes "\nexamples:\n" ∷ []
+
+-- what the page of a command that reads one value has of its options too
 abbrev pub reader_parts : List (List ℕ)
-reader_parts =
-    codes "\n--lines " ∷ codes "\n--quiet " ∷ codes "\nstatus 0 " ∷ codes "\nstatus 1 " ∷ codes "\nstatus 2 " ∷ codes "\nstatus 3 "
-    ∷ codes "\nexamples:\n" ∷ []
+reader_parts = codes "\nFILE " ∷ codes "\n--lines " ∷ codes "\n--pretty " ∷ codes "\n--quiet " ∷ ended_parts
 
 -- the text is this page: a line with the usage of the command, and all of these parts within it
 pub record IsPageOf (page usage : List ℕ) (parts : List (List ℕ)) (said : List ℕ) : Type 0 where
@@ -56,13 +58,21 @@ pub record IsPageOf (page usage : List ℕ) (parts : List (List ℕ)) (said : Li
   pub has_parts : AllOf (HasSubslice said) parts
 
 abbrev pub IsValuePage : List ℕ → Type 0
-IsValuePage = IsPageOf VALUE_PAGE.now (codes "value [N] [--lines] [--quiet]") (codes "\nN " ∷ reader_parts)
+IsValuePage = IsPageOf VALUE_PAGE.now (codes "value [N] [FILE..] [--lines] [--pretty] [--quiet]") (codes "\nN " ∷ reader_parts)
 
 abbrev pub IsCallPage : List ℕ → Type 0
-IsCallPage = IsPageOf CALL_PAGE.now (codes "call [FUNC] [--lines] [--quiet]") (codes "\nFUNC " ∷ reader_parts)
+IsCallPage = IsPageOf CALL_PAGE.now (codes "call [FUNC] [FILE..] [--lines] [--pretty] [--quiet]") (codes "\nFUNC " ∷ codes "\n--type " ∷ reader_parts)
 
 abbrev pub IsReadPage : List ℕ → Type 0
-IsReadPage = IsPageOf READ_PAGE.now (codes "read NAME [N] [--lines] [--quiet]") (codes "\nNAME " ∷ codes "\nN " ∷ (map sample_row samples ++ reader_parts))
+IsReadPage = IsPageOf READ_PAGE.now (codes "read NAME [N] [FILE..] [--lines] [--pretty] [--quiet]") (codes "\nNAME " ∷ codes "\nN " ∷ codes "\n--type " ∷ (map sample_row samples ++ reader_parts))
+
+abbrev pub IsFormatPage : List ℕ → Type 0
+IsFormatPage = IsPageOf FORMAT_PAGE.now (codes "format [FILE..] [--check | --write] [--width N] [--indent N]")
+    (codes "\nFILE " ∷ codes "\n--check " ∷ codes "\n--write " ∷ codes "\n--width " ∷ codes "\n--indent " ∷ ended_parts)
+
+abbrev pub IsCheckPage : List ℕ → Type 0
+IsCheckPage = IsPageOf CHECK_PAGE.now (codes "check NAME FILE.. [--format FORMAT]")
+    (codes "\nNAME " ∷ codes "\nFILE " ∷ codes "\n--type " ∷ codes "\n--format " ∷ ended_parts)
 
 abbrev pub IsCompletionsPage : List ℕ → Type 0
 IsCompletionsPage = IsPageOf COMPLETIONS_PAGE.now (codes "completions SHELL") (codes "\nbash " ∷ codes "\nzsh " ∷ codes "\nfish " ∷ [])
@@ -73,6 +83,8 @@ IsPage command said =
     (command ≡ codes "value") × IsValuePage said
     ⊎ (command ≡ codes "call") × IsCallPage said
     ⊎ (command ≡ codes "read") × IsReadPage said
+    ⊎ (command ≡ codes "format") × IsFormatPage said
+    ⊎ (command ≡ codes "check") × IsCheckPage said
     ⊎ (command ≡ codes "completions") × IsCompletionsPage said
 
 -- the word has no page

@@ -177,6 +177,8 @@ fn nearest_page(alloc: Global, word: &str) -> Result<(&'static str, usize), Allo
     let least = edits(alloc, word, "value")?;
     let (near, least) = nearer(alloc, word, "value", least, "call")?;
     let (near, least) = nearer(alloc, word, near, least, "read")?;
+    let (near, least) = nearer(alloc, word, near, least, "format")?;
+    let (near, least) = nearer(alloc, word, near, least, "check")?;
     nearer(alloc, word, near, least, "completions")
 }
 
@@ -221,7 +223,7 @@ fn edits(alloc: Global, word: &str, other: &str) -> Result<usize, AllocError>
 }
 
 /// A line with the word in quotes, between these texts.
-fn quoting(alloc: Global, before: &str, word: &str, behind: &str) -> Result<String, AllocError>
+pub fn quoting(alloc: Global, before: &str, word: &str, behind: &str) -> Result<String, AllocError>
     ensures { IfOk result (λ said. (quoted : List ℕ) × IsQuoted word.now quoted
         × (string_bytes said ≡ before.now ++ (quoted ++ line behind.now))) }
 {
@@ -230,7 +232,7 @@ fn quoting(alloc: Global, before: &str, word: &str, behind: &str) -> Result<Stri
 }
 
 /// Why the word names no type, or none that has a value.
-fn bad_type(alloc: Global, word: &str) -> Result<String, AllocError>
+pub fn bad_type(alloc: Global, word: &str) -> Result<String, AllocError>
     requires { (T : TypeTree) → NamesType word.now T → ⊥ }
     ensures { IfOk result (λ why. IsBadType word.now (string_bytes why)) }
 {

@@ -29,7 +29,7 @@ use wasm_wave::parser::{ParserError, ParserErrorKind};
 use wave_files::options::take_option;
 use wave_files::output::{Output, print, write_whole};
 
-const USAGE: &str = "usage: wave value [N] | wave call | wave read NAME [N]\n";
+pub const USAGE: &str = "usage: wave value [N] | wave call | wave read NAME [N]\n";
 
 /// How a run ended.
 #[derive(Clone, Copy, Debug)]

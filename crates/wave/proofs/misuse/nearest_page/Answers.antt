@@ -6,4 +6,6 @@ pub returns : goal.returns
 returns c =
     let of_two = c.in_ok-near.ensures.first (codes "value" ∷ []) (nearest_alone _ _) in
     let of_three = c.in_ok-near-2.ensures.first _ of_two in
-    nearest_of _ _ c.nearer-3.result _ _ _ _ of_three c.nearer-3.ensures.first c.nearer-3.ensures.counted
+    let of_four = c.in_ok-near-3.ensures.first _ of_three in
+    let of_five = c.in_ok-near-4.ensures.first _ of_four in
+    nearest_of _ _ c.nearer-5.result _ _ _ _ of_five c.nearer-5.ensures.first c.nearer-5.ensures.counted
