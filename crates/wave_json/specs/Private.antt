@@ -1,0 +1,3 @@
+pub mod Readers
+pub mod Stops
+pub mod Writers
